@@ -1,0 +1,17 @@
+//! The words that every crate of the platform shares: texts and lists that contracts see as their bytes and their
+//! items, and the words of a component's references.
+#![tactic(auto)]
+
+mod copies;
+mod list;
+mod memory;
+mod reference_words;
+#[cfg(test)]
+mod tests;
+mod text;
+
+pub use copies::Copies;
+pub use list::List;
+pub use memory::OutOfMemory;
+pub use reference_words::{Cardinality, Policy, PolicyOption};
+pub use text::Str;
