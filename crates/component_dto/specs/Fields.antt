@@ -1,8 +1,8 @@
 -- The fields of a JSON object. Our own words.
 use Rattle.std.specs.Prelude.{ℕ, ◌&&◌, ◌||◌, List, [], ◌∷◌, Bool, true, false, Option, Some, None, option_and_then, option_map}
 use Rattle.serde_json.specs.Data.{Data, null, boolean, number, string, array, object, Items, no_items, item, Members, no_members, member}
-use Rattle.serde_json.specs.Find.{get, as_str, as_object}
-use Rattle.std.specs.Option.{option_map_or}
+use Rattle.serde_json.specs.Find.{get, as_null, as_str, as_object}
+use Rattle.std.specs.Option.{is_some, option_map_or}
 use Rattle.component_dto.specs.TextLists.{has_text}
 
 -- a missing value and null are the same
@@ -13,14 +13,6 @@ not_null (number n) = Some (number n)
 not_null (string s) = Some (string s)
 not_null (array ds) = Some (array ds)
 not_null (object ms) = Some (object ms)
-
-abbrev pub is_null : Data → Bool
-is_null null = true
-is_null (boolean b) = false
-is_null (number n) = false
-is_null (string s) = false
-is_null (array ds) = false
-is_null (object ms) = false
 
 -- the value of a field, where it is there and isn't null
 abbrev pub given : List ℕ → Data → Option Data
@@ -43,7 +35,7 @@ text_or default (Some d) = as_str d
 -- each member has one of these names, or is null
 abbrev pub has_only_members : List (List ℕ) → Members → Bool
 has_only_members fields no_members = true
-has_only_members fields (member name d ms) = (has_text fields name || is_null d) && has_only_members fields ms
+has_only_members fields (member name d ms) = (has_text fields name || is_some (as_null d)) && has_only_members fields ms
 
 -- an object without other fields than these; a field that is null counts as missing
 abbrev pub has_only : List (List ℕ) → Data → Bool

@@ -1,8 +1,9 @@
 //! The fields of a JSON object.
 ghost use Rattle.std.specs.Prelude.{◌≡◌, ◌&&◌, ◌||◌, map, option_map, string_bytes};
 ghost use Rattle.std.specs.List.{list_all, list_any};
+ghost use Rattle.std.specs.Option.{is_some};
 ghost use Rattle.std.specs.Str.{bytes_eq};
-ghost use Rattle.serde_json.specs.Find.{get};
+ghost use Rattle.serde_json.specs.Find.{as_null, get};
 ghost use Rattle.serde_json.specs.View.{view, members_view};
 ghost use Rattle.component_dto.specs.Faults.{Reads};
 ghost use Rattle.component_dto.specs.Fields.{given, has_only, has_only_members, needed_text, text_or};
@@ -69,6 +70,12 @@ pub fn has_only(json: &Value, fields: &[&str]) -> bool
 fn has_only_members(members: &Map<String, Value>, fields: &[&str]) -> bool
     ensures { result ≡ has_only_members (map (λ f. f.now) fields.now) (members_view members.now.entries) }
 {
+    are_fields(members, fields)
+}
+
+fn are_fields(members: &Map<String, Value>, fields: &[&str]) -> bool
+    ensures { result ≡ list_all (λ e. has_text (map (λ f. f.now) fields.now) (string_bytes e.0) || is_some (as_null (view e.1))) members.now.entries }
+{
     members
         .iter()
         .all(|(name, value)| is_field(name, fields) || value.is_null())
@@ -77,5 +84,11 @@ fn has_only_members(members: &Map<String, Value>, fields: &[&str]) -> bool
 fn is_field(name: &String, fields: &[&str]) -> bool
     ensures { result ≡ has_text (map (λ f. f.now) fields.now) (string_bytes name.now) }
 {
-    fields.iter().any(|field| *field == name.as_str())
+    is_among(name.as_str(), fields)
+}
+
+fn is_among(name: &str, fields: &[&str]) -> bool
+    ensures { result ≡ list_any (λ f. bytes_eq f.now name.now) fields.now }
+{
+    fields.iter().any(|field| *field == name)
 }
