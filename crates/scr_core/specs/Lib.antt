@@ -2,9 +2,11 @@ pub mod Steps
 pub mod Bundles
 pub mod Components
 pub mod Scratch
+pub mod Ranked
 pub mod Periods
 pub mod Worlds
 pub mod Consequences
+pub mod Passes
 pub mod Replies
 pub mod Legal
 pub mod Readers

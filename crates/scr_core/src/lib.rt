@@ -8,7 +8,9 @@
 mod bundles;
 mod command;
 mod components;
+mod passes;
 mod platform_core;
+mod scratch;
 
 pub use bundles::{Bundle, BundleState};
 pub use command::{Accepted, Command, CoreFault, Limits, Reply, Step};
