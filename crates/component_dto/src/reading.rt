@@ -20,7 +20,12 @@ use std::alloc::Global;
 pub fn read_description(alloc: Global, json: &Value) -> Result<Description, DescriptionFault>
     ensures { Reads result (description_of (view json.now)) }
 {
-    let fields = ["name", "implementationClass", "serviceInterfaces", "references"];
+    let fields = [
+        "name",
+        "implementationClass",
+        "serviceInterfaces",
+        "references",
+    ];
     if !has_only(json, &fields) {
         return Err(DescriptionFault::NotBuilt);
     }
