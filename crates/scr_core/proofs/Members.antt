@@ -58,9 +58,11 @@ kept_was p (c ∷ cs) n here = go (kept_was p cs n) (p c) here
     or_right : (a b : Bool) → b ≡ true → (a || b) ≡ true
     or_right true b e = refl
     or_right false b e = e
+
     or_step : (a b d : Bool) → (b ≡ true → d ≡ true) → (a || b) ≡ true → (a || d) ≡ true
     or_step true b d f e = refl
     or_step false b d f e = f e
+
     go : (has (numbers_of (filter p cs)) n ≡ true → has (numbers_of cs) n ≡ true) → (b : Bool) → has (numbers_of (cond b (c ∷ filter p cs) (filter p cs))) n ≡ true
         → ((c.number == n) || has (numbers_of cs) n) ≡ true
     go was true e = or_step (c.number == n) (has (numbers_of (filter p cs)) n) (has (numbers_of cs) n) was e
@@ -100,6 +102,7 @@ module _ (ds : List Description) (levels : List ℕ) where
       later : (d : Description) × (has (numbers_of (of_level ds levels cs (level_from d ds levels))) n ≡ true)
           → (d : Description) × (has (numbers_of (of_level ds levels (c ∷ cs) (level_from d ds levels))) n ≡ true)
       later found = (found.0, in_more c (of_level ds levels cs (level_from found.0 ds levels)) (rank ds levels c == level_from found.0 ds levels) n found.1)
+
       go : (has (numbers_of cs) n ≡ true → (d : Description) × (has (numbers_of (of_level ds levels cs (level_from d ds levels))) n ≡ true)) → (b : Bool) → (c.number == n) ≡ b
           → (d : Description) × (has (numbers_of (of_level ds levels (c ∷ cs) (level_from d ds levels))) n ≡ true)
       go rest true same = (c.description, first_in c (of_level ds levels cs (rank ds levels c)) (rank ds levels c == rank ds levels c) n (eq-eqb (rank ds levels c) (rank ds levels c) refl) same)
@@ -113,9 +116,11 @@ module _ (ds : List Description) (levels : List ℕ) where
       or_left : (a b : Bool) → a ≡ true → (a || b) ≡ true
       or_left true b e = refl
       or_left false b e = cc
+
       or_right : (a b : Bool) → b ≡ true → (a || b) ≡ true
       or_right true b e = refl
       or_right false b e = e
+
       go : (r < k → has (numbers_of (in_order_below ds levels cs k)) n ≡ true) → (r ≡ k) ⊎ (r ≡ k → ⊥) → (has (numbers_of (in_order_below ds levels cs k)) n || has (numbers_of (of_level ds levels cs k)) n) ≡ true
       go lower (inl same) = or_right _ _ (subst (λ w. has (numbers_of (of_level ds levels cs w)) n ≡ true) same here)
       go lower (inr other) = or_left _ _ (lower (omega (arith, low, other)))

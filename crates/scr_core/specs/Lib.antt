@@ -1,3 +1,4 @@
+pub mod LevelFaults
 pub mod Steps
 pub mod Bundles
 pub mod Components
@@ -9,6 +10,7 @@ pub mod Consequences
 pub mod Passes
 pub mod Replies
 pub mod Legal
+pub mod Tables
 pub mod Readers
 pub mod Calls
 pub mod Cores

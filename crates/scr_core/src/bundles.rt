@@ -1,7 +1,7 @@
 //! Bundles (OSGi Core 8, life cycle layer).
-ghost use Rattle.std.specs.Prelude.{◌≡◌, ◌==◌, map};
+ghost use Rattle.std.specs.Prelude.{◌≡◌, ◌<◌, ◌≤◌, ◌+◌, ◌==◌, MatchOption, length, map};
 ghost use Rattle.std.specs.Option.{option_copied};
-ghost use Rattle.scr_core.specs.Bundles.{bundle_at, bundle_of, is_active, started};
+ghost use Rattle.scr_core.specs.Bundles.{bundle_at, bundle_of, started};
 
 use bundle_doc::BundleDoc;
 use prop_map::Str;
@@ -37,15 +37,18 @@ pub(crate) fn bundle_of(bundles: &[Bundle], number: u64) -> Option<&Bundle>
 pub(crate) fn bundle_at<'b>(bundles: &'b [Bundle], location: &Str) -> Option<&'b Bundle>
     ensures { option_copied result ≡ bundle_at bundles.now location.now }
 {
-    bundles
-        .iter()
-        .find(|bundle| bundle.document.location.as_str() == location.as_str())
+    bundles.iter().find(|bundle| bundle.document.location.as_str() == location.as_str())
 }
 
-pub(crate) fn is_active(bundle: &Bundle) -> bool
-    ensures { result ≡ is_active bundle.now.state }
+// The number of the next bundle, where there is room for one: there are 128 at most.
+pub(crate) fn next_number(bundles: &[Bundle]) -> Option<u64>
+    ensures { MatchOption result (128 ≤ length bundles.now) (λ number. (length bundles.now < 128) × (number ≡ length bundles.now + 1)) }
 {
-    bundle.state == BundleState::Active
+    if bundles.len() < 128 {
+        Some(bundles.len() as u64 + 1)
+    } else {
+        None
+    }
 }
 
 // Starts the bundle of a number.

@@ -1,9 +1,11 @@
 //! Component configurations (OSGi Compendium 8, chapter 112).
-ghost use Rattle.std.specs.Prelude.{◌≡◌, ◌<◌, ◌+◌, ◌^◌, IfOk, length};
+ghost use Rattle.std.specs.Prelude.{◌≡◌, ◌<◌, ◌+◌, ◌^◌, IfOk, length, map};
 ghost use Rattle.scr_core.specs.Components.{numbered};
+ghost use Rattle.scr_core.specs.Readers.{line_by, state_by};
 
+use crate::passes::has;
 use component_dto::Description;
-use prop_map::{Copies, OutOfMemory, Str};
+use prop_map::{Copies, List, OutOfMemory, Str};
 use std::alloc::Global;
 
 /// A component configuration.
@@ -61,4 +63,43 @@ pub(crate) fn numbered(
         })?;
     }
     Ok(found)
+}
+
+// What is told of these component configurations, of which those with these numbers are open.
+pub(crate) fn lines(
+    alloc: Global,
+    components: &[Component],
+    open_numbers: &[u64],
+) -> Result<List<ComponentLine>, OutOfMemory>
+    ensures { IfOk result (λ lines. lines ≡ map (line_by open_numbers.now) components.now) }
+{
+    let mut found = Vec::new(alloc);
+    for component in components {
+        found.push(line(alloc, component, open_numbers)?)?;
+    }
+    Ok(List::of(found))
+}
+
+fn line(
+    alloc: Global,
+    component: &Component,
+    open_numbers: &[u64],
+) -> Result<ComponentLine, OutOfMemory>
+    ensures { IfOk result (λ line. line ≡ line_by open_numbers.now component.now) }
+{
+    Ok(ComponentLine {
+        configuration: component.number,
+        name: component.description.name.copy(alloc)?,
+        state: state(component, open_numbers),
+    })
+}
+
+fn state(component: &Component, open_numbers: &[u64]) -> u8
+    ensures { result ≡ state_by open_numbers.now component.now }
+{
+    if has(open_numbers, component.number) {
+        4
+    } else {
+        2
+    }
 }

@@ -58,7 +58,12 @@ fn changed(
 {
     let closed = closing(alloc, open_numbers, ordered, satisfied)?;
     let opening = open_all(alloc, open_numbers, satisfied, next_service)?;
-    let open_numbers = numbers_after(alloc, open_numbers, closed.as_slice(), opening.opened.as_slice())?;
+    let open_numbers = numbers_after(
+        alloc,
+        open_numbers,
+        closed.as_slice(),
+        opening.opened.as_slice(),
+    )?;
     Ok(Pass {
         closed,
         opened: opening.opened,
@@ -109,14 +114,15 @@ fn open_all(
 
 // Opens a component configuration, and gives the number of the next service. Where no number is left, that counts as
 // want of memory.
-fn open_one(
-    opened: &mut Vec<Opened>,
-    component: &Component,
-    next: u64,
-) -> Result<u64, OutOfMemory>
+fn open_one(opened: &mut Vec<Opened>, component: &Component, next: u64) -> Result<u64, OutOfMemory>
     ensures { IfOk result (λ after. (opened.new.items ≡ opened.old.items ++ opened_one next component.now ∷ []) × (after ≡ next_after next component.now)) }
 {
-    if component.description.service_interfaces.as_slice().is_empty() {
+    if component
+        .description
+        .service_interfaces
+        .as_slice()
+        .is_empty()
+    {
         opened.push(Opened {
             configuration: component.number,
             service: 0,
