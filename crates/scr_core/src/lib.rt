@@ -12,6 +12,8 @@ mod entries;
 mod passes;
 mod platform_core;
 mod scratch;
+#[cfg(test)]
+mod tests;
 
 pub use bundles::{Bundle, BundleState};
 pub use command::{Accepted, Command, CoreFault, Limits, Reply, Step};
