@@ -3,15 +3,20 @@
 #![tactic(auto)]
 
 mod copies;
+mod key;
 mod list;
 mod memory;
+mod properties;
 mod reference_words;
 #[cfg(test)]
 mod tests;
 mod text;
+mod value;
 
 pub use copies::Copies;
 pub use list::List;
 pub use memory::OutOfMemory;
+pub use properties::{Properties, Property};
 pub use reference_words::{Cardinality, Policy, PolicyOption};
 pub use text::Str;
+pub use value::Value;
