@@ -1,3 +1,5 @@
+pub mod JsonProperties
 pub mod Keys
 pub mod Maps
 pub mod Places
+pub mod Readings

@@ -4,8 +4,10 @@
 
 mod copies;
 mod key;
+mod json_properties;
 mod list;
 mod memory;
+mod prop_fault;
 mod properties;
 mod reference_words;
 #[cfg(test)]
@@ -16,6 +18,7 @@ mod value;
 pub use copies::Copies;
 pub use list::List;
 pub use memory::OutOfMemory;
+pub use prop_fault::PropFault;
 pub use properties::{Properties, Property};
 pub use reference_words::{Cardinality, Policy, PolicyOption};
 pub use text::Str;
