@@ -1,13 +1,10 @@
 -- Where keys stand in a property map, and what the map is after one is set there.
-use Rattle.std.proofs.Common.{◌≡◌, refl, sym, ap, ◌∙◌, ℕ, zero, suc, ◌+◌, ◌<◌, ◌≤◌, List, [], ◌∷◌, ◌++◌, Bool, true, false, cond, length, get_or, take, drop, arith, Option, Some, None}
+use Rattle.std.proofs.Common.{◌≡◌, refl, sym, ap, ◌∙◌, ℕ, zero, suc, ◌<◌, ◌≤◌, List, [], ◌∷◌, Bool, true, false, cond, length, get_or, arith, Some, None}
 use Rattle.std.proofs.Math.ListN.{set}
 use Rattle.std.specs.Prelude.{insert, slice_get}
 use Rattle.std.specs.List.{AllWithin}
-use Rattle.std.specs.List.Sorted.{IsPartitionedBy, IsPartitionPoint}
-use Rattle.std.specs.Ordering.{is_gt, is_eq, is_lt, ordering_reverse, nat_cmp, match_ordering}
-use Rattle.std.specs.Cmp.{IsTotalOrder}
-use Rattle.std.specs.Cmp.Lexicographic.{slice_cmp}
-use Rattle.std.specs.Str.{bytes_eq}
+use Rattle.std.specs.List.Sorted.{IsPartitionedBy}
+use Rattle.std.specs.Ordering.{is_gt, is_eq, ordering_reverse, match_ordering}
 use Rattle.std.specs.declared.cmp.Ordering.{Ordering}
 use Rattle.std.specs.declared.cmp.Ordering.TheVariants.{Less, Equal, Greater}
 use Rattle.std.proofs.lemmas.Cmp.{nat_list_cmp_total}
@@ -16,7 +13,7 @@ use Rattle.prop_map.specs.declared.value.Value.{Value}
 use Rattle.prop_map.specs.declared.properties.Property.{Property}
 use Rattle.prop_map.specs.Keys.{key_order, same_key, folded}
 use Rattle.prop_map.specs.Maps.{get, put, ComesBefore, IsInOrder}
-use Rattle.prop_map.specs.Places.{goes_after, place_of, has_key, has_key_at, value_at}
+use Rattle.prop_map.specs.Places.{goes_after, place_of, has_key_at, value_at}
 
 turned : (a b : List ℕ) → key_order a b ≡ ordering_reverse (key_order b a)
 turned a b = nat_list_cmp_total.antisymm (folded a) (folded b)
@@ -65,9 +62,9 @@ get_before : (key : List ℕ) (ps : List Property) → ComesBefore key ps → Is
 get_before key [] before order = refl
 get_before key (p ∷ ps) before order =
     ap (λ b. cond b (Some p.value) (get ps key)) (sym (same_is_equal key p.key) ∙ ap is_eq before) ∙ get_before key ps (below ps order.0) order.1 where
-  below : (qs : List Property) → ComesBefore p.key qs → ComesBefore key qs
-  below [] h = tt
-  below (q ∷ qs) h = trans key p.key q.key before h
+      below : (qs : List Property) → ComesBefore p.key qs → ComesBefore key qs
+      below [] h = tt
+      below (q ∷ qs) h = trans key p.key q.key before h
 
 -- the map after a key was set at a place, where it stands already or not
 abbrev pub put_there : List ℕ → Value → List Property → ℕ → Bool → List Property
@@ -77,7 +74,7 @@ put_there key v ps i false = insert ps i (record { key = key; value = v })
 after_is : (key : List ℕ) (p : Property) (o : Ordering) → key_order key p.key ≡ o → goes_after key p ≡ is_gt o
 after_is key p o e = ap is_gt e
 
-same_is : (key : List ℕ) (p : Property) (o : Ordering) → key_order key p.key ≡ o → same_key key p.key ≡ is_eq o
+pub same_is : (key : List ℕ) (p : Property) (o : Ordering) → key_order key p.key ≡ o → same_key key p.key ≡ is_eq o
 same_is key p o e = sym (same_is_equal key p.key) ∙ ap is_eq e
 
 -- the value at a key is that of the property where it would stand, if that has the key
@@ -98,14 +95,18 @@ put_at_place key v [] = refl
 put_at_place key v (p ∷ ps) = by_order (put_at_place key v ps) (key_order key p.key) refl where
   new : Property
   new = record { key = key; value = v }
+
   chosen : (o : Ordering) → key_order key p.key ≡ o → put (p ∷ ps) key v ≡ match_ordering o (new ∷ p ∷ ps) (new ∷ ps) (p ∷ put ps key v)
   chosen o e = ap (λ r. match_ordering r (new ∷ p ∷ ps) (new ∷ ps) (p ∷ put ps key v)) e
+
   placed : (o : Ordering) → key_order key p.key ≡ o → put_there key v (p ∷ ps) (place_of key (p ∷ ps)) (has_key_at key (place_of key (p ∷ ps)) (p ∷ ps))
       ≡ put_there key v (p ∷ ps) (cond (is_gt o) (suc (place_of key ps)) 0) (has_key_at key (cond (is_gt o) (suc (place_of key ps)) 0) (p ∷ ps))
   placed o e = ap (λ b. put_there key v (p ∷ ps) (cond b (suc (place_of key ps)) 0) (has_key_at key (cond b (suc (place_of key ps)) 0) (p ∷ ps))) (after_is key p o e)
+
   behind : (b : Bool) → put_there key v (p ∷ ps) (suc (place_of key ps)) b ≡ p ∷ put_there key v ps (place_of key ps) b
   behind true = refl
   behind false = refl
+
   by_order : put ps key v ≡ put_there key v ps (place_of key ps) (has_key_at key (place_of key ps) ps) → (o : Ordering) → key_order key p.key ≡ o
       → put (p ∷ ps) key v ≡ put_there key v (p ∷ ps) (place_of key (p ∷ ps)) (has_key_at key (place_of key (p ∷ ps)) (p ∷ ps))
   by_order rest Less e = chosen Less e ∙ sym (placed Less e ∙ ap (put_there key v (p ∷ ps) 0) (same_is key p Less e))
@@ -136,6 +137,7 @@ put_in_order key v (p ∷ ps) order = by_order (put_in_order key v ps order.1) (
   alike : (qs : List Property) → key_order key p.key ≡ Equal → ComesBefore p.key qs → ComesBefore key qs
   alike [] e h = tt
   alike (q ∷ qs) e h = congruent key p.key q.key e ∙ h
+
   by_order : IsInOrder (put ps key v) → (o : Ordering) → key_order key p.key ≡ o → IsInOrder (put (p ∷ ps) key v)
   by_order rest Less e = rw e (e, order)
   by_order rest Equal e = rw e (alike ps e order.0, order.1)

@@ -3,3 +3,4 @@ pub mod Keys
 pub mod Maps
 pub mod Places
 pub mod Readings
+pub mod Sameness

@@ -1,5 +1,5 @@
 -- Where a key stands in a property map, or would stand.
-use Rattle.std.specs.Prelude.{ℕ, zero, suc, List, [], ◌∷◌, Bool, false, Option, Some, None, slice_get, if◌then◌else◌}
+use Rattle.std.specs.Prelude.{ℕ, suc, List, [], ◌∷◌, Bool, false, Option, Some, None, slice_get, if◌then◌else◌}
 use Rattle.std.specs.Ordering.{is_gt}
 use Rattle.prop_map.specs.declared.value.Value.{Value}
 use Rattle.prop_map.specs.declared.properties.Property.{Property}

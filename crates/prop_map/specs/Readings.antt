@@ -1,5 +1,5 @@
 -- What a call read, against what was to be read.
-use Rattle.std.specs.Prelude.{◌≡◌, List, ℕ, Result, Ok, Err}
+use Rattle.std.specs.Prelude.{◌≡◌, Result, Ok, Err}
 use Rattle.prop_map.specs.declared.prop_fault.PropFault.{PropFault}
 use Rattle.prop_map.specs.declared.prop_fault.PropFault.TheVariants.{NotObject, FloatValue, NestedValue, MixedList, SameKey, OutOfMemory}
 

@@ -64,9 +64,13 @@ fn check_item(alloc: Global, key: &str, item: &Json) -> Result<(), PropFault>
         Json::Bool(_) | Json::String(_) => Ok(()),
         Json::Number(_) => match item.as_i64() {
             Some(_) => Ok(()),
-            None => Err(PropFault::FloatValue { key: spelled(alloc, key)? }),
+            None => Err(PropFault::FloatValue {
+                key: spelled(alloc, key)?,
+            }),
         },
-        _ => Err(PropFault::NestedValue { key: spelled(alloc, key)? }),
+        _ => Err(PropFault::NestedValue {
+            key: spelled(alloc, key)?,
+        }),
     }
 }
 
@@ -90,7 +94,9 @@ fn sound_list(alloc: Global, key: &str, items: &[Json]) -> Result<Value, PropFau
     }
     match flags(alloc, items)? {
         Some(found) => Ok(Value::Flags(found)),
-        None => Err(PropFault::MixedList { key: spelled(alloc, key)? }),
+        None => Err(PropFault::MixedList {
+            key: spelled(alloc, key)?,
+        }),
     }
 }
 
@@ -109,11 +115,15 @@ fn value_of(alloc: Global, key: &str, json: &Json) -> Result<Option<Value>, Prop
         Json::Bool(flag) => Ok(Some(Value::Flag(*flag))),
         Json::Number(_) => match json.as_i64() {
             Some(number) => Ok(Some(Value::Whole(number))),
-            None => Err(PropFault::FloatValue { key: spelled(alloc, key)? }),
+            None => Err(PropFault::FloatValue {
+                key: spelled(alloc, key)?,
+            }),
         },
         Json::String(text) => Ok(Some(Value::Text(spelled(alloc, text.as_str())?))),
         Json::Array(items) => Ok(Some(list_value(alloc, key, items.as_slice())?)),
-        Json::Object(_) => Err(PropFault::NestedValue { key: spelled(alloc, key)? }),
+        Json::Object(_) => Err(PropFault::NestedValue {
+            key: spelled(alloc, key)?,
+        }),
     }
 }
 
@@ -172,7 +182,9 @@ fn with_value(
     ensures { Reads result (with_value (keys_of (members_view members.now.entries)) before key.now value) }
 {
     if is_repeated(members, key) {
-        Err(PropFault::SameKey { key: spelled(alloc, key)? })
+        Err(PropFault::SameKey {
+            key: spelled(alloc, key)?,
+        })
     } else {
         Ok(with_given(alloc, before, key, value)?)
     }

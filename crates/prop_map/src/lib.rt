@@ -3,8 +3,8 @@
 #![tactic(auto)]
 
 mod copies;
-mod key;
 mod json_properties;
+mod key;
 mod list;
 mod memory;
 mod prop_fault;

@@ -1,16 +1,20 @@
 //! Property maps (OSGi Core 8, section 5.2.5 "Service Properties").
+ghost use Rattle.prop_map.specs.Keys.{same_key};
 ghost use Rattle.prop_map.specs.Maps.{get, put, merge, IsInOrder};
 ghost use Rattle.prop_map.specs.Places.{place_of, has_key_at, value_at};
-ghost use Rattle.std.specs.Prelude.{◌≡◌, ◌↔◌, ◌≤◌, [], length, slice_get, IfOk, IsTrue, OnOk, OnErr};
+ghost use Rattle.prop_map.specs.Sameness.{same_property, same_properties, property_equiv, properties_equiv};
+ghost use Rattle.std.specs.Cmp.{partial_equiv_from_equiv};
+ghost use Rattle.std.specs.Prelude.{◌≡◌, ◌↔◌, ◌≤◌, ℕ, List, [], length, slice_get, if◌then◌else◌, IfOk, IsTrue, OnOk, OnErr};
 ghost use Rattle.std.specs.Option.{option_copied};
 
 use crate::key::{is_same_key, key_order};
 use crate::{Copies, OutOfMemory, Str, Value};
 use std::alloc::Global;
+use std::fmt;
 use std::marker::Model;
 
 /// A key as it is spelled, and its value.
-#[derive(Debug, Drop, PartialEq, Eq)]
+#[derive(Debug, Drop)]
 pub struct Property {
     /// The key's spelling.
     pub key: Str,
@@ -57,6 +61,13 @@ impl Properties {
         self.list.as_slice()
     }
 
+    /// For contracts alone: a key that was set has its value, and every other key keeps its own.
+    #[tactic(auto, using(crate::proofs::Laws::get_put))]
+    pub fn note_set()
+        ensures { (map : List Property) (key : List ℕ) (value : Value) (other : List ℕ) →
+            get (put map key value) other ≡ (if same_key other key then Some value else get map other) }
+    {}
+
     /// The value at a key, in whatever case that is spelled. It takes no memory.
     pub fn get(&self, key: &str) -> Option<&Value>
         ensures { option_copied result ≡ get self.now key.now }
@@ -88,6 +99,48 @@ impl Properties {
             both.set(alloc, property.key.as_str(), property.value.copy(alloc)?)?;
         }
         Ok(both)
+    }
+
+    /// Whether two maps have the same keys, in the same spelling, with the same values. It takes no memory.
+    #[tactic(auto, using(crate::specs::Sameness::properties_decide))]
+    pub fn is_same(&self, other: &Properties) -> bool
+        ensures { IsTrue result ↔ (self.now ≡ other.now) }
+    {
+        self == other
+    }
+}
+
+impl PartialEq for Property {
+    ghost eq = { same_property };
+
+    ghost laws = { partial_equiv_from_equiv property_equiv };
+
+    fn eq(&self, other: &Property) -> bool {
+        self.key == other.key && self.value == other.value
+    }
+}
+
+impl Eq for Property {
+    ghost laws = { property_equiv };
+}
+
+impl PartialEq for Properties {
+    ghost eq = { same_properties };
+
+    ghost laws = { partial_equiv_from_equiv properties_equiv };
+
+    fn eq(&self, other: &Properties) -> bool {
+        self.list.as_slice() == other.list.as_slice()
+    }
+}
+
+impl Eq for Properties {
+    ghost laws = { properties_equiv };
+}
+
+impl fmt::Debug for Properties {
+    fn fmt<W: fmt::Write>(&self, f: &mut fmt::Formatter<W>) -> fmt::Result {
+        f.debug_list().entries(self.list.iter()).finish()
     }
 }
 

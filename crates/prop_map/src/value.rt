@@ -1,10 +1,12 @@
 //! Values of properties (OSGi Core 8, section 5.2.5 "Service Properties").
+ghost use Rattle.prop_map.specs.Sameness.{same_value, values_equiv};
+ghost use Rattle.std.specs.Cmp.{partial_equiv_from_equiv};
 
 use crate::{Copies, List, OutOfMemory, Str};
 use std::alloc::Global;
 
 /// The value of a property.
-#[derive(Debug, Drop, PartialEq, Eq)]
+#[derive(Debug, Drop)]
 pub enum Value {
     /// A text.
     Text(Str),
@@ -18,6 +20,28 @@ pub enum Value {
     Wholes(List<i64>),
     /// Flags in order.
     Flags(List<bool>),
+}
+
+impl PartialEq for Value {
+    ghost eq = { same_value };
+
+    ghost laws = { partial_equiv_from_equiv values_equiv };
+
+    fn eq(&self, other: &Value) -> bool {
+        match (self, other) {
+            (Value::Text(a), Value::Text(b)) => a == b,
+            (Value::Whole(a), Value::Whole(b)) => a == b,
+            (Value::Flag(a), Value::Flag(b)) => a == b,
+            (Value::Texts(a), Value::Texts(b)) => a == b,
+            (Value::Wholes(a), Value::Wholes(b)) => a == b,
+            (Value::Flags(a), Value::Flags(b)) => a == b,
+            _ => false,
+        }
+    }
+}
+
+impl Eq for Value {
+    ghost laws = { values_equiv };
 }
 
 impl Copies for i64 {

@@ -1,6 +1,5 @@
-use Rattle.std.proofs.Common.{◌≡◌, ap, sym, ◌∙◌, subst, List, rules}
-use Rattle.prop_map.specs.declared.properties.Property.{Property}
-use Rattle.prop_map.specs.Maps.{IsInOrder, put}
+use Rattle.std.proofs.Common.{sym, subst}
+use Rattle.prop_map.specs.Maps.{IsInOrder}
 use Rattle.prop_map.proofs.PlaceLemmas.{put_replaces, put_inserts, put_in_order}
 use Rattle.prop_map.proofs.properties.put.Goals as goal
 

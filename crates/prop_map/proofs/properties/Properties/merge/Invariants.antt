@@ -1,5 +1,4 @@
 use Rattle.std.proofs.Common.{◌≡◌, drop}
-use Rattle.std.specs.Prelude.{fold}
 use Rattle.prop_map.specs.Maps.{merge}
 use Rattle.prop_map.proofs.properties.Properties.merge.Given as goal
 
