@@ -307,4 +307,4 @@ live (Ceiling f s) = live_ceiling f s
 live (Behind r) = ([], r, refl)
 
 pub range_reader : IsReader range_step range_at_end Before SpellsRange
-range_reader = record { sound = sound; complete = complete; live = live }
+range_reader = record { sound = sound; complete = complete; live = λ _ s _. live s }

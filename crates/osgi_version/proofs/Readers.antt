@@ -15,7 +15,7 @@ reads step at_end s text = option_and_then at_end (run step s text)
 pub record IsReader {S V : Type 0} (step : S → ℕ → Option S) (at_end : S → Option V) (start : S) (Spelled : List ℕ → V → Type 0) : Type 0 where
   pub sound : (text : List ℕ) (v : V) → reads step at_end start text ≡ Some v → Spelled text v
   pub complete : (text : List ℕ) (v : V) → Spelled text v → reads step at_end start text ≡ Some v
-  pub live : (s : S) → (rest : List ℕ) × (v : V) × (reads step at_end s rest ≡ Some v)
+  pub live : (front : List ℕ) (s : S) → run step start front ≡ Some s → (rest : List ℕ) × (v : V) × (reads step at_end s rest ≡ Some v)
 
 pub run-append : {S : Type 0} (step : S → ℕ → Option S) (s : S) (xs ys : List ℕ) → run step s (xs ++ ys) ≡ option_and_then (λ t. run step t ys) (run step s xs)
 run-append step s [] ys = refl
@@ -43,7 +43,7 @@ run_more step s t text i h e = ap (λ xs. run step s xs) (take_more text i 0 h) 
 module _ {S V : Type 0} {step : S → ℕ → Option S} {at_end : S → Option V} {start : S} {Spelled : List ℕ → V → Type 0} (reader : IsReader step at_end start Spelled) where
   pub open_where : (prefix : List ℕ) (s : S) → run step start prefix ≡ Some s → IsOpen Spelled prefix
   open_where prefix s e =
-      let more = reader.live s in
+      let more = reader.live prefix s e in
       (more.0, more.1, reader.sound (prefix ++ more.0) more.1 (ap (λ o. option_and_then at_end o) (run_on step start s prefix more.0 e) ∙ more.2))
 
   pub not_open_where : (prefix : List ℕ) → run step start prefix ≡ None → IsOpen Spelled prefix → ⊥

@@ -94,4 +94,4 @@ live (Inside s) = live_inside s
 live (Behind v) = ([], v, refl)
 
 pub version_reader : IsReader version_step version_at_end Before SpellsVersion
-version_reader = record { sound = sound; complete = complete; live = live }
+version_reader = record { sound = sound; complete = complete; live = λ _ s _. live s }

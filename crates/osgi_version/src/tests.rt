@@ -8,6 +8,10 @@ fn a_version_is_read_and_written(rt: HostRuntime) -> Result<(), Fail> {
     let version = Version::parse(alloc, " 01.2.0.2024-x_1 ")?;
     assert_eq!(rt; version.text(alloc)?.as_str(), "1.2.0.2024-x_1");
     assert_eq!(rt; version.copy(alloc)?, version);
+    assert_eq!(rt;
+        format!(in alloc; "{}", version.qualifier)?.as_str(),
+        "2024-x_1"
+    );
     assert_eq!(rt; Version::parse(alloc, "0")?, Version::empty(alloc));
     Ok(())
 }
