@@ -39,6 +39,7 @@ fn other_values_are_not_built(rt: HostRuntime) {
         "{\"implementationClass\":\"C\",\"immediate\":true}",
         "{\"implementationClass\":\"C\",\"serviceInterfaces\":[1]}",
         "{\"implementationClass\":\"C\",\"references\":[{\"interfaceName\":\"P\",\"target\":\"(a=1)\"}]}",
+        "{\"implementationClass\":\"C\",\"references\":[{\"interfaceName\":\"P\"},{\"interfaceName\":\"Q\",\"name\":\"P\"}]}",
     ] {
         assert_eq!(rt; read(rt, text), Err(DescriptionFault::NotBuilt), "{text}");
     }
