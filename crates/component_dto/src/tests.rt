@@ -25,6 +25,7 @@ fn a_description_is_read_with_its_defaults(rt: HostRuntime) -> Result<(), Fail> 
     assert_eq!(rt; interfaces[0].as_str(), "B");
     assert_eq!(rt; interfaces[1].as_str(), "A");
     let references = description.references.as_slice();
+    assert_eq!(rt; references.len(), 2);
     assert_eq!(rt; references[0].name.as_str(), "P");
     assert_eq!(rt; references[1].name.as_str(), "q");
     Ok(())
