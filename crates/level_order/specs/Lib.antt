@@ -1,2 +1,5 @@
+pub mod Answers
 pub mod Levels
 pub mod Uses
+pub mod Cycles
+pub mod Ways

@@ -4,8 +4,10 @@
 mod consuming;
 mod fault;
 mod level_list;
+mod steps;
 #[cfg(test)]
 mod tests;
+mod told_cycle;
 mod uses;
 
 pub use consuming::{consumes, provides};
