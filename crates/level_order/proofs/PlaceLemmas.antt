@@ -1,7 +1,7 @@
 -- That the places of a description's uses are those that it consumes, in rising order.
-use Rattle.std.proofs.Common.{◌≡◌, ◌<◌, ◌≤◌, ℕ, zero, suc, ◌+◌, List, [], ◌∷◌, length, get_or, ap, sym, ◌∙◌, refl, Bool, true, false, cond, ◌&&◌, ◌||◌, arith, add-one, Option, Some, None, ◌⊎◌, inl, inr}
+use Rattle.std.proofs.Common.{◌≡◌, ◌<◌, ◌≤◌, ℕ, zero, suc, ◌+◌, List, [], ◌∷◌, length, get_or, ap, ◌∙◌, refl, Bool, true, false, cond, ◌&&◌, arith, Option, Some, None, inl, inr}
 use Rattle.std.specs.Prelude.{map, ◌==◌}
-use Rattle.std.specs.List.{list_any, slice_get}
+use Rattle.std.specs.List.{slice_get}
 use Rattle.std.specs.Option.{option_map_or}
 use Rattle.std.proofs.lemmas.Bool.{ne_eqb, eq-eqb, eqb-true, or_cases, false≢true}
 use Rattle.component_dto.specs.declared.description.Description.{Description}

@@ -1,18 +1,18 @@
 -- That the cycle that is found is the one to tell, and that there is one.
-use Rattle.std.proofs.Common.{◌≡◌, ◌<◌, ◌≤◌, ℕ, zero, suc, ◌+◌, List, [], ◌∷◌, ◌++◌, length, get_or, ap, sym, ◌∙◌, refl, Bool, true, false, arith, Option, Some, None, ◌⊎◌, inl, inr, drop, drop-cons, add-one, append_assoc, Result, Ok, Err}
-use Rattle.std.specs.Prelude.{map, IfOk}
+use Rattle.std.proofs.Common.{◌≡◌, ◌<◌, ◌≤◌, ℕ, ◌+◌, List, [], ◌∷◌, ◌++◌, length, get_or, ap, sym, ◌∙◌, refl, true, arith, Option, Some, None, inl, inr, drop, drop-cons, add-one, append_assoc, Result, Ok, Err}
+use Rattle.std.specs.Prelude.{IfOk}
 use Rattle.std.specs.List.{slice_get}
 use Rattle.std.specs.Option.{option_map_or}
 use Rattle.std.proofs.lemmas.Bool.{cases_lt}
 use Rattle.std.proofs.lemmas.Option.{slice_get-get_or, slice_get_past}
 use Rattle.std.proofs.lemmas.List.{length-map}
 use Rattle.component_dto.specs.declared.description.Description.{Description}
-use Rattle.level_order.specs.Levels.{IsAcyclic, AreLevels, level_from}
-use Rattle.level_order.specs.Cycles.{TellsCycle, IsTold, IsCycle, LiesOnCycle, is_least, leads, names_at, consumes_at}
-use Rattle.level_order.specs.Uses.{uses_of, all_uses, level_above, levels_above}
-use Rattle.level_order.specs.Ways.{has, leads_by, OnNone, IsFoundCycle, Measures, least_path}
+use Rattle.level_order.specs.Levels.{IsAcyclic}
+use Rattle.level_order.specs.Cycles.{TellsCycle, IsTold, IsCycle, names_at}
+use Rattle.level_order.specs.Uses.{uses_of, all_uses, level_above}
+use Rattle.level_order.specs.Ways.{leads_by, OnNone, IsFoundCycle, least_path}
 use Rattle.level_order.proofs.PlaceLemmas.{has_all_uses, leads_all_uses, rising_all_uses, consumes_at_within}
-use Rattle.level_order.proofs.PathLemmas.{least_path_shortest, Shortest}
+use Rattle.level_order.proofs.PathLemmas.{least_path_shortest}
 use Rattle.level_order.proofs.RankLemmas.{acyclic_levels}
 use Rattle.level_order.proofs.UsesLemmas.{levels_above_uses}
 

@@ -1,5 +1,5 @@
-use Rattle.std.proofs.Common.{arith, sym, ◌∙◌, ap}
-use Rattle.level_order.proofs.LevelLemmas.{Rounds, rounds_more, rounds_end}
+use Rattle.std.proofs.Common.{arith, sym, ◌∙◌}
+use Rattle.level_order.proofs.LevelLemmas.{rounds_more, rounds_end}
 use Rattle.level_order.proofs.UsesLemmas.{round_levels}
 use Rattle.level_order.proofs.level_list.settled_levels.Goals as goal
 

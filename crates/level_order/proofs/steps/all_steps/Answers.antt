@@ -1,4 +1,4 @@
-use Rattle.std.proofs.Common.{◌≡◌, arith, length}
+use Rattle.std.proofs.Common.{arith}
 use Rattle.level_order.proofs.StepLemmas.{within_direct, within_grown, within_all, within_end}
 use Rattle.level_order.proofs.steps.all_steps.Goals as goal
 

@@ -1,4 +1,4 @@
-use Rattle.std.proofs.Common.{◌≡◌, ◌∙◌, sym, arith, inl, inr, subst}
+use Rattle.std.proofs.Common.{◌∙◌, sym, arith, inl, inr, subst}
 use Rattle.std.proofs.lemmas.Bool.{cases_lt}
 use Rattle.level_order.specs.Ways.{OnNone}
 use Rattle.level_order.proofs.told_cycle.found_cycle.Goals as goal

@@ -1,4 +1,4 @@
-use Rattle.std.proofs.Common.{◌≡◌, ◌∙◌, ◌++◌, ◌∷◌, [], ap, sym, append_assoc, ◌-◌}
+use Rattle.std.proofs.Common.{◌∙◌, ◌++◌, ◌∷◌, [], ap, sym, append_assoc, ◌-◌}
 use Rattle.level_order.specs.Ways.{least_path}
 use Rattle.level_order.proofs.PathLemmas.{least_path-more}
 use Rattle.level_order.proofs.told_cycle.least_path.Goals as goal

@@ -1,4 +1,4 @@
-use Rattle.std.proofs.Common.{◌≡◌, ◌∙◌, ◌++◌, ◌∷◌, [], ap, sym, ◌+◌, drop}
+use Rattle.std.proofs.Common.{◌∙◌, ◌++◌, ◌∷◌, [], ap, sym, ◌+◌, drop}
 use Rattle.level_order.specs.Cycles.{names_at}
 use Rattle.level_order.proofs.ToldLemmas.{names_at-named, names_at-past}
 use Rattle.level_order.proofs.told_cycle.names_at.Goals as goal

@@ -1,6 +1,5 @@
-use Rattle.std.proofs.Common.{◌≡◌, ◌∙◌, sym, List, ℕ, subst}
-use Rattle.level_order.specs.Cycles.{TellsCycle, names_at}
-use Rattle.level_order.specs.Ways.{IsFoundCycle}
+use Rattle.std.proofs.Common.{sym, subst}
+use Rattle.level_order.specs.Cycles.{TellsCycle}
 use Rattle.level_order.proofs.ToldLemmas.{found_told, none_acyclic, if_ok}
 use Rattle.level_order.proofs.told_cycle.told_names.Goals as goal
 
