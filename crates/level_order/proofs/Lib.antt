@@ -1,3 +1,4 @@
+pub mod LeastLemmas
 pub mod LevelLemmas
 pub mod UsesLemmas
 pub mod PlaceLemmas

@@ -20,11 +20,11 @@ has_any q (x ∷ xs) p found yes_q = elim (or_cases (x == p) (has xs p) found) [
   or-true true = refl
   or-true false = refl
 
-or_later : (a b : Bool) → b ≡ true → (a || b) ≡ true
+pub or_later : (a b : Bool) → b ≡ true → (a || b) ≡ true
 or_later true b e = refl
 or_later false b e = e
 
-or_first : (a b : Bool) → a ≡ true → (a || b) ≡ true
+pub or_first : (a b : Bool) → a ≡ true → (a || b) ≡ true
 or_first true b e = refl
 or_first false b e = absurd (false≢true e)
 

@@ -1,4 +1,5 @@
 pub mod Answers
+pub mod LeastLevels
 pub mod Levels
 pub mod Uses
 pub mod Cycles

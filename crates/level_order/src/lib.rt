@@ -3,6 +3,7 @@
 
 mod consuming;
 mod fault;
+mod least_levels;
 mod level_list;
 mod steps;
 #[cfg(test)]
@@ -12,4 +13,5 @@ mod uses;
 
 pub use consuming::{consumes, provides};
 pub use fault::LevelFault;
+pub use least_levels::note_least;
 pub use level_list::levels;
