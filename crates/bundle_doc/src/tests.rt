@@ -10,13 +10,19 @@ fn a_document_is_read(rt: HostRuntime) -> Result<(), Fail> {
         .ok()
         .ok_or("a document")?
         .copy(rt.alloc())?;
-    assert_eq!(rt; doc.location.as_str(), "p");
-    assert_eq!(rt; doc.descriptions.as_slice().len(), 1);
-    assert_eq!(rt; doc.descriptions.as_slice()[0].name.as_str(), "n");
+    let shown = format!(in rt.alloc(); "{doc:?}")?;
+    let expected =
+        "BundleDoc { location: \"p\", descriptions: [Description { name: \"n\", implementation_class: \"P\", \
+        service_interfaces: [], references: [] }] }";
+    assert_eq!(rt; shown.as_str(), expected);
     let bare = read_bundle(rt.alloc(), b"{\"location\":\"x\",\"components\":null}")
         .ok()
         .ok_or("a document")?;
-    assert_eq!(rt; bare.descriptions.as_slice().len(), 0);
+    let shown = format!(in rt.alloc(); "{bare:?}")?;
+    assert_eq!(rt;
+        shown.as_str(),
+        "BundleDoc { location: \"x\", descriptions: [] }"
+    );
     Ok(())
 }
 

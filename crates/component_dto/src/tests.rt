@@ -19,14 +19,11 @@ fn a_description_is_read_with_its_defaults(rt: HostRuntime) -> Result<(), Fail> 
         .ok()
         .ok_or("a description")?
         .copy(rt.alloc())?;
-    assert_eq!(rt; description.name.as_str(), "C");
-    let interfaces = description.service_interfaces.as_slice();
-    assert_eq!(rt; interfaces.len(), 2);
-    assert_eq!(rt; interfaces[0].as_str(), "B");
-    assert_eq!(rt; interfaces[1].as_str(), "A");
-    let references = description.references.as_slice();
-    assert_eq!(rt; references[0].name.as_str(), "P");
-    assert_eq!(rt; references[1].name.as_str(), "q");
+    let shown = format!(in rt.alloc(); "{description:?}")?;
+    let expected =
+        "Description { name: \"C\", implementation_class: \"C\", service_interfaces: [\"B\", \"A\"], references: [\
+        Reference { name: \"P\", interface_name: \"P\" }, Reference { name: \"q\", interface_name: \"Q\" }] }";
+    assert_eq!(rt; shown.as_str(), expected);
     Ok(())
 }
 
@@ -39,6 +36,7 @@ fn other_values_are_not_built(rt: HostRuntime) {
         "{\"implementationClass\":\"C\",\"immediate\":true}",
         "{\"implementationClass\":\"C\",\"serviceInterfaces\":[1]}",
         "{\"implementationClass\":\"C\",\"references\":[{\"interfaceName\":\"P\",\"target\":\"(a=1)\"}]}",
+        "{\"implementationClass\":\"C\",\"references\":[{\"interfaceName\":\"P\"},{\"interfaceName\":\"Q\",\"name\":\"P\"}]}",
     ] {
         assert_eq!(rt; read(rt, text), Err(DescriptionFault::NotBuilt), "{text}");
     }

@@ -40,12 +40,34 @@ fn a_diamond_has_levels(rt: HostRuntime) -> Result<(), Fail> {
     Ok(())
 }
 
+fn path(rt: HostRuntime, descriptions: &[Description]) -> Result<List<Str>, Fail> {
+    match levels(rt.alloc(), descriptions) {
+        Err(LevelFault::Cycle { path }) => Ok(path),
+        _ => Ok(List::of(Vec::new(rt.alloc()))),
+    }
+}
+
 #[test]
-fn a_cycle_has_none(rt: HostRuntime) -> Result<(), Fail> {
+fn a_cycle_is_told(rt: HostRuntime) -> Result<(), Fail> {
     let mut cycle = Vec::new(rt.alloc());
     cycle.push(described(rt, "x", &["y"])?)?;
     cycle.push(described(rt, "y", &["z"])?)?;
     cycle.push(described(rt, "z", &["x"])?)?;
-    assert_eq!(rt; levels(rt.alloc(), &cycle), Err(LevelFault::Cycle));
+    let told = format!(in rt.alloc(); "{:?}", path(rt, &cycle)?)?;
+    assert_eq!(rt; told.as_str(), "[\"x\", \"y\", \"z\", \"x\"]");
+    Ok(())
+}
+
+#[test]
+fn the_first_shortest_and_least_cycle_is_told(rt: HostRuntime) -> Result<(), Fail> {
+    let mut cycles = Vec::new(rt.alloc());
+    cycles.push(described(rt, "a", &["b"])?)?;
+    cycles.push(described(rt, "b", &["e", "d", "c"])?)?;
+    cycles.push(described(rt, "c", &["f"])?)?;
+    cycles.push(described(rt, "d", &["b"])?)?;
+    cycles.push(described(rt, "e", &["b", "e"])?)?;
+    cycles.push(described(rt, "f", &["b"])?)?;
+    let told = format!(in rt.alloc(); "{:?}", path(rt, &cycles)?)?;
+    assert_eq!(rt; told.as_str(), "[\"b\", \"d\", \"b\"]");
     Ok(())
 }

@@ -1,0 +1,4 @@
+pub mod DecimalText
+pub mod Memory
+pub mod Standard
+pub mod Steps
