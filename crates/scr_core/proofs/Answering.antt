@@ -6,7 +6,7 @@ use Rattle.component_dto.specs.declared.description.Description.{Description}
 use Rattle.journal_core.specs.declared.entry.Entry.{Entry}
 use Rattle.level_order.specs.declared.fault.LevelFault.{LevelFault}
 use Rattle.level_order.specs.declared.fault.LevelFault.TheVariants.{Cycle as InLevels, OutOfMemory as NoMemory}
-use Rattle.level_order.specs.Levels.{HasLevels}
+use Rattle.level_order.specs.Answers.{HasLevels}
 use Rattle.scr_core.specs.declared.bundles.Bundle.{Bundle}
 use Rattle.scr_core.specs.declared.command.Accepted.{Accepted}
 use Rattle.scr_core.specs.declared.command.Command.{Command}
@@ -50,8 +50,8 @@ module _ (old new : List (Entry Step)) (command : Command) (p : Pass) (said : Re
 pub fault_refused : (j : List (Entry Step)) (doc : BundleDoc) (bs : List Bundle) (ds : List Description) (ls : List ℕ) (cs : List Component) (open_ones : List ℕ) (next : ℕ) → Tables (history_of j) bs ds ls cs open_ones next
     → is_known (bundles (history_of j)) doc ≡ false → (ds' : List Description) → ds' ≡ ds ++ doc.descriptions
     → (fault : LevelFault) → HasLevels ds' (Err fault) → (outcome : Result Accepted CoreFault) → IsErrAnd outcome (λ e. e ≡ fault_of fault) → Commands j (Install doc) outcome j
-fault_refused j doc bs ds ls cs open_ones next tables unknown ds' joined InLevels none (Ok accepted) is = absurd is
+fault_refused j doc bs ds ls cs open_ones next tables unknown ds' joined (InLevels path) none (Ok accepted) is = absurd is
 fault_refused j doc bs ds ls cs open_ones next tables unknown ds' joined NoMemory none (Ok accepted) is = absurd is
-fault_refused j doc bs ds ls cs open_ones next tables unknown ds' joined InLevels none (Err e) is =
-    subst (λ (f : CoreFault). Commands j (Install doc) (Err f) j) (sym is) (refused_cycle (history_of j) doc bs ds ls cs open_ones next tables unknown ds' joined (no_levels ds' none), refl)
+fault_refused j doc bs ds ls cs open_ones next tables unknown ds' joined (InLevels path) none (Err e) is =
+    subst (λ (f : CoreFault). Commands j (Install doc) (Err f) j) (sym is) (refused_cycle (history_of j) doc bs ds ls cs open_ones next tables unknown ds' joined (no_levels ds' none.0), refl)
 fault_refused j doc bs ds ls cs open_ones next tables unknown ds' joined NoMemory none (Err e) is = subst (λ (f : CoreFault). Commands j (Install doc) (Err f) j) (sym is) refl

@@ -89,7 +89,7 @@ impl From<LevelFault> for CoreFault {
 
     fn from(fault: LevelFault) -> Self {
         match fault {
-            LevelFault::Cycle => CoreFault::Cycle,
+            LevelFault::Cycle { .. } => CoreFault::Cycle,
             LevelFault::OutOfMemory => CoreFault::OutOfMemory,
         }
     }

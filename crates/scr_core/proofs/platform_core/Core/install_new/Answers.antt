@@ -2,7 +2,7 @@ use Rattle.std.proofs.Common.{◌≡◌, ◌<◌, ◌≤◌, ◌∙◌, ◌++◌
 use Rattle.bundle_doc.specs.declared.document.BundleDoc.{BundleDoc}
 use Rattle.component_dto.specs.declared.description.Description.{Description}
 use Rattle.journal_core.specs.declared.entry.Entry.{Entry}
-use Rattle.level_order.specs.Levels.{HasLevels}
+use Rattle.level_order.specs.Answers.{HasLevels}
 use Rattle.scr_core.specs.declared.bundles.Bundle.{Bundle}
 use Rattle.scr_core.specs.declared.bundles.BundleState.TheVariants.{Installed}
 use Rattle.scr_core.specs.declared.command.Command.TheVariants.{Install}
