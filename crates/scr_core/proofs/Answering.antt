@@ -1,5 +1,5 @@
 -- What a command answers and leaves, over the journal.
-use Rattle.std.proofs.Common.{◌≡◌, ℕ, ◌+◌, List, [], ◌∷◌, ◌++◌, ap, sym, ◌∙◌, refl, subst, Bool, true, false, Ok, Err, Result}
+use Rattle.std.proofs.Common.{◌≡◌, ℕ, List, [], ◌∷◌, ◌++◌, ap, sym, ◌∙◌, refl, subst, Bool, true, false, Ok, Err, Result}
 use Rattle.std.specs.Result.{IsErrAnd}
 use Rattle.bundle_doc.specs.declared.document.BundleDoc.{BundleDoc}
 use Rattle.component_dto.specs.declared.description.Description.{Description}
@@ -22,7 +22,7 @@ use Rattle.scr_core.specs.Bundles.{bundles}
 use Rattle.scr_core.specs.Calls.{Commands, Grown, GrownIf}
 use Rattle.scr_core.specs.LevelFaults.{fault_of}
 use Rattle.scr_core.specs.Passes.{entry_of}
-use Rattle.scr_core.specs.Replies.{reply, changes, is_known}
+use Rattle.scr_core.specs.Replies.{changes, is_known}
 use Rattle.scr_core.specs.Tables.{Tables}
 use Rattle.scr_core.proofs.Appends.{history_append}
 use Rattle.scr_core.proofs.Commanding.{Leaves, refused_cycle}

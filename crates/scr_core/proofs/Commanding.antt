@@ -1,33 +1,29 @@
 -- Installs and starts that change something, over the tables.
-use Rattle.std.proofs.Common.{◌≡◌, ◌<◌, ◌≤◌, ℕ, zero, suc, ◌+◌, List, [], ◌∷◌, ◌++◌, length, ap, sym, ◌∙◌, refl, subst, cond, arith, Bool, true, false, ◌&&◌, append-nil, Option, Some, None, Ok, Err, Result}
-use Rattle.std.specs.Prelude.{map, not, ◌==◌, flat_map, is_some, is_none, option_map, nat_le}
+use Rattle.std.proofs.Common.{◌≡◌, ◌<◌, ◌≤◌, ℕ, ◌+◌, List, [], ◌∷◌, ◌++◌, length, ap, sym, ◌∙◌, refl, cond, Bool, true, false, ◌&&◌, append-nil, Option, Some, None, Ok, Err}
+use Rattle.std.specs.Prelude.{map, not, ◌==◌, is_some, is_none, option_map}
 use Rattle.std.specs.Option.{option_map_or}
 use Rattle.std.proofs.lemmas.Bool.{lt-leb, le-leb}
 use Rattle.std.proofs.lemmas.Grind.{flat_map-append}
 use Rattle.bundle_doc.specs.declared.document.BundleDoc.{BundleDoc}
 use Rattle.component_dto.specs.declared.description.Description.{Description}
-use Rattle.journal_core.specs.declared.entry.Entry.{Entry}
 use Rattle.level_order.specs.Levels.{AreLevels}
 use Rattle.scr_core.specs.declared.bundles.Bundle.{Bundle}
-use Rattle.scr_core.specs.declared.bundles.BundleState.{BundleState}
 use Rattle.scr_core.specs.declared.bundles.BundleState.TheVariants.{Installed, Active}
 use Rattle.scr_core.specs.declared.command.Command.{Command}
 use Rattle.scr_core.specs.declared.command.Command.TheVariants.{Install, Start}
-use Rattle.scr_core.specs.declared.command.CoreFault.{CoreFault}
 use Rattle.scr_core.specs.declared.command.CoreFault.TheVariants.{NoBundle, Cycle, BundlesFull}
 use Rattle.scr_core.specs.declared.command.Reply.{Reply}
 use Rattle.scr_core.specs.declared.command.Reply.TheVariants.{Done, Bundle as InBundle}
-use Rattle.scr_core.specs.declared.command.Step.{Step}
 use Rattle.scr_core.specs.declared.command.Step.TheVariants.{Command as Commanded}
 use Rattle.scr_core.specs.declared.components.Component.{Component}
 use Rattle.scr_core.specs.declared.passes.Pass.{Pass}
 use Rattle.scr_core.specs.Steps.{History}
 use Rattle.scr_core.specs.Bundles.{bundles, bundles_by, bundle_at, bundle_of, descriptions_of, is_active, started}
-use Rattle.scr_core.specs.Components.{components, components_by, coming}
+use Rattle.scr_core.specs.Components.{components, components_by}
 use Rattle.scr_core.specs.Scratch.{has_levels, levels_of}
 use Rattle.scr_core.specs.Passes.{HasPassed, entry_of}
-use Rattle.scr_core.specs.Replies.{is_known, stays_acyclic, is_full, install_refusal, refusal, has_effect, changes, answer, reply}
-use Rattle.scr_core.specs.Legal.{Follows, IsLegal}
+use Rattle.scr_core.specs.Replies.{is_known, stays_acyclic, is_full, refusal, has_effect, changes, answer, reply}
+use Rattle.scr_core.specs.Legal.{Follows}
 use Rattle.scr_core.specs.Tables.{Tables}
 use Rattle.scr_core.proofs.LevelsOf.{levels_are, has_levels_from}
 use Rattle.scr_core.proofs.Following.{entry_follows, open_now, next_now}

@@ -1,5 +1,5 @@
 -- An entry with the lists of its pass may follow, and what is known after it.
-use Rattle.std.proofs.Common.{◌≡◌, ◌≤◌, ℕ, zero, suc, ◌+◌, List, [], ◌∷◌, ◌++◌, length, ap, sym, ◌∙◌, refl, subst, arith, Bool, true, false, ◌&&◌, ◌||◌}
+use Rattle.std.proofs.Common.{◌≡◌, ℕ, suc, ◌+◌, List, [], ◌∷◌, length, ap, sym, ◌∙◌, refl, subst, arith, Bool, true, false, ◌&&◌, ◌||◌}
 use Rattle.std.specs.Prelude.{map, filter, not, ◌==◌, count_by}
 use Rattle.journal_core.specs.declared.entry.Entry.{Entry}
 use Rattle.journal_core.specs.declared.entry.Opened.{Opened}
@@ -11,11 +11,11 @@ use Rattle.scr_core.specs.declared.passes.Pass.{Pass}
 use Rattle.scr_core.specs.Steps.{History}
 use Rattle.scr_core.specs.Bundles.{bundles, bundles_by, descriptions_of}
 use Rattle.scr_core.specs.Components.{components, coming}
-use Rattle.scr_core.specs.Scratch.{has, numbers_of, levels_of, top, satisfied_below, in_order_below}
+use Rattle.scr_core.specs.Scratch.{has, numbers_of, levels_of, top}
 use Rattle.scr_core.specs.Periods.{periods, open_in, services_so_far}
 use Rattle.scr_core.specs.Worlds.{world_of, satisfied, pass_order}
-use Rattle.scr_core.specs.Consequences.{closing, opening, opening_ones, opened_from, next_from}
-use Rattle.scr_core.specs.Passes.{Numbers, HasPassed, numbers_after, entry_of}
+use Rattle.scr_core.specs.Consequences.{closing, opening, opening_ones}
+use Rattle.scr_core.specs.Passes.{HasPassed, numbers_after, entry_of}
 use Rattle.scr_core.specs.Legal.{MayCome, Follows, IsLegal}
 use Rattle.scr_core.proofs.Members.{has-append, has-filter, has-numbers-filter, has-numbers-append, satisfied_was, ordered_has}
 use Rattle.scr_core.proofs.PeriodLemmas.{open_after, next_is, opened_numbers}

@@ -1,5 +1,5 @@
 -- The levels that are computed are the levels, where there are any.
-use Rattle.std.proofs.Common.{◌≡◌, ◌<◌, ◌≤◌, ◌-◌, ℕ, zero, suc, ◌+◌, List, [], ◌∷◌, length, ap, sym, ◌∙◌, refl, cond, arith, Bool, true, false, ◌&&◌, subst, add-one, inl, inr}
+use Rattle.std.proofs.Common.{◌≡◌, ◌<◌, ◌-◌, ℕ, zero, suc, ◌+◌, List, [], ◌∷◌, length, ap, sym, ◌∙◌, refl, cond, arith, true, false, subst, add-one, inl, inr}
 use Rattle.std.specs.Prelude.{map, max, min, replicate, ◌==◌}
 use Rattle.std.proofs.lemmas.Bool.{eqb-true, eq-eqb, and_parts, and_from, cases_Bool}
 use Rattle.component_dto.specs.declared.description.Description.{Description}

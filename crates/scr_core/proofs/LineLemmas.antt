@@ -1,10 +1,9 @@
 -- A component configuration is open just where it is satisfied, so its line can be told by either.
-use Rattle.std.proofs.Common.{◌≡◌, ℕ, List, [], ◌∷◌, ap, sym, ◌∙◌, refl, cond, Bool, subst}
+use Rattle.std.proofs.Common.{◌≡◌, ℕ, List, [], ◌∷◌, ap, ◌∙◌, refl, cond}
 use Rattle.std.specs.Prelude.{map}
 use Rattle.component_dto.specs.declared.description.Description.{Description}
 use Rattle.scr_core.specs.declared.bundles.Bundle.{Bundle}
 use Rattle.scr_core.specs.declared.components.Component.{Component}
-use Rattle.scr_core.specs.declared.components.ComponentLine.{ComponentLine}
 use Rattle.scr_core.specs.Steps.{History}
 use Rattle.scr_core.specs.Scratch.{has, numbers_of}
 use Rattle.scr_core.specs.Periods.{periods, open_in}

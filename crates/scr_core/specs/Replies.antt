@@ -1,5 +1,5 @@
 -- What a command changes, and what it answers: OSGi Core 8, life cycle layer. The refusals, their order and the limit are our own.
-use Rattle.std.specs.Prelude.{ℕ, ◌+◌, ◌&&◌, List, [], ◌∷◌, ◌++◌, Bool, true, false, not, nat_le, length, is_none, is_some, Option, Some, None, Result, Ok, Err, if◌then◌else◌}
+use Rattle.std.specs.Prelude.{◌+◌, ◌&&◌, List, ◌++◌, Bool, false, not, nat_le, length, is_none, is_some, Option, Some, None, Result, Ok, Err, if◌then◌else◌}
 use Rattle.std.specs.Option.{option_map_or}
 use Rattle.bundle_doc.specs.declared.document.BundleDoc.{BundleDoc}
 use Rattle.scr_core.specs.declared.bundles.Bundle.{Bundle}

@@ -1,13 +1,12 @@
 -- The world of a journal: what it says of bundles, component configurations and their periods.
 use Rattle.std.specs.Prelude.{ℕ, suc, List}
-use Rattle.component_dto.specs.declared.description.Description.{Description}
 use Rattle.scr_core.specs.declared.bundles.Bundle.{Bundle}
 use Rattle.scr_core.specs.declared.components.Component.{Component}
 use Rattle.scr_core.specs.Steps.{History}
 use Rattle.scr_core.specs.Bundles.{bundles, descriptions_of}
 use Rattle.scr_core.specs.Components.{components}
 use Rattle.scr_core.specs.Periods.{Period, periods, services_so_far}
-use Rattle.scr_core.specs.Scratch.{levels_of, top, satisfied_below, in_order_below, numbers_of}
+use Rattle.scr_core.specs.Scratch.{levels_of, top, satisfied_below, in_order_below}
 
 -- what a journal says
 pub record World : Type 0 where

@@ -1,6 +1,5 @@
-use Rattle.std.proofs.Common.{◌≡◌, ◌∙◌, sym, ap}
+use Rattle.std.proofs.Common.{◌∙◌, sym}
 use Rattle.std.specs.Prelude.{◌==◌, map}
-use Rattle.std.specs.List.{list_any}
 use Rattle.scr_core.specs.declared.components.Component.{Component}
 use Rattle.scr_core.proofs.ListLemmas.{list_any-map}
 use Rattle.scr_core.proofs.passes.is_among.Goals as goal

@@ -1,9 +1,5 @@
-use Rattle.std.proofs.Common.{◌≡◌, ◌∙◌, ◌+◌, ap, sym, suc, add-one, arith, List, ℕ}
-use Rattle.std.specs.Prelude.{map, IfOk}
-use Rattle.scr_core.specs.declared.components.Component.{Component}
-use Rattle.scr_core.specs.declared.passes.Pass.{Pass}
-use Rattle.scr_core.specs.Scratch.{rank, top, satisfied_below, in_order_below}
-use Rattle.scr_core.specs.Passes.{Numbers}
+use Rattle.std.proofs.Common.{◌∙◌, suc, add-one}
+use Rattle.scr_core.specs.Scratch.{top}
 use Rattle.scr_core.proofs.RankLemmas.{satisfied_are, in_order_are}
 use Rattle.scr_core.proofs.passes.run_pass.Goals as goal
 

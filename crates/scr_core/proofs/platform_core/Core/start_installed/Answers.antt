@@ -1,8 +1,7 @@
-use Rattle.std.proofs.Common.{◌≡◌, ◌∙◌, ◌++◌, ◌∷◌, [], ℕ, List, ap, sym, refl, subst}
+use Rattle.std.proofs.Common.{◌≡◌, ◌∙◌, ◌++◌, ◌∷◌, [], ℕ, List, ap, subst}
 use Rattle.std.specs.Prelude.{map}
 use Rattle.component_dto.specs.declared.description.Description.{Description}
 use Rattle.journal_core.specs.declared.entry.Entry.{Entry}
-use Rattle.scr_core.specs.declared.bundles.Bundle.{Bundle}
 use Rattle.scr_core.specs.declared.command.Command.TheVariants.{Start}
 use Rattle.scr_core.specs.declared.command.Reply.TheVariants.{Done}
 use Rattle.scr_core.specs.declared.command.Step.{Step}
