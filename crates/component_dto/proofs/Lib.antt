@@ -1,0 +1,3 @@
+pub mod EachItem
+pub mod TextListLemmas
+pub mod Members

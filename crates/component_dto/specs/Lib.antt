@@ -1,0 +1,4 @@
+pub mod Descriptions
+pub mod Faults
+pub mod Fields
+pub mod TextLists

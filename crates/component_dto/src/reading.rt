@@ -1,0 +1,117 @@
+//! A description read from JSON.
+ghost use Rattle.std.specs.Prelude.{◌≡◌, option_map};
+ghost use Rattle.serde_json.specs.Find.{as_str};
+ghost use Rattle.serde_json.specs.View.{view, items_view};
+ghost use Rattle.component_dto.specs.Faults.{Reads};
+ghost use Rattle.component_dto.specs.Descriptions.{described, description_of, interfaces_of, reference_of, referenced, references_of, texts_of};
+ghost use Rattle.component_dto.specs.Fields.{each};
+
+use crate::fields::{given, has_only, needed_text, text_or};
+use crate::text_lists::each_once;
+use crate::{Description, DescriptionFault, Reference};
+use prop_map::{List, Str};
+use serde_json::Value;
+use std::alloc::Global;
+
+/// Reads a description from a JSON value.
+///
+/// # Errors
+/// `NotBuilt` exactly where the value is no description of the kind that is built so far; `OutOfMemory`.
+pub fn read_description(alloc: Global, json: &Value) -> Result<Description, DescriptionFault>
+    ensures { Reads result (description_of (view json.now)) }
+{
+    let fields = ["name", "implementationClass", "serviceInterfaces", "references"];
+    if !has_only(json, &fields) {
+        return Err(DescriptionFault::NotBuilt);
+    }
+    described(alloc, json)
+}
+
+fn described(alloc: Global, json: &Value) -> Result<Description, DescriptionFault>
+    ensures { Reads result (described (view json.now)) }
+{
+    let implementation_class = needed_text(alloc, json, "implementationClass")?;
+    let name = text_or(alloc, given(json, "name"), &implementation_class)?;
+    let service_interfaces = interfaces(alloc, given(json, "serviceInterfaces"))?;
+    let references = references(alloc, given(json, "references"))?;
+    Ok(Description {
+        name,
+        implementation_class,
+        service_interfaces,
+        references,
+    })
+}
+
+fn interfaces(alloc: Global, json: Option<&Value>) -> Result<List<Str>, DescriptionFault>
+    ensures { Reads result (interfaces_of (option_map (λ v. view v.now) json.entry)) }
+{
+    let texts = texts(alloc, json)?;
+    Ok(each_once(alloc, texts)?)
+}
+
+fn texts(alloc: Global, json: Option<&Value>) -> Result<List<Str>, DescriptionFault>
+    ensures { Reads result (texts_of (option_map (λ v. view v.now) json.entry)) }
+{
+    match json {
+        None => Ok(List::of(Vec::new(alloc))),
+        Some(value) => match value.as_array() {
+            Some(items) => each_text(alloc, items.as_slice()),
+            None => Err(DescriptionFault::NotBuilt),
+        },
+    }
+}
+
+fn each_text(alloc: Global, items: &[Value]) -> Result<List<Str>, DescriptionFault>
+    ensures { Reads result (each as_str (items_view items.now)) }
+{
+    let mut found = Vec::new(alloc);
+    for item in items {
+        match item.as_str() {
+            Some(text) => found.push(Str::of(String::from_str(alloc, text)?))?,
+            None => return Err(DescriptionFault::NotBuilt),
+        }
+    }
+    Ok(List::of(found))
+}
+
+fn references(alloc: Global, json: Option<&Value>) -> Result<List<Reference>, DescriptionFault>
+    ensures { Reads result (references_of (option_map (λ v. view v.now) json.entry)) }
+{
+    match json {
+        None => Ok(List::of(Vec::new(alloc))),
+        Some(value) => match value.as_array() {
+            Some(items) => each_reference(alloc, items.as_slice()),
+            None => Err(DescriptionFault::NotBuilt),
+        },
+    }
+}
+
+fn each_reference(alloc: Global, items: &[Value]) -> Result<List<Reference>, DescriptionFault>
+    ensures { Reads result (each reference_of (items_view items.now)) }
+{
+    let mut found = Vec::new(alloc);
+    for item in items {
+        found.push(reference(alloc, item)?)?;
+    }
+    Ok(List::of(found))
+}
+
+fn reference(alloc: Global, json: &Value) -> Result<Reference, DescriptionFault>
+    ensures { Reads result (reference_of (view json.now)) }
+{
+    if !has_only(json, &["name", "interfaceName"]) {
+        return Err(DescriptionFault::NotBuilt);
+    }
+    referenced(alloc, json)
+}
+
+fn referenced(alloc: Global, json: &Value) -> Result<Reference, DescriptionFault>
+    ensures { Reads result (referenced (view json.now)) }
+{
+    let interface_name = needed_text(alloc, json, "interfaceName")?;
+    let name = text_or(alloc, given(json, "name"), &interface_name)?;
+    Ok(Reference {
+        name,
+        interface_name,
+    })
+}

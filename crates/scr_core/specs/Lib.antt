@@ -1,0 +1,12 @@
+pub mod Steps
+pub mod Bundles
+pub mod Components
+pub mod Scratch
+pub mod Periods
+pub mod Worlds
+pub mod Consequences
+pub mod Replies
+pub mod Legal
+pub mod Readers
+pub mod Calls
+pub mod Cores

@@ -1,0 +1,89 @@
+//! Commands, steps of the journal, replies and refusals.
+ghost use Rattle.std.specs.Prelude.{◌≡◌};
+ghost use Rattle.scr_core.specs.declared.command.CoreFault.TheVariants.{OutOfMemory};
+
+use bundle_doc::BundleDoc;
+use journal_core::GateKey;
+use prop_map::List;
+use std::alloc::{AllocError, AllocFailed};
+
+/// The limits of a platform.
+#[derive(Clone, Copy, Debug, PartialEq, Eq, Drop)]
+pub struct Limits {
+    /// How many entries the journal may have.
+    pub journal: u64,
+    /// How many turns one settling may run.
+    pub turns: u64,
+}
+
+/// What a platform is asked to do.
+#[derive(Debug, PartialEq, Eq, Drop)]
+pub enum Command {
+    /// Install a bundle from a document.
+    Install {
+        /// The document.
+        doc: BundleDoc,
+    },
+    /// Start a bundle.
+    Start {
+        /// The bundle's number.
+        bundle: u64,
+    },
+}
+
+/// What an entry of the journal tells.
+#[derive(Debug, PartialEq, Eq, Drop)]
+pub enum Step {
+    /// A command that changed something.
+    Command(Command),
+}
+
+/// What a command answers.
+#[derive(Clone, Copy, Debug, PartialEq, Eq, Drop)]
+pub enum Reply {
+    /// It is done.
+    Done,
+    /// The number of the bundle.
+    Bundle(u64),
+}
+
+/// A command that wasn't refused.
+#[derive(Debug, PartialEq, Eq, Drop)]
+pub struct Accepted {
+    /// What it answers.
+    pub reply: Reply,
+    /// The gates that were shut. There are none yet, since no instances are made.
+    pub shut: List<GateKey>,
+}
+
+/// Why a command is refused. A refused command changes nothing.
+#[derive(Clone, Copy, Debug, PartialEq, Eq, Drop)]
+pub enum CoreFault {
+    /// There is no bundle of this number. The number 0 counts as that of no bundle.
+    NoBundle {
+        /// The number.
+        bundle: u64,
+    },
+    /// With this document some description would have no level: it would consume itself over others.
+    Cycle,
+    /// There are 128 bundles.
+    BundlesFull,
+    /// There was no memory.
+    OutOfMemory,
+}
+
+impl From<AllocError> for CoreFault {
+    ghost from_gives = { λ _ e. e ≡ OutOfMemory };
+
+    fn from(_: AllocError) -> Self {
+        CoreFault::OutOfMemory
+    }
+}
+
+impl<T: Drop> From<AllocFailed<T>> for CoreFault {
+    ghost from_gives = { λ _ e. e ≡ OutOfMemory };
+
+    fn from(_: AllocFailed<T>) -> Self {
+        CoreFault::OutOfMemory
+    }
+}
