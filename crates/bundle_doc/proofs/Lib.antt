@@ -1,0 +1,2 @@
+pub mod MemberValues
+pub mod Meanings

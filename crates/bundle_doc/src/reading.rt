@@ -1,9 +1,9 @@
 //! A document read from bytes.
 ghost use Rattle.std.specs.Prelude.{◌≡◌, IfOk, map, option_map};
 ghost use Rattle.std.specs.BTreeMap.{values};
-ghost use Rattle.serde_json.specs.View.{view};
+ghost use Rattle.serde_json.specs.View.{members_view, view};
 ghost use Rattle.bundle_doc.specs.Faults.{ReadsBytes, ReadsData};
-ghost use Rattle.bundle_doc.specs.Documents.{bundle_of, components_of, descriptions_in, document_of, documented};
+ghost use Rattle.bundle_doc.specs.Documents.{bundle_of, components_of, descriptions_in, document_of, documented, member_values};
 
 use crate::{BundleDoc, DocFault};
 use component_dto::{Description, given, has_only, needed_text, read_description};
@@ -57,13 +57,17 @@ fn components(alloc: Global, json: Option<&Value>) -> Result<List<Description>, 
     match json {
         None => Ok(List::of(Vec::new(alloc))),
         Some(value) => match value.as_object() {
-            Some(members) => {
-                let values = values_of(alloc, members)?;
-                descriptions(alloc, &values)
-            }
+            Some(members) => entries(alloc, members),
             None => Err(DocFault::NotBuilt),
         },
     }
+}
+
+fn entries(alloc: Global, members: &Map<String, Value>) -> Result<List<Description>, DocFault>
+    ensures { ReadsData result (descriptions_in (member_values (members_view members.now.entries))) }
+{
+    let values = values_of(alloc, members)?;
+    descriptions(alloc, &values)
 }
 
 fn values_of<'v>(

@@ -3,11 +3,11 @@
 
 mod consuming;
 mod fault;
-mod levels;
+mod level_list;
 #[cfg(test)]
 mod tests;
 mod uses;
 
 pub use consuming::{consumes, provides};
 pub use fault::LevelFault;
-pub use levels::levels;
+pub use level_list::levels;

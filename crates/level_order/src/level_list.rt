@@ -1,14 +1,17 @@
 //! The levels of a list of descriptions.
-ghost use Rattle.std.specs.Prelude.{◌≡◌, ◌+◌, ◌<◌, ◌≤◌, ◌^◌, ℕ, IfOk, length, map, replicate, slice_index};
+ghost use Rattle.std.specs.Prelude.{◌≡◌, ◌+◌, ◌-◌, ◌<◌, ◌≤◌, ◌^◌, ℕ, IfOk, length, map, replicate, slice_index};
 ghost use Rattle.std.specs.Bool.{OnTrue, OnFalse};
-ghost use Rattle.level_order.specs.Levels.{HasLevels, SettlesLevels};
-ghost use Rattle.level_order.specs.Uses.{all_uses, level_above, levels_above};
+ghost use Rattle.level_order.specs.Levels.{HasLevels};
+ghost use Rattle.level_order.specs.Uses.{level_above, levels_above};
 
 use crate::LevelFault;
 use crate::uses::all_uses;
 use component_dto::Description;
 use prop_map::{List, OutOfMemory};
 use std::alloc::Global;
+
+// So that a level, which is less than their number, fits in 32 bits.
+const MOST_DESCRIPTIONS: usize = 0xffff_fff0;
 
 /// The level of each description, in their order: 0 where it consumes none of them, else 1 more than the highest level
 /// of those that it consumes.
@@ -19,28 +22,33 @@ use std::alloc::Global;
 pub fn levels(alloc: Global, descriptions: &[Description]) -> Result<List<u32>, LevelFault>
     ensures { HasLevels descriptions.now result }
 {
-    if descriptions.len() >= 0xffff_fff0 {
+    if descriptions.len() > MOST_DESCRIPTIONS {
         return Err(LevelFault::OutOfMemory);
     }
-    let uses = all_uses(alloc, descriptions)?;
-    let levels = settled(alloc, uses.as_slice())?;
-    Ok(List::of(levels))
+    settled_levels(alloc, descriptions)
 }
 
 // Each round takes the levels by those of the round before, until one changes nothing.
-fn settled(alloc: Global, uses: &[List<usize>]) -> Result<Vec<u32>, LevelFault>
-    requires { length uses.now < 2 ^ 32 - 2 }
-    ensures { SettlesLevels uses.now result }
+fn settled_levels(alloc: Global, descriptions: &[Description]) -> Result<List<u32>, LevelFault>
+    requires { length descriptions.now < 2 ^ 32 - 2 }
+    ensures { HasLevels descriptions.now result }
 {
-    let mut levels = vec![in alloc; 0u32; uses.len()]?;
-    for _round in 0..uses.len() + 1 {
-        let next = levels_above(alloc, uses, &levels)?;
+    let uses = all_uses(alloc, descriptions)?;
+    let mut levels = zeros(alloc, descriptions.len())?;
+    for _round in 0..descriptions.len() + 1 {
+        let next = levels_above(alloc, uses.as_slice(), &levels)?;
         if are_equal(&next, &levels) {
-            return Ok(levels);
+            return Ok(List::of(levels));
         }
         levels = next;
     }
     Err(LevelFault::Cycle)
+}
+
+fn zeros(alloc: Global, count: usize) -> Result<Vec<u32>, OutOfMemory>
+    ensures { IfOk result (λ v. v.items ≡ replicate count 0) }
+{
+    vec![in alloc; 0u32; count]
 }
 
 fn levels_above(
