@@ -1,5 +1,5 @@
 -- The members of an object, over the entries of its map.
-use Rattle.std.proofs.Common.{◌≡◌, ℕ, List, [], ◌∷◌, ap, refl, Bool, ◌&&◌, ◌||◌, String, Global, string_bytes}
+use Rattle.std.proofs.Common.{◌≡◌, ℕ, List, [], ◌∷◌, ap, refl, ◌&&◌, ◌||◌, String, Global, string_bytes}
 use Rattle.std.specs.List.{list_all}
 use Rattle.std.specs.Option.{is_some}
 use Rattle.serde_json.specs.Find.{as_null}

@@ -1,5 +1,5 @@
 -- A list of texts that is taken in text by text.
-use Rattle.std.proofs.Common.{◌≡◌, ℕ, List, [], ◌∷◌, ◌++◌, ap, sym, ◌∙◌, refl, Bool, true, false, cond, not, ◌||◌, append-nil, Bor}
+use Rattle.std.proofs.Common.{◌≡◌, ℕ, List, [], ◌∷◌, ◌++◌, ap, sym, ◌∙◌, refl, Bool, true, false, cond, not, ◌||◌, append-nil}
 use Rattle.std.specs.Prelude.{map}
 use Rattle.std.specs.List.{list_any, filter}
 use Rattle.std.specs.Str.{bytes_eq}
@@ -45,8 +45,8 @@ each_once-more [] t = refl
 each_once-more (x ∷ xs) t =
     let more : List (List ℕ) → List (List ℕ) = λ w. x ∷ filter (λ y. not (bytes_eq y x)) w in
     ap more (each_once-more xs t) ∙ cases (bytes_eq x t) refl where
-  cases : (b : Bool) → b ≡ bytes_eq x t
-      → x ∷ filter (λ y. not (bytes_eq y x)) (cond (has_text (each_once xs) t) (each_once xs) (each_once xs ++ t ∷ []))
-      ≡ cond (bytes_eq x t || has_text (filter (λ y. not (bytes_eq y x)) (each_once xs)) t) (x ∷ filter (λ y. not (bytes_eq y x)) (each_once xs)) (x ∷ (filter (λ y. not (bytes_eq y x)) (each_once xs) ++ t ∷ []))
-  cases true is = rw (← is) (ap (λ w. x ∷ w) (drops x t (ap (λ w. bytes_eq t w) (same_text x t (sym is)) ∙ text_itself t) (each_once xs) (has_text (each_once xs) t)))
-  cases false is = rw (← is, filter_keeps x t (differs x t (sym is)) (each_once xs)) (stays x t (differs x t (sym is)) (each_once xs) (has_text (each_once xs) t))
+      cases : (b : Bool) → b ≡ bytes_eq x t
+          → x ∷ filter (λ y. not (bytes_eq y x)) (cond (has_text (each_once xs) t) (each_once xs) (each_once xs ++ t ∷ []))
+          ≡ cond (bytes_eq x t || has_text (filter (λ y. not (bytes_eq y x)) (each_once xs)) t) (x ∷ filter (λ y. not (bytes_eq y x)) (each_once xs)) (x ∷ (filter (λ y. not (bytes_eq y x)) (each_once xs) ++ t ∷ []))
+      cases true is = rw (← is) (ap (λ w. x ∷ w) (drops x t (ap (λ w. bytes_eq t w) (same_text x t (sym is)) ∙ text_itself t) (each_once xs) (has_text (each_once xs) t)))
+      cases false is = rw (← is, filter_keeps x t (differs x t (sym is)) (each_once xs)) (stays x t (differs x t (sym is)) (each_once xs) (has_text (each_once xs) t))

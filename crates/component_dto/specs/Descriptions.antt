@@ -1,6 +1,8 @@
 -- A description as JSON data: ComponentDescriptionDTO and ReferenceDTO of OSGi Compendium 8, chapter 112. The defaults of
 -- the name, of a reference's name and of the lists are our own.
-use Rattle.std.specs.Prelude.{ℕ, List, [], ◌∷◌, codes, Bool, Option, Some, None, option_and_then, option_map, if◌then◌else◌}
+use Rattle.std.specs.Prelude.{ℕ, List, [], ◌∷◌, codes, Bool, true, not, ◌&&◌, Option, Some, None, option_and_then, option_map, if◌then◌else◌}
+use Rattle.std.specs.List.{list_any}
+use Rattle.std.specs.Str.{bytes_eq}
 use Rattle.serde_json.specs.Data.{Data}
 use Rattle.serde_json.specs.Find.{as_str, as_array}
 use Rattle.component_dto.specs.declared.description.Description.{Description}
@@ -31,10 +33,18 @@ reference_fields = codes "name" ∷ codes "interfaceName" ∷ []
 abbrev pub reference_of : Data → Option Reference
 reference_of d = if has_only reference_fields d then referenced d else None
 
--- the references of a list, by default none
+-- no two of these references have one name
+abbrev pub differ_in_name : List Reference → Bool
+differ_in_name [] = true
+differ_in_name (r ∷ rs) = not (list_any (λ (s : Reference). bytes_eq s.name r.name) rs) && differ_in_name rs
+
+abbrev pub told_apart : List Reference → Option (List Reference)
+told_apart rs = if differ_in_name rs then Some rs else None
+
+-- the references of a list, each with a name of its own; by default none
 abbrev pub references_of : Option Data → Option (List Reference)
 references_of None = Some []
-references_of (Some d) = option_and_then (each reference_of) (as_array d)
+references_of (Some d) = option_and_then told_apart (option_and_then (each reference_of) (as_array d))
 
 -- a description of this class; its name is by default that of the class
 abbrev pub description_with : Data → List ℕ → Option Description

@@ -1,9 +1,11 @@
 //! A description read from JSON.
 ghost use Rattle.std.specs.Prelude.{◌≡◌, option_map};
+ghost use Rattle.std.specs.List.{list_any};
+ghost use Rattle.std.specs.Str.{bytes_eq};
 ghost use Rattle.serde_json.specs.Find.{as_str};
 ghost use Rattle.serde_json.specs.View.{view, items_view};
 ghost use Rattle.component_dto.specs.Faults.{Reads};
-ghost use Rattle.component_dto.specs.Descriptions.{described, description_of, interfaces_of, reference_of, referenced, references_of, texts_of};
+ghost use Rattle.component_dto.specs.Descriptions.{described, description_of, differ_in_name, interfaces_of, reference_of, referenced, references_of, texts_of, told_apart};
 ghost use Rattle.component_dto.specs.Fields.{each};
 
 use crate::fields::{given, has_only, needed_text, text_or};
@@ -20,7 +22,12 @@ use std::alloc::Global;
 pub fn read_description(alloc: Global, json: &Value) -> Result<Description, DescriptionFault>
     ensures { Reads result (description_of (view json.now)) }
 {
-    let fields = ["name", "implementationClass", "serviceInterfaces", "references"];
+    let fields = [
+        "name",
+        "implementationClass",
+        "serviceInterfaces",
+        "references",
+    ];
     if !has_only(json, &fields) {
         return Err(DescriptionFault::NotBuilt);
     }
@@ -80,10 +87,38 @@ fn references(alloc: Global, json: Option<&Value>) -> Result<List<Reference>, De
     match json {
         None => Ok(List::of(Vec::new(alloc))),
         Some(value) => match value.as_array() {
-            Some(items) => each_reference(alloc, items.as_slice()),
+            Some(items) => told_apart(each_reference(alloc, items.as_slice())?),
             None => Err(DescriptionFault::NotBuilt),
         },
     }
+}
+
+// These references, where each has a name of its own.
+fn told_apart(references: List<Reference>) -> Result<List<Reference>, DescriptionFault>
+    ensures { Reads result (told_apart references) }
+{
+    if differ_in_name(references.as_slice()) {
+        Ok(references)
+    } else {
+        Err(DescriptionFault::NotBuilt)
+    }
+}
+
+fn differ_in_name(references: &[Reference]) -> bool
+    ensures { result ≡ differ_in_name references.now }
+{
+    match references {
+        [] => true,
+        [first, rest @ ..] => !has_name(rest, &first.name) && differ_in_name(rest),
+    }
+}
+
+fn has_name(references: &[Reference], name: &Str) -> bool
+    ensures { result ≡ list_any (λ r. bytes_eq r.name name.now) references.now }
+{
+    references
+        .iter()
+        .any(|reference| reference.name.as_str() == name.as_str())
 }
 
 fn each_reference(alloc: Global, items: &[Value]) -> Result<List<Reference>, DescriptionFault>

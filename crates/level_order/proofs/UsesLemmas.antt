@@ -1,5 +1,5 @@
 -- That the levels by the places are those by the descriptions.
-use Rattle.std.proofs.Common.{◌≡◌, ◌<◌, ℕ, suc, ◌+◌, List, [], ◌∷◌, ◌++◌, length, get_or, drop, ap, sym, ◌∙◌, refl, Bool, true, false, cond, add-one, drop-cons, arith, zero, length-append, append_assoc}
+use Rattle.std.proofs.Common.{◌≡◌, ◌<◌, ℕ, ◌+◌, List, [], ◌∷◌, ◌++◌, length, get_or, drop, ap, sym, ◌∙◌, refl, true, false, cond, add-one, drop-cons, arith, length-append, append_assoc}
 use Rattle.std.specs.Prelude.{max, map}
 use Rattle.component_dto.specs.declared.description.Description.{Description}
 use Rattle.level_order.specs.Levels.{consumes, level_from}

@@ -2,13 +2,19 @@
 ghost use Rattle.std.specs.Prelude.{◌≡◌};
 ghost use Rattle.level_order.specs.declared.fault.LevelFault.TheVariants.{OutOfMemory};
 
+use prop_map::{List, Str};
 use std::alloc::{AllocError, AllocFailed};
 
 /// Why descriptions have no levels.
-#[derive(Clone, Copy, Debug, PartialEq, Eq)]
+#[derive(Debug, PartialEq, Eq, Drop)]
 pub enum LevelFault {
     /// Some descriptions lie on a cycle.
-    Cycle,
+    Cycle {
+        /// The names of a cycle's descriptions, each of which consumes the next one: it begins at the first description
+        /// that lies on a cycle, is a shortest cycle through it, of several the one whose list of places is the least,
+        /// and names its first again at its end.
+        path: List<Str>,
+    },
     /// There was no memory.
     OutOfMemory,
 }

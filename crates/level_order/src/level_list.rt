@@ -1,10 +1,12 @@
 //! The levels of a list of descriptions.
-ghost use Rattle.std.specs.Prelude.{◌≡◌, ◌+◌, ◌-◌, ◌<◌, ◌≤◌, ◌^◌, ℕ, IfOk, length, map, replicate, slice_index};
+ghost use Rattle.std.specs.Prelude.{◌≡◌, ◌+◌, ◌-◌, ◌<◌, ◌≤◌, ◌^◌, ℕ, IfOk, MatchOption, length, map, replicate, slice_index};
 ghost use Rattle.std.specs.Bool.{OnTrue, OnFalse};
-ghost use Rattle.level_order.specs.Levels.{HasLevels};
-ghost use Rattle.level_order.specs.Uses.{level_above, levels_above};
+ghost use Rattle.level_order.specs.Answers.{HasLevels};
+ghost use Rattle.level_order.specs.Levels.{AreLevels, IsAcyclic};
+ghost use Rattle.level_order.specs.Uses.{all_uses, level_above, levels_above};
 
 use crate::LevelFault;
+use crate::told_cycle::told_names;
 use crate::uses::all_uses;
 use component_dto::Description;
 use prop_map::{List, OutOfMemory};
@@ -17,7 +19,7 @@ const MOST_DESCRIPTIONS: usize = 0xffff_fff0;
 /// of those that it consumes.
 ///
 /// # Errors
-/// `Cycle` exactly where no list of levels is one; `OutOfMemory`, which is also the answer to more descriptions than
+/// `Cycle`, with the told path, exactly where no list of levels is one; `OutOfMemory`, which is also the answer to more descriptions than
 /// levels in 32 bits can tell apart.
 pub fn levels(alloc: Global, descriptions: &[Description]) -> Result<List<u32>, LevelFault>
     ensures { HasLevels descriptions.now result }
@@ -25,24 +27,34 @@ pub fn levels(alloc: Global, descriptions: &[Description]) -> Result<List<u32>, 
     if descriptions.len() > MOST_DESCRIPTIONS {
         return Err(LevelFault::OutOfMemory);
     }
-    settled_levels(alloc, descriptions)
+    let uses = all_uses(alloc, descriptions)?;
+    match settled_levels(alloc, descriptions, uses.as_slice())? {
+        Some(levels) => Ok(List::of(levels)),
+        None => Err(LevelFault::Cycle {
+            path: told_names(alloc, descriptions, uses.as_slice())?,
+        }),
+    }
 }
 
 // Each round takes the levels by those of the round before, until one changes nothing.
-fn settled_levels(alloc: Global, descriptions: &[Description]) -> Result<List<u32>, LevelFault>
-    requires { length descriptions.now < 2 ^ 32 - 2 }
-    ensures { HasLevels descriptions.now result }
+fn settled_levels(
+    alloc: Global,
+    descriptions: &[Description],
+    uses: &[List<usize>],
+) -> Result<Option<Vec<u32>>, OutOfMemory>
+    requires small { length descriptions.now < 2 ^ 32 - 2 }
+    requires theirs { uses.now ≡ all_uses descriptions.now }
+    ensures { IfOk result (λ found. MatchOption found (¬ IsAcyclic descriptions.now) (λ v. AreLevels descriptions.now v.items)) }
 {
-    let uses = all_uses(alloc, descriptions)?;
     let mut levels = zeros(alloc, descriptions.len())?;
     for _round in 0..descriptions.len() + 1 {
-        let next = levels_above(alloc, uses.as_slice(), &levels)?;
+        let next = levels_above(alloc, uses, &levels)?;
         if are_equal(&next, &levels) {
-            return Ok(List::of(levels));
+            return Ok(Some(levels));
         }
         levels = next;
     }
-    Err(LevelFault::Cycle)
+    Ok(None)
 }
 
 fn zeros(alloc: Global, count: usize) -> Result<Vec<u32>, OutOfMemory>

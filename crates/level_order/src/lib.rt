@@ -3,11 +3,15 @@
 
 mod consuming;
 mod fault;
+mod least_levels;
 mod level_list;
+mod steps;
 #[cfg(test)]
 mod tests;
+mod told_cycle;
 mod uses;
 
 pub use consuming::{consumes, provides};
 pub use fault::LevelFault;
+pub use least_levels::note_least;
 pub use level_list::levels;

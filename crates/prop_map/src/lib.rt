@@ -3,15 +3,23 @@
 #![tactic(auto)]
 
 mod copies;
+mod json_properties;
+mod key;
 mod list;
 mod memory;
+mod prop_fault;
+mod properties;
 mod reference_words;
 #[cfg(test)]
 mod tests;
 mod text;
+mod value;
 
 pub use copies::Copies;
 pub use list::List;
 pub use memory::OutOfMemory;
+pub use prop_fault::PropFault;
+pub use properties::{Properties, Property};
 pub use reference_words::{Cardinality, Policy, PolicyOption};
 pub use text::Str;
+pub use value::Value;

@@ -102,12 +102,12 @@ lines4 = refl
 
 is_legal : IsLegal past4
 is_legal = (
-  record { step = refl; closed = refl; opened = refl; stopped = refl; satisfied = refl },
+  record { step = refl; closed = refl; opened = refl; stopped = refl; satisfied = λ n. refl },
   (
-    record { step = refl; closed = refl; opened = refl; stopped = refl; satisfied = refl },
+    record { step = refl; closed = refl; opened = refl; stopped = refl; satisfied = λ n. refl },
     (
-      record { step = refl; closed = refl; opened = refl; stopped = refl; satisfied = refl },
-      (record { step = refl; closed = refl; opened = refl; stopped = refl; satisfied = refl }, tt),
+      record { step = refl; closed = refl; opened = refl; stopped = refl; satisfied = λ n. refl },
+      (record { step = refl; closed = refl; opened = refl; stopped = refl; satisfied = λ n. refl }, tt),
     ),
   ),
 )

@@ -1,1 +1,12 @@
 pub mod FirstRun
+pub mod ListLemmas
+pub mod ScratchLemmas
+pub mod RankLemmas
+pub mod Members
+pub mod LevelsOf
+pub mod PeriodLemmas
+pub mod Following
+pub mod Appends
+pub mod Commanding
+pub mod LineLemmas
+pub mod Answering

@@ -24,3 +24,7 @@ coming bs number (Commanded (Start bundle)) = option_map_or (λ (b : Bundle). nu
 abbrev pub components : History → List Component
 components [] = []
 components (entry ∷ past) = components past ++ coming (bundles past) (length (components past) + 1) entry.step
+
+-- the component configurations after a step
+abbrev pub components_by : History → Step → List Component
+components_by past step = components past ++ coming (bundles past) (length (components past) + 1) step

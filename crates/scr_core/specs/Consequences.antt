@@ -16,12 +16,26 @@ is_silent c = is_empty c.description.service_interfaces
 abbrev pub closing : List ℕ → List Component → List Component → List ℕ
 closing open_ones ordered satisfied = numbers_of (filter (λ c. has open_ones c.number && not (has (numbers_of satisfied) c.number)) ordered)
 
+-- what opens with the next service number: its service has that number, or 0 where it registers none
+abbrev pub opened_one : ℕ → Component → Opened
+opened_one next c = record { configuration = c.number; service = if is_silent c then 0 else next }
+
+abbrev pub next_after : ℕ → Component → ℕ
+next_after next c = if is_silent c then next else next + 1
+
 -- new services are numbered on
 abbrev pub opened_from : ℕ → List Component → List Opened
 opened_from next [] = []
-opened_from next (c ∷ cs) =
-    if is_silent c then record { configuration = c.number; service = 0 } ∷ opened_from next cs else record { configuration = c.number; service = next } ∷ opened_from (next + 1) cs
+opened_from next (c ∷ cs) = opened_one next c ∷ opened_from (next_after next c) cs
+
+-- the number of the next service after these opened
+abbrev pub next_from : ℕ → List Component → ℕ
+next_from next [] = next
+next_from next (c ∷ cs) = next_from (next_after next c) cs
 
 -- what opens: what is satisfied and wasn't open
+abbrev pub opening_ones : List ℕ → List Component → List Component
+opening_ones open_ones satisfied = filter (λ c. not (has open_ones c.number)) satisfied
+
 abbrev pub opening : List ℕ → List Component → ℕ → List Opened
-opening open_ones satisfied next = opened_from next (filter (λ c. not (has open_ones c.number)) satisfied)
+opening open_ones satisfied next = opened_from next (opening_ones open_ones satisfied)

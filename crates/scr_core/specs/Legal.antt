@@ -1,6 +1,5 @@
 -- A legal journal: each entry is what may come after those before it. Our own.
-use Rattle.std.specs.Prelude.{◌≡◌, ℕ, ◌+◌, ◌&&◌, List, [], ◌∷◌, Bool, true, ⊤}
-use Rattle.std.specs.List.{list_all}
+use Rattle.std.specs.Prelude.{◌≡◌, ℕ, ◌+◌, List, [], ◌∷◌, true, ⊤}
 use Rattle.journal_core.specs.declared.entry.Entry.{Entry}
 use Rattle.scr_core.specs.declared.command.Step.{Step}
 use Rattle.scr_core.specs.declared.command.Step.TheVariants.{Command as Commanded}
@@ -15,17 +14,13 @@ use Rattle.scr_core.specs.Replies.{changes}
 abbrev pub MayCome : History → Step → Type 0
 MayCome past (Commanded command) = changes past command ≡ true
 
--- the numbers of one list are those of the other
-abbrev pub same_set : List ℕ → List ℕ → Bool
-same_set xs ys = list_all (has ys) xs && list_all (has xs) ys
-
 -- an entry may follow a history: its step may come, its lists are what follows from it, and afterwards just the satisfied component configurations are open
 pub record Follows (entry : Entry Step) (past : History) : Type 0 where
   pub step : MayCome past entry.step
   pub closed : entry.closed ≡ closing (open_in (periods past)) (pass_order (world_of (entry ∷ past))) (satisfied (world_of (entry ∷ past)))
   pub opened : entry.opened ≡ opening (open_in (periods past)) (satisfied (world_of (entry ∷ past))) (services_so_far past + 1)
   pub stopped : entry.stopped ≡ []
-  pub satisfied : same_set (open_in (periods (entry ∷ past))) (numbers_of (satisfied (world_of (entry ∷ past)))) ≡ true
+  pub satisfied : (number : ℕ) → has (open_in (periods (entry ∷ past))) number ≡ has (numbers_of (satisfied (world_of (entry ∷ past)))) number
 
 -- each entry may follow those before it
 abbrev pub IsLegal : History → Type 0

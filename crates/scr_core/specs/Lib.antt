@@ -1,12 +1,16 @@
+pub mod LevelFaults
 pub mod Steps
 pub mod Bundles
 pub mod Components
 pub mod Scratch
+pub mod Ranked
 pub mod Periods
 pub mod Worlds
 pub mod Consequences
+pub mod Passes
 pub mod Replies
 pub mod Legal
+pub mod Tables
 pub mod Readers
 pub mod Calls
 pub mod Cores

@@ -30,9 +30,9 @@ same_numbers (x ∷ xs) (y ∷ ys) = (x == y) && same_numbers xs ys
 
 -- every description has a level: one step more changes nothing
 abbrev pub has_levels : List Description → Bool
-has_levels ds = same_numbers (levels_within (length ds + 1) ds) (levels_of ds)
+has_levels ds = same_numbers (levels_within (suc (length ds)) ds) (levels_of ds)
 
--- 1 more than the highest level
+-- 1 more than the highest of these levels; no description stands higher above them
 abbrev pub top : List ℕ → ℕ
 top [] = 0
 top (l ∷ ls) = max (l + 1) (top ls)

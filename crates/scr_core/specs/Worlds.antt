@@ -1,5 +1,5 @@
 -- The world of a journal: what it says of bundles, component configurations and their periods.
-use Rattle.std.specs.Prelude.{ℕ, List}
+use Rattle.std.specs.Prelude.{ℕ, suc, List}
 use Rattle.component_dto.specs.declared.description.Description.{Description}
 use Rattle.scr_core.specs.declared.bundles.Bundle.{Bundle}
 use Rattle.scr_core.specs.declared.components.Component.{Component}
@@ -21,8 +21,8 @@ world_of history = record { bundles = bundles history; components = components h
 
 -- the satisfied component configurations, by level, then by number
 abbrev pub satisfied : World → List Component
-satisfied w = let ds = descriptions_of w.bundles in let levels = levels_of ds in satisfied_below ds levels w.components (top levels)
+satisfied w = let ds = descriptions_of w.bundles in let levels = levels_of ds in satisfied_below ds levels w.components (suc (top levels))
 
 -- the component configurations in the order of the pass: by level, then by number
 abbrev pub pass_order : World → List Component
-pass_order w = let ds = descriptions_of w.bundles in let levels = levels_of ds in in_order_below ds levels w.components (top levels)
+pass_order w = let ds = descriptions_of w.bundles in let levels = levels_of ds in in_order_below ds levels w.components (suc (top levels))

@@ -4,6 +4,7 @@ ghost use Rattle.scr_core.specs.declared.command.CoreFault.TheVariants.{OutOfMem
 
 use bundle_doc::BundleDoc;
 use journal_core::GateKey;
+use level_order::LevelFault;
 use prop_map::List;
 use std::alloc::{AllocError, AllocFailed};
 
@@ -77,6 +78,20 @@ impl From<AllocError> for CoreFault {
 
     fn from(_: AllocError) -> Self {
         CoreFault::OutOfMemory
+    }
+}
+
+impl From<LevelFault> for CoreFault {
+    ghost use Rattle.std.specs.Prelude.{◌≡◌};
+    ghost use Rattle.scr_core.specs.LevelFaults.{fault_of};
+
+    ghost from_gives = { λ f e. e ≡ fault_of f };
+
+    fn from(fault: LevelFault) -> Self {
+        match fault {
+            LevelFault::Cycle { .. } => CoreFault::Cycle,
+            LevelFault::OutOfMemory => CoreFault::OutOfMemory,
+        }
     }
 }
 

@@ -3,12 +3,17 @@
 //!
 //! A [`Core`] takes commands and keeps a journal of those that changed something. All that it answers follows from
 //! the journal by the definitions in `specs/`.
-#![tactic(auto)]
+#![tactic(auto, using(crate::proofs::Appends::history_append))]
 
 mod bundles;
 mod command;
 mod components;
+mod entries;
+mod passes;
 mod platform_core;
+mod scratch;
+#[cfg(test)]
+mod tests;
 
 pub use bundles::{Bundle, BundleState};
 pub use command::{Accepted, Command, CoreFault, Limits, Reply, Step};

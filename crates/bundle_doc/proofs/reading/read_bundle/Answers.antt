@@ -1,5 +1,4 @@
-use Rattle.std.proofs.Common.{rules, ◌≡◌, Option, None}
-use Rattle.serde_json.specs.Read.{read}
+use Rattle.std.proofs.Common.{rules}
 use Rattle.serde_json.specs.View.{view}
 use Rattle.bundle_doc.proofs.Meanings.{json_answer, json_none}
 use Rattle.bundle_doc.proofs.reading.read_bundle.Goals as goal

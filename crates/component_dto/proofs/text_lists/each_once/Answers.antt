@@ -1,5 +1,4 @@
-use Rattle.std.proofs.Common.{◌≡◌, ◌∙◌, ap, sym, ◌++◌, ◌∷◌, []}
-use Rattle.component_dto.specs.TextLists.{each_once, has_text}
+use Rattle.std.proofs.Common.{◌∙◌, sym}
 use Rattle.component_dto.proofs.TextListLemmas.{each_once-more}
 use Rattle.component_dto.proofs.text_lists.each_once.Goals as goal
 

@@ -1,0 +1,7 @@
+pub mod Numbers
+pub mod RangeSteps
+pub mod Ranges
+pub mod Readings
+pub mod Steps
+pub mod VersionSteps
+pub mod Versions
