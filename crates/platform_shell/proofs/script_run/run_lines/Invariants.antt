@@ -1,0 +1,15 @@
+use Rattle.std.proofs.Common.{◌≡◌, ◌≤◌, ◌+◌, length}
+use Rattle.platform_shell.specs.Reading.{coming}
+use Rattle.platform_shell.proofs.Progress.{Progress}
+use Rattle.platform_shell.proofs.script_run.run_lines.Given as goal
+
+abbrev pub invariant-loop-line : goal.invariant-loop-line
+invariant-loop-line g l = record {
+  progress : Progress (g.In.Source.left l.initial.input) (coming l.ahead.ended (g.In.Source.left l.input)) l.ahead.bytes.items l.initial.platform.journal l.platform.journal (g.Out.Sink.written l.initial.output) (g.Out.Sink.written l.output) l.number;
+  limits : l.platform.limits ≡ l.initial.platform.limits;
+  reads_later : g.In.Source.fault_count l.initial.input ≤ g.In.Source.fault_count l.input;
+  writes_later : g.Out.Sink.fault_count l.initial.output ≤ g.Out.Sink.fault_count l.output;
+}
+
+abbrev pub decreases-loop-line : goal.decreases-loop-line
+decreases-loop-line g l = g.In.Source.number l.input + length l.ahead.bytes.items
