@@ -1,9 +1,11 @@
 //! The run of a script: a line, its reply, and so on to the end.
-ghost use Rattle.std.specs.Prelude.{◌≡◌, ◌≢◌, ℕ, MatchOption, None, map};
+ghost use Rattle.std.specs.Prelude.{◌≡◌, ◌≢◌, IfOk, ℕ, MatchOption, None, map, string_bytes};
 ghost use Rattle.std.specs.Io.KnownBytes.{Keeps};
 ghost use Rattle.fault_count.specs.Steps.{Rose};
 ghost use Rattle.scr_core.specs.Legal.{IsLegal};
+ghost use Rattle.scr_core.specs.Readers.{component_lines};
 ghost use Rattle.scr_core.specs.Steps.{history_of};
+ghost use Rattle.platform_shell.specs.ReplyTexts.{components_text};
 ghost use Rattle.platform_shell.specs.Runs.{EndsScript, HasRunOver, RunsAsked};
 ghost use Rattle.platform_shell.specs.Statuses.{HasCause, IsEnding, words_fault};
 
@@ -103,12 +105,16 @@ fn run_asked(
     match asked {
         ShellLine::Silent | ShellLine::Quit => Ok(String::new(alloc)),
         ShellLine::Refused(fault) => line_fault_text(alloc, fault),
-        ShellLine::Components => {
-            let rows = platform.core().component_rows(alloc)?;
-            components_text(alloc, rows.as_slice())
-        }
+        ShellLine::Components => run_components(alloc, platform),
         ShellLine::Command(command) => run_command(alloc, platform, command),
     }
+}
+
+fn run_components(alloc: Global, platform: &Platform) -> Result<String, OutOfMemory>
+    ensures { IfOk result (λ text. string_bytes text ≡ components_text (component_lines (history_of platform.now.journal))) }
+{
+    let rows = platform.core().component_rows(alloc)?;
+    components_text(alloc, rows.as_slice())
 }
 
 fn run_command(
