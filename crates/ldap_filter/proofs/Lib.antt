@@ -1,0 +1,6 @@
+pub mod Continuations
+pub mod Greedy
+pub mod Numbers
+pub mod Runs
+pub mod StepsBack
+pub mod StepsOn
