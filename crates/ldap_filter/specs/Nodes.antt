@@ -13,5 +13,5 @@ view_step (Node-F.Present attribute) = Present attribute
 view_step (Node-F.Compare comparison attribute value) = Compare comparison attribute value
 view_step (Node-F.Parts attribute parts) = Parts attribute parts
 
-abbrev pub view : Node → Tree
-view = fold-Node Tree view_step
+abbrev pub tree_of : Node → Tree
+tree_of = fold-Node Tree view_step

@@ -2,7 +2,11 @@
 #![tactic(auto)]
 
 mod comparison;
+mod filter;
 mod matching;
 mod node;
+mod steps;
 
 pub use comparison::Comparison;
+pub use filter::Filter;
+pub use steps::Steps;
