@@ -4,3 +4,4 @@ pub mod Numbers
 pub mod Runs
 pub mod StepsBack
 pub mod StepsOn
+pub mod Values

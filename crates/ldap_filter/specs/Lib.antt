@@ -2,6 +2,7 @@ pub mod Machine
 pub mod Matching
 pub mod Nodes
 pub mod Places
+pub mod Reading
 pub mod Searching
 pub mod Spelling
 pub mod TreeCodes

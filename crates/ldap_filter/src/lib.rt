@@ -3,10 +3,14 @@
 
 mod comparison;
 mod filter;
+mod filter_fault;
 mod matching;
+mod mode;
 mod node;
+mod reader;
 mod steps;
 
 pub use comparison::Comparison;
 pub use filter::Filter;
+pub use filter_fault::FilterFault;
 pub use steps::Steps;
