@@ -3,7 +3,7 @@ ghost use Rattle.ldap_filter.specs.Machine.{Frame as OpenFrame, Wanted, Opened, 
 ghost use Rattle.ldap_filter.specs.Nodes.{tree_of};
 ghost use Rattle.ldap_filter.specs.Reading.{stack_of, mode_of, Took, wide, read_char, is_star_alone};
 ghost use Rattle.ldap_filter.specs.Spelling.{has_stars, is_attribute};
-ghost use Rattle.std.specs.Prelude.{◌≡◌, ◌++◌, ◌∷◌, ◌<◌, ◌≤◌, [], List, if◌then◌else◌, IfOk, Some, encode_utf8, string_bytes};
+ghost use Rattle.std.specs.Prelude.{◌≡◌, ◌++◌, ◌∷◌, ◌<◌, ◌≤◌, [], List, if◌then◌else◌, option_map, IfOk, Some, encode_utf8, string_bytes};
 
 use crate::Comparison;
 use crate::mode::{Comparing, Frame, Mode, Stop};
@@ -278,5 +278,93 @@ fn closed(alloc: Global, frames: &mut Vec<Frame>, node: Node) -> Result<Mode, St
         }
         Some(Frame::Not) => Ok(Mode::After(Node::Not(Box::new(alloc, node)?))),
         None => Err(Stop::Unexpected),
+    }
+}
+
+fn continued(frames: &mut Vec<Frame>, node: Node) -> Result<Mode, Stop>
+    ensures { Took result (stack_of frames.old.items) (After (tree_of node)) 40 (continued (stack_of frames.old.items) (tree_of node)) (stack_of frames.new.items) }
+{
+    let is_full = frames.len() >= LEVELS;
+    match frames.pop() {
+        Some(Frame::Every(mut nodes)) => {
+            if is_full {
+                return Err(Stop::TooDeep);
+            }
+            nodes.push(node)?;
+            frames.push(Frame::Every(nodes))?;
+            Ok(Mode::Opened)
+        }
+        Some(Frame::Any(mut nodes)) => {
+            if is_full {
+                return Err(Stop::TooDeep);
+            }
+            nodes.push(node)?;
+            frames.push(Frame::Any(nodes))?;
+            Ok(Mode::Opened)
+        }
+        Some(Frame::Not) | None => Err(Stop::Unexpected),
+    }
+}
+
+fn on_after(alloc: Global, frames: &mut Vec<Frame>, node: Node, c: char) -> Result<Mode, Stop>
+    ensures { Took result (stack_of frames.old.items) (After (tree_of node)) c (on_after (stack_of frames.old.items) (tree_of node) c) (stack_of frames.new.items) }
+{
+    match c {
+        ' ' => Ok(Mode::After(node)),
+        ')' => closed(alloc, frames, node),
+        '(' => continued(frames, node),
+        _ => Err(Stop::Unexpected),
+    }
+}
+
+fn on_ascii(alloc: Global, frames: &mut Vec<Frame>, mode: Mode, c: char) -> Result<Mode, Stop>
+    requires { c < 128 }
+    ensures { Took result (stack_of frames.old.items) (mode_of mode) c (step (stack_of frames.old.items) (mode_of mode) c) (stack_of frames.new.items) }
+{
+    match mode {
+        Mode::Wanted => on_wanted(frames.as_slice(), c),
+        Mode::Opened => on_opened(alloc, frames, c),
+        Mode::Attribute { name, blanks } => on_attribute(alloc, name, blanks, c),
+        Mode::Operator { comparison, name } => on_operator(alloc, comparison, name, c),
+        Mode::Valued(value) => on_valued(alloc, value, c),
+        Mode::Escaped(value) => Ok(longer_ascii(value, c)?),
+        Mode::After(node) => on_after(alloc, frames, node, c),
+    }
+}
+
+fn on_wide(alloc: Global, mode: Mode, c: char) -> Result<Mode, Stop>
+    requires { 128 ≤ c }
+    ensures { (fs : List OpenFrame) → Took result fs (mode_of mode) c (option_map (λ m. (fs, m)) (wide (mode_of mode) (encode_utf8 c))) fs }
+{
+    match mode {
+        Mode::Opened => {
+            let name = pushed(String::new(alloc), c)?;
+            let blanks = String::new(alloc);
+            Ok(Mode::Attribute { name, blanks })
+        }
+        Mode::Attribute { mut name, blanks } => {
+            let behind = pushed(blanks, c)?;
+            name.push_str(behind.as_str())?;
+            let blanks = String::new(alloc);
+            Ok(Mode::Attribute { name, blanks })
+        }
+        Mode::Valued(value) | Mode::Escaped(value) => Ok(longer(value, c)?),
+        Mode::Wanted | Mode::Operator { .. } | Mode::After(_) => Err(Stop::Unexpected),
+    }
+}
+
+/// Reads one character. After a stop the open filters say nothing.
+pub(crate) fn read(
+    alloc: Global,
+    frames: &mut Vec<Frame>,
+    mode: Mode,
+    c: char,
+) -> Result<Mode, Stop>
+    ensures { Took result (stack_of frames.old.items) (mode_of mode) c (read_char (stack_of frames.old.items) (mode_of mode) c) (stack_of frames.new.items) }
+{
+    if c.is_ascii() {
+        on_ascii(alloc, frames, mode, c)
+    } else {
+        on_wide(alloc, mode, c)
     }
 }
