@@ -2,6 +2,9 @@ pub mod Continuations
 pub mod Greedy
 pub mod Numbers
 pub mod Runs
+pub mod SoFar
+pub mod Standing
 pub mod StepsBack
 pub mod StepsOn
 pub mod Values
+pub mod WideChars

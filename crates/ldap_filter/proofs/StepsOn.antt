@@ -68,7 +68,7 @@ none_of false false true e = absurd (false≢true e)
 none_of false false false e = (refl, refl, refl)
 
 -- an attribute's first character goes into a name
-opened_name : (frames : List Frame) (b : ℕ) → eqb b 32 ≡ false → (eqb b 38 ≡ false) × (eqb b 124 ≡ false) × (eqb b 33 ≡ false) → is_attribute b ≡ true → step frames Opened b ≡ Some (frames, Attribute (b ∷ []) [])
+pub opened_name : (frames : List Frame) (b : ℕ) → eqb b 32 ≡ false → (eqb b 38 ≡ false) × (eqb b 124 ≡ false) × (eqb b 33 ≡ false) → is_attribute b ≡ true → step frames Opened b ≡ Some (frames, Attribute (b ∷ []) [])
 opened_name frames b n0 n is =
     ap (λ v. cond v (Some (frames, Opened)) (cond (eqb b 38) (Some (In_every [] ∷ frames, Wanted)) (cond (eqb b 124) (Some (In_any [] ∷ frames, Wanted)) (cond (eqb b 33) (Some (In_not ∷ frames, Wanted)) (cond (is_attribute b) (Some (frames, Attribute (b ∷ []) [])) None))))) n0
     ∙ ap (λ v. cond v (Some (In_every [] ∷ frames, Wanted)) (cond (eqb b 124) (Some (In_any [] ∷ frames, Wanted)) (cond (eqb b 33) (Some (In_not ∷ frames, Wanted)) (cond (is_attribute b) (Some (frames, Attribute (b ∷ []) [])) None)))) n.0
@@ -151,7 +151,7 @@ last_way false false false false false false true u v w x y z n h k = absurd (fa
 last_way false false false false false false false u v w x y z n h k = refl
 
 -- the next character of a name
-grown_name : (frames : List Frame) (name blanks : List ℕ) (b : ℕ) → eqb b 32 ≡ false → is_attribute b ≡ true → on_attribute frames name blanks b ≡ Some (frames, Attribute (name ++ (blanks ++ b ∷ [])) [])
+pub grown_name : (frames : List Frame) (name blanks : List ℕ) (b : ℕ) → eqb b 32 ≡ false → is_attribute b ≡ true → on_attribute frames name blanks b ≡ Some (frames, Attribute (name ++ (blanks ++ b ∷ [])) [])
 grown_name frames name blanks b n0 is =
     last_way (eqb b 32) (eqb b 61) (eqb b 62) (eqb b 60) (eqb b 126) (eqb b 40) (eqb b 41) _ _ _ _ _ _ _ n0 is
 

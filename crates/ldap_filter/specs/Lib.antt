@@ -1,6 +1,7 @@
 pub mod Machine
 pub mod Matching
 pub mod Nodes
+pub mod Parsing
 pub mod Places
 pub mod Reading
 pub mod Searching

@@ -22,10 +22,11 @@ standing text = standing_after false 0 text
 abbrev pub IsWithin : ℕ → List ℕ → Type 0
 IsWithin limit text = (n : ℕ) → standing (take n text) ≤ limit
 
--- the place of a bad filter: the length of its longest open front
-pub record IsBadAt (text : List ℕ) (at : ℕ) : Type 0 where
+-- the place of a bad filter: the length of its longest open front, and whether that is the whole text
+pub record IsBadAt (text : List ℕ) (at : ℕ) (ended : Bool) : Type 0 where
   pub none : (tree : Tree) → ¬ Spells text tree
   pub inside : at ≤ length text
+  pub whole : ended ≡ (at == length text)
   pub front : IsOpen (take at text)
   pub longest : (n : ℕ) → at < n → n ≤ length text → ¬ IsOpen (take n text)
   pub within : IsWithin 64 (take at text)

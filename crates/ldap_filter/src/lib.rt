@@ -7,6 +7,7 @@ mod filter_fault;
 mod matching;
 mod mode;
 mod node;
+mod parsing;
 mod reader;
 mod steps;
 

@@ -1,0 +1,35 @@
+//! A filter read from its text (OSGi Core 8, section 3.2.7 "Filter Syntax").
+ghost use Rattle.ldap_filter.specs.Parsing.{Parses};
+
+use crate::mode::{Mode, Stop};
+use crate::reader::read;
+use crate::{Filter, FilterFault};
+use std::alloc::Global;
+
+impl Filter {
+    /// The filter that a text spells. It spells no other one.
+    ///
+    /// # Errors
+    /// BadFilter exactly where the text spells none, with the length in bytes of its longest beginning that some
+    /// filter has too, and whether that is the whole text. TooDeep exactly where a filter begins with the 65th bracket
+    /// that stands open, with the place of the first such bracket. OutOfMemory may come at any place.
+    pub fn parse(alloc: Global, text: &str) -> Result<Filter, FilterFault>
+        ensures { Parses text.now result }
+    {
+        let mut frames = Vec::new(alloc);
+        let mut mode = Mode::Wanted;
+        for (at, c) in text.char_indices() {
+            mode = match read(alloc, &mut frames, mode, c) {
+                Ok(next) => next,
+                Err(Stop::Unexpected) => return Err(FilterFault::BadFilter { at, ended: false }),
+                Err(Stop::TooDeep) => return Err(FilterFault::TooDeep { at }),
+                Err(Stop::OutOfMemory) => return Err(FilterFault::OutOfMemory),
+            };
+        }
+        let at = text.len();
+        match mode {
+            Mode::After(node) if frames.is_empty() => Ok(Filter::of(node)),
+            _ => Err(FilterFault::BadFilter { at, ended: true }),
+        }
+    }
+}
