@@ -1,6 +1,7 @@
 pub mod Continuations
 pub mod Greedy
 pub mod Numbers
+pub mod Outermost
 pub mod Runs
 pub mod SoFar
 pub mod Standing

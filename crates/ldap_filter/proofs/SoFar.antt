@@ -10,9 +10,10 @@ use Rattle.std.proofs.lemmas.Bool.{lt-ltb}
 use Rattle.ldap_filter.specs.Trees.{Tree}
 use Rattle.ldap_filter.specs.Spelling.{Spells}
 use Rattle.ldap_filter.specs.Places.{IsOpen, standing, IsWithin, IsBadAt, IsTooDeepAt}
+use Rattle.ldap_filter.specs.Parsing.{IsTreeOf}
 use Rattle.ldap_filter.specs.Machine.{Frame, Mode, Wanted, Opened, Attribute, Operator, Valued, Escaped, After, State, step, run, start, accepted}
 use Rattle.ldap_filter.specs.Reading.{opens, wide, read_char}
-use Rattle.ldap_filter.proofs.Runs.{split, Read, spelled_read, read_spelled, open_reads, reads_open}
+use Rattle.ldap_filter.proofs.Runs.{split, Read, spelled_read, read_spelled, open_reads, reads_open, one_tree}
 use Rattle.ldap_filter.proofs.Standing.{Scan, after_byte, after_bytes, standing_is, after_snoc, AgreesWith, step_agrees, step_within}
 use Rattle.ldap_filter.proofs.WideChars.{AreHigh, Begun, encode_high, high_is_not, wide_runs, wide_stops}
 
@@ -242,3 +243,19 @@ too_deep text rest more at c frames mode h is o deep goes =
       within = subst (IsWithin 64) (sym front_is) h.within;
       above = ap standing longer ∙ standing_is (h.front ++ 40 ∷ []) ∙ ap (λ (t : Scan). t.1) (after_snoc h.front false 0 40) ∙ ap (λ e. (after_byte e s.1 40).1) agrees.0 ∙ ap suc count;
     }
+
+nothing_left : (xs : List ℕ) → length xs ≡ 0 → xs ≡ []
+nothing_left [] e = refl
+nothing_left (x ∷ xs) e = absurd (omega arith)
+
+-- the text is read to its end, and the tree is its own
+pub tree_read : (text rest : List ℕ) (at : ℕ) (frames : List Frame) (mode : Mode) (tree : Tree) → SoFar text rest at frames mode → length rest ≡ 0 → accepted frames mode ≡ Some tree → IsTreeOf text tree
+tree_read text rest at frames mode tree h e a =
+    let r = read_end text at frames mode tree (subst (λ xs. SoFar text xs at frames mode) (nothing_left rest e) h) a in
+    record { spells = r.spells; only = λ other spells. one_tree text other tree spells r.spells; within = r.within }
+
+pub text_ended : (text rest : List ℕ) (at : ℕ) (frames : List Frame) (mode : Mode) → SoFar text rest at frames mode → length rest ≡ 0 → accepted frames mode ≡ None → IsBadAt text (length text) true
+text_ended text rest at frames mode h e a =
+    let g = subst (λ xs. SoFar text xs at frames mode) (nothing_left rest e) h in
+    let all : at ≡ length text = h.place ∙ (let l : length text ≡ length (h.front ++ rest) = ap length h.whole in omega (arith, length-append h.front rest)) in
+    subst (λ k. IsBadAt text k true) all (bad_end text at frames mode g a)

@@ -1,7 +1,12 @@
 //! A filter read from its text (OSGi Core 8, section 3.2.7 "Filter Syntax").
+ghost use Rattle.ldap_filter.specs.Machine.{accepted, whole};
+ghost use Rattle.ldap_filter.specs.Nodes.{tree_of};
 ghost use Rattle.ldap_filter.specs.Parsing.{Parses};
+ghost use Rattle.ldap_filter.specs.Reading.{stack_of, mode_of};
+ghost use Rattle.std.specs.Prelude.{◌≡◌, option_map};
 
-use crate::mode::{Mode, Stop};
+use crate::mode::{Frame, Mode, Stop};
+use crate::node::Node;
 use crate::reader::read;
 use crate::{Filter, FilterFault};
 use std::alloc::Global;
@@ -27,9 +32,26 @@ impl Filter {
             };
         }
         let at = text.len();
-        match mode {
-            Mode::After(node) if frames.is_empty() => Ok(Filter::of(node)),
-            _ => Err(FilterFault::BadFilter { at, ended: true }),
+        match whole(frames.as_slice(), mode) {
+            Some(node) => Ok(Filter::of(node)),
+            None => Err(FilterFault::BadFilter { at, ended: true }),
         }
     }
+}
+
+// The filter that was read to its end, where no other one stands open.
+fn whole(frames: &[Frame], mode: Mode) -> Option<Node>
+    ensures { option_map tree_of result ≡ accepted (stack_of frames.now) (mode_of mode) }
+{
+    match mode {
+        Mode::After(node) => outermost(frames, node),
+        _ => None,
+    }
+}
+
+#[tactic(auto, using(crate::proofs::Outermost::outermost_is))]
+fn outermost(frames: &[Frame], node: Node) -> Option<Node>
+    ensures { option_map tree_of result ≡ whole (stack_of frames.now) (tree_of node) }
+{
+    if frames.is_empty() { Some(node) } else { None }
 }
