@@ -31,7 +31,10 @@ take_nothing (suc n) = refl
 
 pub so_far_start : (text : List ℕ) → SoFar text text 0 [] Wanted
 so_far_start text = record {
-  front = []; whole = refl; place = refl; is = refl;
+  front = [];
+  whole = refl;
+  place = refl;
+  is = refl;
   within = λ n. subst (λ xs. standing xs ≤ 64) (sym (take_nothing n)) (omega arith);
   agrees = (refl, refl);
 }
@@ -118,11 +121,11 @@ pub so_far_char : (text rest more : List ℕ) (at c : ℕ) (frames : List Frame)
     → OnTrue (opens mode c) (length frames < 64) → SoFar text more (at + length (encode_utf8 c)) new next
 so_far_char text rest more at c frames mode new next h is e o = by_width c
     (λ t narrow. let one : encode_utf8 c ≡ c ∷ [] = encode_ascii c narrow in
-      subst (λ k. SoFar text more (at + length k) new next) (sym one) (so_far_byte text c more at frames mode (new, next) (subst (λ r. SoFar text r at frames mode) (is ∙ ap (λ xs. xs ++ more) one) h) (sym (narrow_is frames mode c t) ∙ e) o))
+    subst (λ k. SoFar text more (at + length k) new next) (sym one) (so_far_byte text c more at frames mode (new, next) (subst (λ r. SoFar text r at frames mode) (is ∙ ap (λ xs. xs ++ more) one) h) (sym (narrow_is frames mode c t) ∙ e) o))
     (λ t broad. let b = encode_high c broad in
-      let runs : run (encode_utf8 c) (frames, mode) ≡ Some (new, next) = subst (λ xs. run xs (frames, mode) ≡ Some (new, next)) (sym b.is)
-          (wide_runs b.first b.others frames mode (new, next) b.high (ap (λ xs. option_map (λ m. (frames, m)) (wide mode xs)) (sym b.is) ∙ sym (wide_is frames mode c t) ∙ e)) in
-      so_far_wide (encode_utf8 c) text more at (frames, mode) (new, next) (subst AreHigh (sym b.is) b.high) runs (subst (λ r. SoFar text r at frames mode) is h))
+    let runs : run (encode_utf8 c) (frames, mode) ≡ Some (new, next) = subst (λ xs. run xs (frames, mode) ≡ Some (new, next)) (sym b.is)
+    (wide_runs b.first b.others frames mode (new, next) b.high (ap (λ xs. option_map (λ m. (frames, m)) (wide mode xs)) (sym b.is) ∙ sym (wide_is frames mode c t) ∙ e)) in
+    so_far_wide (encode_utf8 c) text more at (frames, mode) (new, next) (subst AreHigh (sym b.is) b.high) runs (subst (λ r. SoFar text r at frames mode) is h))
 
 ne-eqb : (a b : ℕ) → (a ≡ b → ⊥) → eqb a b ≡ false
 ne-eqb a b h = by_test (eqb a b) refl where
@@ -155,7 +158,7 @@ bad_byte text b rest at frames mode h e =
       whole = sym (ne-eqb at (length text) (let l : length text ≡ length (h.front ++ b ∷ rest) = ap length h.whole in λ e. omega (arith, h.place, length-append h.front (b ∷ rest), e)));
       front = subst IsOpen (sym front_is) (reads_open h.front (frames, mode) h.is);
       longest = λ n above _ open_. let m = take_more h.front b rest n (subst (λ k. k < n) h.place above) in
-        let r = open_reads (take n text) open_ in none_is_some (run (take n text) start) r.0 (ap (λ xs. run xs start) (ap (take n) h.whole ∙ m.1) ∙ stops m.0) r.1;
+          let r = open_reads (take n text) open_ in none_is_some (run (take n text) start) r.0 (ap (λ xs. run xs start) (ap (take n) h.whole ∙ m.1) ∙ stops m.0) r.1;
       within = subst (IsWithin 64) (sym front_is) h.within;
     }
 
@@ -164,8 +167,8 @@ pub bad_char : (text rest more : List ℕ) (at c : ℕ) (frames : List Frame) (m
 bad_char text rest more at c frames mode h is e = by_width c
     (λ t narrow. bad_byte text c more at frames mode (subst (λ r. SoFar text r at frames mode) (is ∙ ap (λ xs. xs ++ more) (encode_ascii c narrow)) h) (sym (narrow_is frames mode c t) ∙ e))
     (λ t broad. let b = encode_high c broad in
-      bad_byte text b.first (b.others ++ more) at frames mode (subst (λ r. SoFar text r at frames mode) (is ∙ ap (λ xs. xs ++ more) b.is) h)
-        (wide_stops b.first b.others frames mode b.high.0 (ap (λ xs. option_map {U = State} (λ m. (frames, m)) (wide mode xs)) (sym b.is) ∙ sym (wide_is frames mode c t) ∙ e)))
+    bad_byte text b.first (b.others ++ more) at frames mode (subst (λ r. SoFar text r at frames mode) (is ∙ ap (λ xs. xs ++ more) b.is) h)
+    (wide_stops b.first b.others frames mode b.high.0 (ap (λ xs. option_map {U = State} (λ m. (frames, m)) (wide mode xs)) (sym b.is) ∙ sym (wide_is frames mode c t) ∙ e)))
 
 -- the text ends where no filter does
 pub bad_end : (text : List ℕ) (at : ℕ) (frames : List Frame) (mode : Mode) → SoFar text [] at frames mode → accepted frames mode ≡ None → IsBadAt text at true
@@ -174,16 +177,16 @@ bad_end text at frames mode h e =
     let front_is : take at text ≡ h.front = ap (λ k. take k text) h.place ∙ ap (take (length h.front)) whole ∙ take_all h.front in
     record {
       none = λ tree spells. let r = spelled_read text tree spells in
-        let same : r.state ≡ (frames, mode) = same_some r.state (frames, mode) (sym r.is ∙ ap (λ xs. run xs start) whole ∙ h.is) in
-        let f : None ≡ Some tree = sym e ∙ ap (λ (s : State). accepted s.0 s.1) (sym same) ∙ r.all in let k : ⊥ = cc in k;
+          let same : r.state ≡ (frames, mode) = same_some r.state (frames, mode) (sym r.is ∙ ap (λ xs. run xs start) whole ∙ h.is) in
+          let f : None ≡ Some tree = sym e ∙ ap (λ (s : State). accepted s.0 s.1) (sym same) ∙ r.all in let k : ⊥ = cc in k;
       inside = let l : length text ≡ length h.front = ap length whole in omega (arith, h.place);
       whole = sym (eq-eqb at (length text) (let l : length text ≡ length h.front = ap length whole in omega (arith, h.place)));
       front = subst IsOpen (sym front_is) (reads_open h.front (frames, mode) h.is);
       longest = λ n above below _. let l : length text ≡ length h.front = ap length whole in absurd (omega (arith, h.place));
       within = subst (IsWithin 64) (sym front_is) h.within;
     } where
-  same_some : (x y : State) → Some x ≡ Some y → x ≡ y
-  same_some x y e = cc
+      same_some : (x y : State) → Some x ≡ Some y → x ≡ y
+      same_some x y e = cc
 
 -- the whole text is read
 pub record IsRead (text : List ℕ) (tree : Tree) : Type 0 where

@@ -106,11 +106,12 @@ plain_agrees frames (Valued c name parts part) n b u a e =
     on_byte b 41 _ _ _ e (λ k f. at u n b 41 k (some_agrees _ u (false, n - 1) (refl, omega (arith, a.1)) f)) (λ n1 e2. on_byte b 92 _ _ _ e2 (λ k f. at u n b 92 k (some_agrees _ u (true, n) (refl, a.1) f))
     (λ n2 e3. on_test (eqb b 42 && has_stars c) _ _ _ e3 (λ v f. starred n1 n2 f (both_true (eqb b 42) (has_stars c) v)) (λ _ e4. on_byte b 40 _ _ _ e4 (λ _ f. no_agrees u (after_byte false n b) f)
     (λ n4 f. some_agrees _ u (after_byte false n b) (subst (λ s. AgreesWith (frames, Valued c name parts (part ++ b ∷ [])) s) (sym (plain_byte n b n4 n1 ∙ ap (λ v. (v, n)) n2)) (refl, a.1)) f)))) where
-  both_true : (x y : Bool) → (x && y) ≡ true → x ≡ true
-  both_true true y e = refl
-  both_true false y e = absurd (false≢true e)
-  starred : eqb b 41 ≡ false → eqb b 92 ≡ false → Some (frames, Valued c name (parts ++ part ∷ []) []) ≡ Some u → eqb b 42 ≡ true → AgreesWith u (after_byte false n b)
-  starred n1 n2 f h = at u n b 42 (eqb-true b 42 h) (some_agrees _ u (false, n) (refl, a.1) f)
+      both_true : (x y : Bool) → (x && y) ≡ true → x ≡ true
+      both_true true y e = refl
+      both_true false y e = absurd (false≢true e)
+
+      starred : eqb b 41 ≡ false → eqb b 92 ≡ false → Some (frames, Valued c name (parts ++ part ∷ []) []) ≡ Some u → eqb b 42 ≡ true → AgreesWith u (after_byte false n b)
+      starred n1 n2 f h = at u n b 42 (eqb-true b 42 h) (some_agrees _ u (false, n) (refl, a.1) f)
 plain_agrees frames (Escaped c name parts part) n b u a e = absurd (false≢true a.0)
 plain_agrees frames (After tree) n b u a e =
     on_byte b 32 _ _ _ e (λ k f. at u n b 32 k (some_agrees _ u (false, n) a f)) (λ _ e2. on_byte b 41 _ _ _ e2 (λ k f. at u n b 41 k (closed_agrees frames tree u n a.1 f))

@@ -29,13 +29,15 @@ on_spelled : (frames : List Frame) (b : ℕ) (rest front outer : List ℕ) (tree
 on_spelled frames b rest _ outer _ t e (bracketed front [] inner behind tree b0 b1 is inside) k =
     let f : b ∷ rest ≡ 40 ∷ (inner ++ 41 ∷ (behind ++ outer)) = e ∙ ap (λ xs. xs ++ outer) is ∙ ap (λ xs. 40 ∷ xs) (append_assoc inner (41 ∷ behind) outer) in
     at_byte frames Wanted b 40 rest t (head_is b 40 rest (inner ++ 41 ∷ (behind ++ outer)) f) (record {
-      state = (frames, Opened); is = refl;
+      state = (frames, Opened);
+      is = refl;
       on = (inner, behind ++ outer, tree, tail_is b 40 rest (inner ++ 41 ∷ (behind ++ outer)) f, inside, blanks_behind behind frames tree outer t b1 k);
     })
 on_spelled frames b rest _ outer _ t e (bracketed front (a ∷ before) inner behind tree b0 b1 is inside) k =
     let f : b ∷ rest ≡ a ∷ ((before ++ 40 ∷ (inner ++ 41 ∷ behind)) ++ outer) = e ∙ ap (λ xs. xs ++ outer) is in
     at_byte frames Wanted b 32 rest t (head_is b a rest ((before ++ 40 ∷ (inner ++ 41 ∷ behind)) ++ outer) f ∙ b0.0) (record {
-      state = (frames, Wanted); is = refl;
+      state = (frames, Wanted);
+      is = refl;
       on = (before ++ 40 ∷ (inner ++ 41 ∷ behind), outer, tree, tail_is b a rest ((before ++ 40 ∷ (inner ++ 41 ∷ behind)) ++ outer) f, bracketed (before ++ 40 ∷ (inner ++ 41 ∷ behind)) before inner behind tree b0.1 b1 refl inside, k);
     })
 
@@ -46,7 +48,9 @@ on_wanted_goes frames b rest t h = on_spelled frames b rest h.0 h.1 h.2 t h.3 h.
 opened_blank : (frames : List Frame) (b a : ℕ) (rest inner outer : List ℕ) (tree t : Tree) → a ≡ 32 → b ∷ rest ≡ (a ∷ inner) ++ 41 ∷ outer → SpellsInside inner tree → Behind frames tree outer t → Goes (step frames Opened b) rest t
 opened_blank frames b a rest inner outer tree t blank e inside k =
     at_byte frames Opened b 32 rest t (head_is b a rest (inner ++ 41 ∷ outer) e ∙ blank) (record {
-      state = (frames, Opened); is = refl; on = (inner, outer, tree, tail_is b a rest (inner ++ 41 ∷ outer) e, inside, k);
+      state = (frames, Opened);
+      is = refl;
+      on = (inner, outer, tree, tail_is b a rest (inner ++ 41 ∷ outer) e, inside, k);
     })
 
 -- the signs `&` and `|`, and the first filter behind
@@ -89,19 +93,34 @@ on_compared frames b rest [] value part parts c outer t e chars named spells k =
 on_compared frames b rest (a ∷ attribute) value part parts c outer t e chars named spells k =
     by_blank a
     (λ blank. let name : trim_front (a ∷ attribute) ≡ trim_front attribute = ap (λ v. cond v (trim_front attribute) (a ∷ attribute)) (eq-eqb a 32 blank) in
-      at_byte frames Opened b 32 rest t (head_is b a rest (attribute ++ (sign c ++ (value ++ 41 ∷ outer))) e ∙ blank) (record {
-      state = (frames, Opened); is = refl;
-      on = (attribute ++ (sign c ++ value), outer, tree_with c (trim_back (trim_front attribute)) part parts,
+    at_byte frames Opened b 32 rest t (head_is b a rest (attribute ++ (sign c ++ (value ++ 41 ∷ outer))) e ∙ blank) (record {
+      state = (frames, Opened);
+      is = refl;
+      on = (
+        attribute ++ (sign c ++ value),
+        outer,
+        tree_with c (trim_back (trim_front attribute)) part parts,
         tail_is b a rest (attribute ++ (sign c ++ (value ++ 41 ∷ outer))) e ∙ ap (λ xs. attribute ++ xs) (sym (append_assoc (sign c) value (41 ∷ outer))) ∙ sym (append_assoc attribute (sign c ++ value) (41 ∷ outer)),
         compares (attribute ++ (sign c ++ value)) attribute value part parts c refl chars.1 (subst (λ n. is_name (trim_back n) ≡ true) name named) spells,
-        subst (λ n. Behind frames (tree_with c (trim_back n) part parts) outer t) name k);
+        subst (λ n. Behind frames (tree_with c (trim_back n) part parts) outer t) name k,
+      );
     }))
     (λ n0. let name : trim_back (trim_front (a ∷ attribute)) ≡ a ∷ trim_back attribute = ap trim_back (front_stays a attribute n0) ∙ name_begins a attribute n0 in
-      subst (λ d. Goes (step frames Opened d) rest t) (sym (head_is b a rest (attribute ++ (sign c ++ (value ++ 41 ∷ outer))) e)) (record {
+    subst (λ d. Goes (step frames Opened d) rest t) (sym (head_is b a rest (attribute ++ (sign c ++ (value ++ 41 ∷ outer))) e)) (record {
       state = (frames, Attribute (a ∷ []) []);
       is = opened_name frames a n0 (none_of (eqb a 38) (eqb a 124) (eqb a 33) (subst (λ n. is_name n ≡ true) name named)) chars.0;
-      on = (attribute, c, value, part, parts, outer, tail_is b a rest (attribute ++ (sign c ++ (value ++ 41 ∷ outer))) e, chars.1, spells,
-        subst (λ n. Behind frames (tree_with c n part parts) outer t) name k);
+      on = (
+        attribute,
+        c,
+        value,
+        part,
+        parts,
+        outer,
+        tail_is b a rest (attribute ++ (sign c ++ (value ++ 41 ∷ outer))) e,
+        chars.1,
+        spells,
+        subst (λ n. Behind frames (tree_with c n part parts) outer t) name k,
+      );
     }))
 
 on_inside : (frames : List Frame) (b : ℕ) (rest inner outer : List ℕ) (tree t : Tree) → b ∷ rest ≡ inner ++ 41 ∷ outer → SpellsInside inner tree → Behind frames tree outer t → Goes (step frames Opened b) rest t
@@ -109,7 +128,8 @@ on_inside frames b rest _ outer _ t e (every text [] filters first others are is
     let f : b ∷ rest ≡ 38 ∷ (filters ++ 41 ∷ outer) = e ∙ ap (λ xs. xs ++ 41 ∷ outer) is in
     let o = first_of filters outer first others all in
     at_byte frames Opened b 38 rest t (head_is b 38 rest (filters ++ 41 ∷ outer) f) (record {
-      state = (In_every [] ∷ frames, Wanted); is = refl;
+      state = (In_every [] ∷ frames, Wanted);
+      is = refl;
       on = (o.front, o.mid ++ 41 ∷ outer, first, tail_is b 38 rest (filters ++ 41 ∷ outer) f ∙ o.is, o.spells, ([], o.mid, others, outer, refl, tt, o.all, k));
     })
 on_inside frames b rest _ outer _ t e (every text (a ∷ blanks) filters first others are is all) k =
@@ -118,7 +138,8 @@ on_inside frames b rest _ outer _ t e (any text [] filters first others are is a
     let f : b ∷ rest ≡ 124 ∷ (filters ++ 41 ∷ outer) = e ∙ ap (λ xs. xs ++ 41 ∷ outer) is in
     let o = first_of filters outer first others all in
     at_byte frames Opened b 124 rest t (head_is b 124 rest (filters ++ 41 ∷ outer) f) (record {
-      state = (In_any [] ∷ frames, Wanted); is = refl;
+      state = (In_any [] ∷ frames, Wanted);
+      is = refl;
       on = (o.front, o.mid ++ 41 ∷ outer, first, tail_is b 124 rest (filters ++ 41 ∷ outer) f ∙ o.is, o.spells, ([], o.mid, others, outer, refl, tt, o.all, k));
     })
 on_inside frames b rest _ outer _ t e (any text (a ∷ blanks) filters first others are is all) k =
@@ -126,7 +147,8 @@ on_inside frames b rest _ outer _ t e (any text (a ∷ blanks) filters first oth
 on_inside frames b rest _ outer _ t e (negated text [] filter tree are is spells) k =
     let f : b ∷ rest ≡ 33 ∷ (filter ++ 41 ∷ outer) = e ∙ ap (λ xs. xs ++ 41 ∷ outer) is in
     at_byte frames Opened b 33 rest t (head_is b 33 rest (filter ++ 41 ∷ outer) f) (record {
-      state = (In_not ∷ frames, Wanted); is = refl;
+      state = (In_not ∷ frames, Wanted);
+      is = refl;
       on = (filter, 41 ∷ outer, tree, tail_is b 33 rest (filter ++ 41 ∷ outer) f, spells, ([], outer, refl, tt, k));
     })
 on_inside frames b rest _ outer _ t e (negated text (a ∷ blanks) filter tree are is spells) k =
@@ -160,19 +182,27 @@ signed : (frames : List Frame) (name blanks : List ℕ) (b : ℕ) (rest : List �
     → SpellsValue (has_stars c) value part parts → Behind frames (tree_with c name part parts) outer t → Goes (step frames (Attribute name blanks) b) rest t
 signed frames name blanks b rest Equal value part parts outer t e spells k =
     at_byte frames (Attribute name blanks) b 61 rest t (head_is b 61 rest (value ++ 41 ∷ outer) e) (record {
-      state = (frames, Valued Equal name [] []); is = refl; on = (value, part, parts, outer, tail_is b 61 rest (value ++ 41 ∷ outer) e, spells, k);
+      state = (frames, Valued Equal name [] []);
+      is = refl;
+      on = (value, part, parts, outer, tail_is b 61 rest (value ++ 41 ∷ outer) e, spells, k);
     })
 signed frames name blanks b rest Like value part parts outer t e spells k =
     at_byte frames (Attribute name blanks) b 126 rest t (head_is b 126 rest (61 ∷ (value ++ 41 ∷ outer)) e) (record {
-      state = (frames, Operator Like name); is = refl; on = (value ++ 41 ∷ outer, tail_is b 126 rest (61 ∷ (value ++ 41 ∷ outer)) e, (value, part, parts, outer, refl, spells, k));
+      state = (frames, Operator Like name);
+      is = refl;
+      on = (value ++ 41 ∷ outer, tail_is b 126 rest (61 ∷ (value ++ 41 ∷ outer)) e, (value, part, parts, outer, refl, spells, k));
     })
 signed frames name blanks b rest AtLeast value part parts outer t e spells k =
     at_byte frames (Attribute name blanks) b 62 rest t (head_is b 62 rest (61 ∷ (value ++ 41 ∷ outer)) e) (record {
-      state = (frames, Operator AtLeast name); is = refl; on = (value ++ 41 ∷ outer, tail_is b 62 rest (61 ∷ (value ++ 41 ∷ outer)) e, (value, part, parts, outer, refl, spells, k));
+      state = (frames, Operator AtLeast name);
+      is = refl;
+      on = (value ++ 41 ∷ outer, tail_is b 62 rest (61 ∷ (value ++ 41 ∷ outer)) e, (value, part, parts, outer, refl, spells, k));
     })
 signed frames name blanks b rest AtMost value part parts outer t e spells k =
     at_byte frames (Attribute name blanks) b 60 rest t (head_is b 60 rest (61 ∷ (value ++ 41 ∷ outer)) e) (record {
-      state = (frames, Operator AtMost name); is = refl; on = (value ++ 41 ∷ outer, tail_is b 60 rest (61 ∷ (value ++ 41 ∷ outer)) e, (value, part, parts, outer, refl, spells, k));
+      state = (frames, Operator AtMost name);
+      is = refl;
+      on = (value ++ 41 ∷ outer, tail_is b 60 rest (61 ∷ (value ++ 41 ∷ outer)) e, (value, part, parts, outer, refl, spells, k));
     })
 
 on_named : (frames : List Frame) (name blanks : List ℕ) (b : ℕ) (rest more : List ℕ) (c : Comparison) (value part : List ℕ) (parts : List (List ℕ)) (outer : List ℕ) (t : Tree) → AreBlanks blanks → b ∷ rest ≡ more ++ (sign c ++ (value ++ 41 ∷ outer))
@@ -182,14 +212,36 @@ on_named frames name blanks b rest [] c value part parts outer t are e chars spe
 on_named frames name blanks b rest (a ∷ more) c value part parts outer t are e chars spells k =
     by_blank a
     (λ blank. at_byte frames (Attribute name blanks) b 32 rest t (head_is b a rest (more ++ (sign c ++ (value ++ 41 ∷ outer))) e ∙ blank) (record {
-      state = (frames, Attribute name (blanks ++ 32 ∷ [])); is = refl;
-      on = (more, c, value, part, parts, outer, tail_is b a rest (more ++ (sign c ++ (value ++ 41 ∷ outer))) e, chars.1, spells,
-        subst (λ n. Behind frames (tree_with c (name ++ trim_back n) part parts) outer t) (ap (λ d. blanks ++ d ∷ more) blank ∙ sym (append_assoc blanks (32 ∷ []) more)) k);
+      state = (frames, Attribute name (blanks ++ 32 ∷ []));
+      is = refl;
+      on = (
+        more,
+        c,
+        value,
+        part,
+        parts,
+        outer,
+        tail_is b a rest (more ++ (sign c ++ (value ++ 41 ∷ outer))) e,
+        chars.1,
+        spells,
+        subst (λ n. Behind frames (tree_with c (name ++ trim_back n) part parts) outer t) (ap (λ d. blanks ++ d ∷ more) blank ∙ sym (append_assoc blanks (32 ∷ []) more)) k,
+      );
     }))
     (λ n0. subst (λ d. Goes (step frames (Attribute name blanks) d) rest t) (sym (head_is b a rest (more ++ (sign c ++ (value ++ 41 ∷ outer))) e)) (record {
-      state = (frames, Attribute (name ++ (blanks ++ a ∷ [])) []); is = grown_name frames name blanks a n0 chars.0;
-      on = (more, c, value, part, parts, outer, tail_is b a rest (more ++ (sign c ++ (value ++ 41 ∷ outer))) e, chars.1, spells,
-        subst (λ n. Behind frames (tree_with c n part parts) outer t) (name_grows name blanks a more n0) k);
+      state = (frames, Attribute (name ++ (blanks ++ a ∷ [])) []);
+      is = grown_name frames name blanks a n0 chars.0;
+      on = (
+        more,
+        c,
+        value,
+        part,
+        parts,
+        outer,
+        tail_is b a rest (more ++ (sign c ++ (value ++ 41 ∷ outer))) e,
+        chars.1,
+        spells,
+        subst (λ n. Behind frames (tree_with c n part parts) outer t) (name_grows name blanks a more n0) k,
+      );
     }))
 
 on_attribute_goes : (frames : List Frame) (name blanks : List ℕ) (b : ℕ) (rest : List ℕ) (t : Tree) → AreBlanks blanks → Continues frames (Attribute name blanks) (b ∷ rest) t → Goes (step frames (Attribute name blanks) b) rest t
@@ -197,8 +249,10 @@ on_attribute_goes frames name blanks b rest t are h = on_named frames name blank
 
 on_operator_goes : (frames : List Frame) (c : Comparison) (name : List ℕ) (b : ℕ) (rest : List ℕ) (t : Tree) → Continues frames (Operator c name) (b ∷ rest) t → Goes (step frames (Operator c name) b) rest t
 on_operator_goes frames c name b rest t h = at_byte frames (Operator c name) b 61 rest t (head_is b 61 rest h.0 h.1) (record {
-      state = (frames, Valued c name [] []); is = refl; on = subst (λ r. BehindValue frames c name [] [] r t) (sym (tail_is b 61 rest h.0 h.1)) h.2;
-    })
+  state = (frames, Valued c name [] []);
+  is = refl;
+  on = subst (λ r. BehindValue frames c name [] [] r t) (sym (tail_is b 61 rest h.0 h.1)) h.2;
+})
 
 -- a character that stands for itself goes into the part begun
 plain_goes : (frames : List Frame) (c : Comparison) (name : List ℕ) (parts : List (List ℕ)) (part : List ℕ) (b : ℕ) → is_plain (has_stars c) b ≡ true → on_valued frames c name parts part b ≡ Some (frames, Valued c name parts (part ++ b ∷ []))
@@ -220,24 +274,35 @@ on_value : (frames : List Frame) (c : Comparison) (name : List ℕ) (parts : Lis
     → Behind frames (value_tree c name (parts ++ (part ++ q) ∷ qs)) outer t → Goes (step frames (Valued c name parts part) b) rest t
 on_value frames c name parts part b rest _ _ _ outer t e nothing k =
     at_byte frames (Valued c name parts part) b 41 rest t (head_is b 41 rest outer e) (record {
-      state = (frames, After (value_tree c name (parts ++ part ∷ []))); is = refl;
+      state = (frames, After (value_tree c name (parts ++ part ∷ [])));
+      is = refl;
       on = subst (λ r. Behind frames (value_tree c name (parts ++ part ∷ [])) r t) (sym (tail_is b 41 rest outer e)) (subst (λ p. Behind frames (value_tree c name (parts ++ p ∷ [])) outer t) (append-nil part) k);
     })
 on_value frames c name parts part b rest _ _ _ outer t e (itself a text q qs plain spells) k =
     subst (λ d. Goes (step frames (Valued c name parts part) d) rest t) (sym (head_is b a rest (text ++ 41 ∷ outer) e)) (record {
-      state = (frames, Valued c name parts (part ++ a ∷ [])); is = plain_goes frames c name parts part a plain;
+      state = (frames, Valued c name parts (part ++ a ∷ []));
+      is = plain_goes frames c name parts part a plain;
       on = (text, q, qs, outer, tail_is b a rest (text ++ 41 ∷ outer) e, spells, subst (λ p. Behind frames (value_tree c name (parts ++ p ∷ qs)) outer t) (sym (append_assoc part (a ∷ []) q)) k);
     })
 on_value frames c name parts part b rest _ _ _ outer t e (escaped a text q qs spells) k =
     at_byte frames (Valued c name parts part) b 92 rest t (head_is b 92 rest (a ∷ (text ++ 41 ∷ outer)) e) (record {
-      state = (frames, Escaped c name parts part); is = refl;
+      state = (frames, Escaped c name parts part);
+      is = refl;
       on = (a, text ++ 41 ∷ outer, tail_is b 92 rest (a ∷ (text ++ 41 ∷ outer)) e, (text, q, qs, outer, refl, spells, subst (λ p. Behind frames (value_tree c name (parts ++ p ∷ qs)) outer t) (sym (append_assoc part (a ∷ []) q)) k));
     })
 on_value frames c name parts part b rest _ _ _ outer t e (star text q qs has spells) k =
     at_byte frames (Valued c name parts part) b 42 rest t (head_is b 42 rest (text ++ 41 ∷ outer) e) (record {
-      state = (frames, Valued c name (parts ++ part ∷ []) []); is = star_goes frames c name parts part has;
-      on = (text, q, qs, outer, tail_is b 42 rest (text ++ 41 ∷ outer) e, spells,
-        subst (λ ps. Behind frames (value_tree c name ps) outer t) (ap (λ p. parts ++ p ∷ q ∷ qs) (append-nil part) ∙ sym (snoc_part parts part q qs)) k);
+      state = (frames, Valued c name (parts ++ part ∷ []) []);
+      is = star_goes frames c name parts part has;
+      on = (
+        text,
+        q,
+        qs,
+        outer,
+        tail_is b 42 rest (text ++ 41 ∷ outer) e,
+        spells,
+        subst (λ ps. Behind frames (value_tree c name ps) outer t) (ap (λ p. parts ++ p ∷ q ∷ qs) (append-nil part) ∙ sym (snoc_part parts part q qs)) k,
+      );
     })
 
 on_valued_goes : (frames : List Frame) (c : Comparison) (name : List ℕ) (parts : List (List ℕ)) (part : List ℕ) (b : ℕ) (rest : List ℕ) (t : Tree) → Continues frames (Valued c name parts part) (b ∷ rest) t → Goes (step frames (Valued c name parts part) b) rest t
@@ -245,9 +310,10 @@ on_valued_goes frames c name parts part b rest t h = on_value frames c name part
 
 on_escaped_goes : (frames : List Frame) (c : Comparison) (name : List ℕ) (parts : List (List ℕ)) (part : List ℕ) (b : ℕ) (rest : List ℕ) (t : Tree) → Continues frames (Escaped c name parts part) (b ∷ rest) t → Goes (step frames (Escaped c name parts part) b) rest t
 on_escaped_goes frames c name parts part b rest t h = record {
-      state = (frames, Valued c name parts (part ++ b ∷ [])); is = refl;
-      on = subst (λ d. BehindValue frames c name parts (part ++ d ∷ []) rest t) (sym (head_is b h.0 rest h.1 h.2)) (subst (λ r. BehindValue frames c name parts (part ++ h.0 ∷ []) r t) (sym (tail_is b h.0 rest h.1 h.2)) h.3);
-    }
+  state = (frames, Valued c name parts (part ++ b ∷ []));
+  is = refl;
+  on = subst (λ d. BehindValue frames c name parts (part ++ d ∷ []) rest t) (sym (head_is b h.0 rest h.1 h.2)) (subst (λ r. BehindValue frames c name parts (part ++ h.0 ∷ []) r t) (sym (tail_is b h.0 rest h.1 h.2)) h.3);
+}
 
 -- behind a filter among several ones
 blank_after : (frames : List Frame) (tree : Tree) (b : ℕ) (rest : List ℕ) (t : Tree) → b ≡ 32 → Behind frames tree rest t → Goes (step frames (After tree) b) rest t
@@ -257,46 +323,66 @@ every_goes : (frames : List Frame) (done : List Tree) (tree : Tree) (b : ℕ) (r
     → Behind frames (Every (joined (done ++ tree ∷ []) others)) outer t → Goes (step (In_every done ∷ frames) (After tree) b) rest t
 every_goes frames done tree b rest _ _ outer t e no_more k =
     at_byte (In_every done ∷ frames) (After tree) b 41 rest t (head_is b 41 rest outer e) (record {
-      state = (frames, After (Every (trees_of (done ++ tree ∷ [])))); is = refl; on = subst (λ r. Behind frames (Every (trees_of (done ++ tree ∷ []))) r t) (sym (tail_is b 41 rest outer e)) k;
+      state = (frames, After (Every (trees_of (done ++ tree ∷ []))));
+      is = refl;
+      on = subst (λ r. Behind frames (Every (trees_of (done ++ tree ∷ []))) r t) (sym (tail_is b 41 rest outer e)) k;
     })
 every_goes frames done tree b rest _ _ outer t e (and_then text _ behind first others is (bracketed front [] inner after _ b0 b1 at inside) all) k =
     let f : b ∷ rest ≡ 40 ∷ (inner ++ 41 ∷ (after ++ (behind ++ 41 ∷ outer))) = e ∙ ap (λ xs. xs ++ 41 ∷ outer) (is ∙ ap (λ xs. xs ++ behind) at)
-        ∙ ap (λ xs. 40 ∷ xs) (append_assoc (inner ++ 41 ∷ after) behind (41 ∷ outer) ∙ append_assoc inner (41 ∷ after) (behind ++ 41 ∷ outer)) in
+    ∙ ap (λ xs. 40 ∷ xs) (append_assoc (inner ++ 41 ∷ after) behind (41 ∷ outer) ∙ append_assoc inner (41 ∷ after) (behind ++ 41 ∷ outer)) in
     at_byte (In_every done ∷ frames) (After tree) b 40 rest t (head_is b 40 rest (inner ++ 41 ∷ (after ++ (behind ++ 41 ∷ outer))) f) (record {
-      state = (In_every (done ++ tree ∷ []) ∷ frames, Opened); is = refl;
-      on = (inner, after ++ (behind ++ 41 ∷ outer), first, tail_is b 40 rest (inner ++ 41 ∷ (after ++ (behind ++ 41 ∷ outer))) f, inside,
-        (after, behind, others, outer, refl, b1, all, subst (λ ts. Behind frames (Every ts) outer t) (sym (joined_snoc (done ++ tree ∷ []) first others)) k));
+      state = (In_every (done ++ tree ∷ []) ∷ frames, Opened);
+      is = refl;
+      on = (
+        inner,
+        after ++ (behind ++ 41 ∷ outer),
+        first,
+        tail_is b 40 rest (inner ++ 41 ∷ (after ++ (behind ++ 41 ∷ outer))) f,
+        inside,
+        (after, behind, others, outer, refl, b1, all, subst (λ ts. Behind frames (Every ts) outer t) (sym (joined_snoc (done ++ tree ∷ []) first others)) k),
+      );
     })
 every_goes frames done tree b rest _ _ outer t e (and_then text _ behind first others is (bracketed front (a ∷ before) inner after _ b0 b1 at inside) all) k =
     let new : List ℕ = before ++ 40 ∷ (inner ++ 41 ∷ after) in
     let f : b ∷ rest ≡ a ∷ ((new ++ behind) ++ 41 ∷ outer) = e ∙ ap (λ xs. xs ++ 41 ∷ outer) (is ∙ ap (λ xs. xs ++ behind) at) in
     blank_after (In_every done ∷ frames) tree b rest t (head_is b a rest ((new ++ behind) ++ 41 ∷ outer) f ∙ b0.0)
-      ([], new ++ behind, And_then first others, outer, tail_is b a rest ((new ++ behind) ++ 41 ∷ outer) f, tt, and_then (new ++ behind) new behind first others refl (bracketed new before inner after first b0.1 b1 refl inside) all, k)
+    ([], new ++ behind, And_then first others, outer, tail_is b a rest ((new ++ behind) ++ 41 ∷ outer) f, tt, and_then (new ++ behind) new behind first others refl (bracketed new before inner after first b0.1 b1 refl inside) all, k)
 
 any_goes : (frames : List Frame) (done : List Tree) (tree : Tree) (b : ℕ) (rest mid : List ℕ) (others : Trees) (outer : List ℕ) (t : Tree) → b ∷ rest ≡ mid ++ 41 ∷ outer → SpellsAll mid others
     → Behind frames (Any (joined (done ++ tree ∷ []) others)) outer t → Goes (step (In_any done ∷ frames) (After tree) b) rest t
 any_goes frames done tree b rest _ _ outer t e no_more k =
     at_byte (In_any done ∷ frames) (After tree) b 41 rest t (head_is b 41 rest outer e) (record {
-      state = (frames, After (Any (trees_of (done ++ tree ∷ [])))); is = refl; on = subst (λ r. Behind frames (Any (trees_of (done ++ tree ∷ []))) r t) (sym (tail_is b 41 rest outer e)) k;
+      state = (frames, After (Any (trees_of (done ++ tree ∷ []))));
+      is = refl;
+      on = subst (λ r. Behind frames (Any (trees_of (done ++ tree ∷ []))) r t) (sym (tail_is b 41 rest outer e)) k;
     })
 any_goes frames done tree b rest _ _ outer t e (and_then text _ behind first others is (bracketed front [] inner after _ b0 b1 at inside) all) k =
     let f : b ∷ rest ≡ 40 ∷ (inner ++ 41 ∷ (after ++ (behind ++ 41 ∷ outer))) = e ∙ ap (λ xs. xs ++ 41 ∷ outer) (is ∙ ap (λ xs. xs ++ behind) at)
-        ∙ ap (λ xs. 40 ∷ xs) (append_assoc (inner ++ 41 ∷ after) behind (41 ∷ outer) ∙ append_assoc inner (41 ∷ after) (behind ++ 41 ∷ outer)) in
+    ∙ ap (λ xs. 40 ∷ xs) (append_assoc (inner ++ 41 ∷ after) behind (41 ∷ outer) ∙ append_assoc inner (41 ∷ after) (behind ++ 41 ∷ outer)) in
     at_byte (In_any done ∷ frames) (After tree) b 40 rest t (head_is b 40 rest (inner ++ 41 ∷ (after ++ (behind ++ 41 ∷ outer))) f) (record {
-      state = (In_any (done ++ tree ∷ []) ∷ frames, Opened); is = refl;
-      on = (inner, after ++ (behind ++ 41 ∷ outer), first, tail_is b 40 rest (inner ++ 41 ∷ (after ++ (behind ++ 41 ∷ outer))) f, inside,
-        (after, behind, others, outer, refl, b1, all, subst (λ ts. Behind frames (Any ts) outer t) (sym (joined_snoc (done ++ tree ∷ []) first others)) k));
+      state = (In_any (done ++ tree ∷ []) ∷ frames, Opened);
+      is = refl;
+      on = (
+        inner,
+        after ++ (behind ++ 41 ∷ outer),
+        first,
+        tail_is b 40 rest (inner ++ 41 ∷ (after ++ (behind ++ 41 ∷ outer))) f,
+        inside,
+        (after, behind, others, outer, refl, b1, all, subst (λ ts. Behind frames (Any ts) outer t) (sym (joined_snoc (done ++ tree ∷ []) first others)) k),
+      );
     })
 any_goes frames done tree b rest _ _ outer t e (and_then text _ behind first others is (bracketed front (a ∷ before) inner after _ b0 b1 at inside) all) k =
     let new : List ℕ = before ++ 40 ∷ (inner ++ 41 ∷ after) in
     let f : b ∷ rest ≡ a ∷ ((new ++ behind) ++ 41 ∷ outer) = e ∙ ap (λ xs. xs ++ 41 ∷ outer) (is ∙ ap (λ xs. xs ++ behind) at) in
     blank_after (In_any done ∷ frames) tree b rest t (head_is b a rest ((new ++ behind) ++ 41 ∷ outer) f ∙ b0.0)
-      ([], new ++ behind, And_then first others, outer, tail_is b a rest ((new ++ behind) ++ 41 ∷ outer) f, tt, and_then (new ++ behind) new behind first others refl (bracketed new before inner after first b0.1 b1 refl inside) all, k)
+    ([], new ++ behind, And_then first others, outer, tail_is b a rest ((new ++ behind) ++ 41 ∷ outer) f, tt, and_then (new ++ behind) new behind first others refl (bracketed new before inner after first b0.1 b1 refl inside) all, k)
 
 not_goes : (frames : List Frame) (tree : Tree) (b : ℕ) (rest blanks outer : List ℕ) (t : Tree) → b ∷ rest ≡ blanks ++ 41 ∷ outer → AreBlanks blanks → Behind frames (Not tree) outer t → Goes (step (In_not ∷ frames) (After tree) b) rest t
 not_goes frames tree b rest [] outer t e are k =
     at_byte (In_not ∷ frames) (After tree) b 41 rest t (head_is b 41 rest outer e) (record {
-      state = (frames, After (Not tree)); is = refl; on = subst (λ r. Behind frames (Not tree) r t) (sym (tail_is b 41 rest outer e)) k;
+      state = (frames, After (Not tree));
+      is = refl;
+      on = subst (λ r. Behind frames (Not tree) r t) (sym (tail_is b 41 rest outer e)) k;
     })
 not_goes frames tree b rest (a ∷ blanks) outer t e are k =
     blank_after (In_not ∷ frames) tree b rest t (head_is b a rest (blanks ++ 41 ∷ outer) e ∙ are.0) (blanks, outer, tail_is b a rest (blanks ++ 41 ∷ outer) e, are.1, k)

@@ -10,6 +10,8 @@ mod node;
 mod parsing;
 mod reader;
 mod steps;
+#[cfg(test)]
+mod tests;
 
 pub use comparison::Comparison;
 pub use filter::Filter;

@@ -162,13 +162,17 @@ fn text_has_parts(parts: &[Str], text: &str) -> bool
 fn some_text(comparison: Comparison, value: &str, texts: &[Str]) -> bool
     ensures { result ≡ list_any (text_compares comparison value.now) texts.now }
 {
-    texts.iter().any(|text| text_compares(comparison, value, text.as_str()))
+    texts
+        .iter()
+        .any(|text| text_compares(comparison, value, text.as_str()))
 }
 
 fn some_whole(comparison: Comparison, value: &str, numbers: &[i64]) -> bool
     ensures { result ≡ list_any (whole_matches comparison value.now) numbers.now }
 {
-    numbers.iter().any(|number| whole_matches(comparison, value, *number))
+    numbers
+        .iter()
+        .any(|number| whole_matches(comparison, value, *number))
 }
 
 fn some_flag(value: &str, flags: &[bool]) -> bool
@@ -180,7 +184,9 @@ fn some_flag(value: &str, flags: &[bool]) -> bool
 fn some_text_has_parts(parts: &[Str], texts: &[Str]) -> bool
     ensures { result ≡ list_any (consists_of parts.now) texts.now }
 {
-    texts.iter().any(|text| text_has_parts(parts, text.as_str()))
+    texts
+        .iter()
+        .any(|text| text_has_parts(parts, text.as_str()))
 }
 
 /// Whether a value compares so with a filter's.

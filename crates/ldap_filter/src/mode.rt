@@ -34,9 +34,15 @@ pub(crate) enum Mode {
     /// Its bracket.
     Opened,
     /// The beginning of an attribute, and blanks behind it.
-    Attribute { name: String, blanks: String },
+    Attribute {
+        name: String,
+        blanks: String,
+    },
     /// An attribute and the first character of its sign.
-    Operator { comparison: Comparison, name: String },
+    Operator {
+        comparison: Comparison,
+        name: String,
+    },
     /// An attribute, its sign and the beginning of its value.
     Valued(Comparing),
     /// The same, and a backslash.

@@ -21,5 +21,8 @@ pub enum Node {
         value: Str,
     },
     /// The attribute's text has these parts in order, the first and the last at its ends.
-    Parts { attribute: Str, parts: List<Str> },
+    Parts {
+        attribute: Str,
+        parts: List<Str>,
+    },
 }

@@ -2,7 +2,7 @@
 ghost use Rattle.std.specs.Prelude.{◌≡◌, ◌+◌, ◌<◌};
 
 use std::marker::Model;
-use std::sync::ledger::{Book, Ledger, Share};
+use std::sync::ledger::{Blank, Book, Ledger, Share};
 
 /// How many filters were matched. It takes no memory, and only `tick` changes it.
 #[derive(Drop)]
@@ -22,11 +22,14 @@ impl<L: Ledger> Model for Steps<L> {
 }
 
 impl<L: Ledger> Steps<L> {
-    /// Counts from what a book has.
-    pub fn new(book: Book<L>, share: Share<L>) -> Steps<L>
-        requires { 0 < share.parts }
-        ensures { result ≡ book.total }
+    /// A count from 0, in a ledger that no other count is of.
+    pub fn new(blank: Blank) -> Steps<L>
+        requires name { blank.name ≡ L.name }
+        requires parts { blank.parts ≡ L.parts }
+        requires some { 0 < blank.parts }
+        ensures { result ≡ 0 }
     {
+        let (book, share) = blank.open::<L>();
         Steps { book, share }
     }
 
