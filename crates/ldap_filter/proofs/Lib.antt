@@ -1,0 +1,11 @@
+pub mod Continuations
+pub mod Greedy
+pub mod Numbers
+pub mod Outermost
+pub mod Runs
+pub mod SoFar
+pub mod Standing
+pub mod StepsBack
+pub mod StepsOn
+pub mod Values
+pub mod WideChars

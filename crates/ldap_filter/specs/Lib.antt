@@ -1,0 +1,10 @@
+pub mod Machine
+pub mod Matching
+pub mod Nodes
+pub mod Parsing
+pub mod Places
+pub mod Reading
+pub mod Searching
+pub mod Spelling
+pub mod TreeCodes
+pub mod Trees

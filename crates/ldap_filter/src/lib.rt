@@ -1,0 +1,19 @@
+//! Filters over properties (OSGi Core 8, section 3.2.7 "Filter Syntax").
+#![tactic(auto)]
+
+mod comparison;
+mod filter;
+mod filter_fault;
+mod matching;
+mod mode;
+mod node;
+mod parsing;
+mod reader;
+mod steps;
+#[cfg(test)]
+mod tests;
+
+pub use comparison::Comparison;
+pub use filter::Filter;
+pub use filter_fault::FilterFault;
+pub use steps::Steps;
