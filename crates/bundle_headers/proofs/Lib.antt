@@ -1,0 +1,5 @@
+pub mod BlankLemmas
+pub mod FoldingLemmas
+pub mod HeaderLemmas
+pub mod LineLemmas
+pub mod TextLemmas

@@ -1,0 +1,4 @@
+pub mod Blanks
+pub mod Folding
+pub mod Headers
+pub mod Lines
