@@ -1,4 +1,9 @@
 pub mod BlankLemmas
+pub mod ClauseBytes
+pub mod ClauseFronts
+pub mod ClauseReader
+pub mod ClauseRuns
+pub mod ClauseTexts
 pub mod FoldingLemmas
 pub mod HeaderLemmas
 pub mod LineLemmas

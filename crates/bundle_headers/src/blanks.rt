@@ -1,6 +1,6 @@
 //! Blanks round a text.
 ghost use Rattle.std.specs.Prelude.{◌≡◌};
-ghost use Rattle.bundle_headers.specs.Blanks.{trim_end, trim_start, trimmed};
+ghost use Rattle.bundle_headers.specs.Blanks.{is_blank, trim_end, trim_start, trimmed};
 
 /// The bytes without the blanks before and behind them.
 pub(crate) fn trimmed(bytes: &[u8]) -> &[u8]
@@ -28,4 +28,11 @@ fn trim_end(bytes: &[u8]) -> &[u8]
     }
     let (front, _) = bytes.split_at(end);
     front
+}
+
+/// Whether there is nothing but blanks.
+pub(crate) fn is_blank(bytes: &[u8]) -> bool
+    ensures { result ≡ is_blank bytes.now }
+{
+    bytes.iter().all(|byte| *byte == b' ')
 }

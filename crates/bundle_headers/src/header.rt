@@ -171,7 +171,8 @@ fn name_and_value(alloc: Global, text: &[u8]) -> Result<(Str, Str), OutOfMemory>
     Ok((str_of(alloc, name)?, str_of(alloc, trimmed(value))?))
 }
 
-fn str_of(alloc: Global, bytes: &[u8]) -> Result<Str, OutOfMemory>
+/// A text of these bytes.
+pub(crate) fn str_of(alloc: Global, bytes: &[u8]) -> Result<Str, OutOfMemory>
     requires { IsUtf8 bytes.now }
     ensures { IfOk result (λ text. text ≡ bytes.now) }
 {

@@ -3,6 +3,8 @@
 #![tactic(auto)]
 
 mod blanks;
+mod clause_reading;
+mod clauses;
 mod fault;
 mod folding;
 mod header;
@@ -12,5 +14,6 @@ mod pairs;
 #[cfg(test)]
 mod tests;
 
+pub use clauses::{Clause, Clauses};
 pub use fault::HeaderFault;
 pub use manifest::Manifest;
