@@ -1,9 +1,8 @@
 -- Trimming, from either end.
-use Rattle.std.proofs.Common.{◌≡◌, ℕ, ◌+◌, ◌-◌, ◌<◌, ◌≤◌, List, [], ◌∷◌, ◌++◌, length, Bool, true, false, cond, eqb, refl, sym, ap, ◌∙◌, arith, subst, take, get_or, ◌&&◌}
-use Rattle.std.specs.List.{list_all}
-use Rattle.std.proofs.lemmas.List.{take_more, take_all}
+use Rattle.std.proofs.Common.{◌≡◌, ℕ, ◌+◌, ◌-◌, ◌<◌, ◌≤◌, List, [], ◌∷◌, ◌++◌, length, Bool, true, false, eqb, refl, sym, ap, ◌∙◌, arith, take, get_or, ◌&&◌}
+use Rattle.std.proofs.lemmas.List.{take_more}
 use Rattle.std.proofs.lemmas.List.Folds.{list_all-append}
-use Rattle.bundle_headers.specs.Blanks.{is_blank, trim_start, trim_end, trimmed}
+use Rattle.bundle_headers.specs.Blanks.{is_blank, trim_end}
 
 pub is_blank-push : (xs : List ℕ) (b : ℕ) → is_blank (xs ++ b ∷ []) ≡ (is_blank xs && eqb b 32)
 is_blank-push xs b = list_all-append (λ c. eqb c 32) xs (b ∷ []) ∙ ap (λ t. is_blank xs && t) (elim (eqb b 32) as (λ t. (t && true) ≡ t) [ true ↦ refl | false ↦ refl ])

@@ -1,23 +1,12 @@
 -- The bytes of clauses, and pieces of them.
-use Rattle.std.proofs.Common.{◌≡◌, ℕ, ◌+◌, ◌<◌, ◌&&◌, ◌||◌, ◌⊎◌, List, [], ◌∷◌, ◌++◌, length, map, flat_map, Bool, true, false, not, cond, if◌then◌else◌, eqb, eqb-true, IsTrue, Option, Some, None, option_map, option_and_then, refl, sym, ap, ◌∙◌, arith, subst, append_assoc, inl, inr}
-use Rattle.std.specs.List.{join_with_byte, list_all}
-use Rattle.std.proofs.lemmas.Bool.{and_parts, ne_eqb}
-use Rattle.std.proofs.lemmas.List.{append-nil, length-append, nil_from_length}
+use Rattle.std.proofs.Common.{◌≡◌, ℕ, ◌&&◌, ◌||◌, ◌⊎◌, List, [], ◌∷◌, ◌++◌, length, Bool, true, false, not, eqb, eqb-true, Some, None, option_map, refl, sym, ap, inl, inr}
+use Rattle.std.specs.List.{list_all}
 use Rattle.std.proofs.lemmas.List.Folds.{list_all-append}
-use Rattle.osgi_version.proofs.Options.{bind_gives, chosen, chosen_eq, map_gives, same_some}
-use Rattle.osgi_version.proofs.Readers.{IsReader, reads, run_keeps, run_on}
-use Rattle.osgi_version.specs.Readings.{run}
+use Rattle.osgi_version.proofs.Options.{chosen, map_gives, same_some}
 use Rattle.bundle_headers.specs.Blanks.{is_blank, trimmed}
-use Rattle.bundle_headers.specs.ClauseSteps.{add_path, after_part, buffer_of, clauses_at_end, clauses_of, clauses_start, clauses_step, empty_clause, has_arguments, name_in, open_step, reading, token, typed_step, value_step, quoted_step, behind_step, colon_step, with_argument, with_path}
-use Rattle.bundle_headers.specs.Clauses.{AreArguments, AreClauses, ArePaths, IsAttribute, IsClause, IsDirective, IsPlainValue, IsQuoted, IsQuotedValue, IsToken, IsTokenText, IsTypedName, IsValue, SpellsClauses, ends_part, is_quoted_byte, is_token_byte, is_value_byte, quoted_byte}
-use Rattle.bundle_headers.specs.declared.clause_reading.ClausesReading.{ClausesReading}
+use Rattle.bundle_headers.specs.ClauseSteps.{add_path, has_arguments, name_in, token, with_path}
+use Rattle.bundle_headers.specs.Clauses.{ends_part, is_token_byte, is_value_byte}
 use Rattle.bundle_headers.specs.declared.clause_reading.Front.{Front}
-use Rattle.bundle_headers.specs.declared.clause_reading.Kind.{Kind}
-use Rattle.bundle_headers.specs.declared.clause_reading.Kind.TheVariants.{Attribute, Directive}
-use Rattle.bundle_headers.specs.declared.clause_reading.Part.{Part}
-use Rattle.bundle_headers.specs.declared.clause_reading.Part.TheVariants.{Open, Colon, Typed, Value, Quoted, Escaped, Behind}
-use Rattle.bundle_headers.specs.declared.clauses.Clause.{Clause}
-use Rattle.bundle_headers.specs.declared.clauses.Clauses.{Clauses}
 
 refused_all : (a b c d : Bool) → not (((a || b) || c) || d) ≡ true → (a ≡ false) × (b ≡ false) × (c ≡ false) × (d ≡ false)
 refused_all true b c d e = absurd (cc)
@@ -46,8 +35,9 @@ not_gives false e = absurd (cc)
 
 pub ends_cases : (b : ℕ) → ends_part b ≡ true → (b ≡ 44) ⊎ (b ≡ 59)
 ends_cases b e = elim (eqb b 44) as (λ t. eqb b 44 ≡ t → (t || eqb b 59) ≡ true → (b ≡ 44) ⊎ (b ≡ 59)) [
-    true ↦ λ h _. inl (eqb-true b 44 h)
-  | false ↦ λ _ h. inr (eqb-true b 59 h) ] refl e
+  | true ↦ λ h _. inl (eqb-true b 44 h)
+  | false ↦ λ _ h. inr (eqb-true b 59 h)
+] refl e
 
 pub all_more : (p : ℕ → Bool) (xs : List ℕ) (b : ℕ) → list_all p xs ≡ true → p b ≡ true → list_all p (xs ++ b ∷ []) ≡ true
 all_more p xs b all here = rw (list_all-append p xs (b ∷ []), all, here) refl
@@ -57,21 +47,24 @@ not_blank_more xs = rw (list_all-append (λ b. eqb b 32) xs (97 ∷ [])) (elim (
 
 pub token_gives : (bytes text : List ℕ) → token bytes ≡ Some text → (is_blank bytes ≡ false) × (text ≡ trimmed bytes)
 token_gives bytes text e = elim (chosen (is_blank bytes) None (Some (trimmed bytes)) (Some text) e) [
-    inl blank ↦ absurd (let none = blank.1 in cc)
-  | inr other ↦ (other.0, sym (same_some other.1)) ]
+  | inl blank ↦ absurd (let none = blank.1 in cc)
+  | inr other ↦ (other.0, sym (same_some other.1))
+]
 
 pub token_here : (bytes text : List ℕ) → is_blank bytes ≡ false → text ≡ trimmed bytes → token bytes ≡ Some text
 token_here bytes text e same = rw e (ap Some (sym same))
 
 pub name_gives : (s : Front) (bytes name : List ℕ) → name_in s bytes ≡ Some name → (eqb (length s.clause.paths) 0 ≡ false) × (is_blank bytes ≡ false) × (name ≡ trimmed bytes)
 name_gives s bytes name e = elim (chosen (eqb (length s.clause.paths) 0) None (token bytes) (Some name) e) [
-    inl none ↦ absurd (let no_name = none.1 in cc)
-  | inr some ↦ let is = token_gives bytes name some.1 in (some.0, is.0, is.1) ]
+  | inl none ↦ absurd (let no_name = none.1 in cc)
+  | inr some ↦ let is = token_gives bytes name some.1 in (some.0, is.0, is.1)
+]
 
 pub path_gives : (s t : Front) (bytes : List ℕ) → with_path s bytes ≡ Some t → (path : List ℕ) × (has_arguments s.clause ≡ false) × (is_blank bytes ≡ false) × (path ≡ trimmed bytes) × (add_path s path ≡ t)
 path_gives s t bytes e = elim (chosen (has_arguments s.clause) None (option_map (add_path s) (token bytes)) (Some t) e) [
-    inl refused ↦ absurd (let none = refused.1 in cc)
+  | inl refused ↦ absurd (let none = refused.1 in cc)
   | inr may ↦
       let some = map_gives (add_path s) (token bytes) t may.1 in
       let is = token_gives bytes some.0 some.1 in
-      (some.0, may.0, is.0, is.1, some.2) ]
+      (some.0, may.0, is.0, is.1, some.2)
+]

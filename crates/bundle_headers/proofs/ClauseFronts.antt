@@ -1,15 +1,11 @@
 -- Where the steps of a list of clauses lead.
-use Rattle.std.proofs.Common.{◌≡◌, ℕ, ◌+◌, ◌<◌, ◌&&◌, ◌||◌, ◌⊎◌, List, [], ◌∷◌, ◌++◌, length, map, flat_map, Bool, true, false, not, cond, if◌then◌else◌, eqb, eqb-true, IsTrue, Option, Some, None, option_map, option_and_then, refl, sym, ap, ◌∙◌, arith, subst, append_assoc, inl, inr}
+use Rattle.std.proofs.Common.{◌≡◌, ℕ, ◌<◌, ◌&&◌, ◌⊎◌, List, [], ◌∷◌, ◌++◌, length, true, false, eqb, eqb-true, refl, sym, ap, ◌∙◌, arith, subst, append_assoc, inl, inr}
 use Rattle.std.specs.List.{join_with_byte, list_all}
-use Rattle.std.proofs.lemmas.Bool.{and_parts, ne_eqb}
+use Rattle.std.proofs.lemmas.Bool.{and_parts}
 use Rattle.std.proofs.lemmas.List.{append-nil, length-append, nil_from_length}
-use Rattle.std.proofs.lemmas.List.Folds.{list_all-append}
-use Rattle.osgi_version.proofs.Options.{bind_gives, chosen, chosen_eq, map_gives, same_some}
-use Rattle.osgi_version.proofs.Readers.{IsReader, reads, run_keeps, run_on}
-use Rattle.osgi_version.specs.Readings.{run}
-use Rattle.bundle_headers.specs.Blanks.{is_blank, trimmed}
-use Rattle.bundle_headers.specs.ClauseSteps.{add_path, after_part, buffer_of, clauses_at_end, clauses_of, clauses_start, clauses_step, empty_clause, has_arguments, name_in, open_other, open_step, reading, token, typed_step, value_step, quoted_step, behind_step, colon_step, with_argument, with_path}
-use Rattle.bundle_headers.specs.Clauses.{AreArguments, AreClauses, ArePaths, IsAttribute, IsClause, IsDirective, IsPlainValue, IsQuoted, IsQuotedValue, IsToken, IsTokenText, IsTypedName, IsValue, SpellsClauses, ends_part, is_quoted_byte, is_token_byte, is_value_byte, quoted_byte}
+use Rattle.bundle_headers.specs.Blanks.{is_blank}
+use Rattle.bundle_headers.specs.ClauseSteps.{add_path, after_part, clauses_of, empty_clause, has_arguments, with_argument}
+use Rattle.bundle_headers.specs.Clauses.{AreArguments, AreClauses, ArePaths, IsAttribute, IsClause, IsDirective, IsQuoted, IsQuotedValue, IsToken, IsTypedName, IsValue, SpellsClauses, ends_part, is_token_byte, is_value_byte}
 use Rattle.bundle_headers.specs.declared.clause_reading.ClausesReading.{ClausesReading}
 use Rattle.bundle_headers.specs.declared.clause_reading.Front.{Front}
 use Rattle.bundle_headers.specs.declared.clause_reading.Kind.{Kind}
@@ -17,9 +13,8 @@ use Rattle.bundle_headers.specs.declared.clause_reading.Kind.TheVariants.{Attrib
 use Rattle.bundle_headers.specs.declared.clause_reading.Part.{Part}
 use Rattle.bundle_headers.specs.declared.clause_reading.Part.TheVariants.{Open, Colon, Typed, Value, Quoted, Escaped, Behind}
 use Rattle.bundle_headers.specs.declared.clauses.Clause.{Clause}
-use Rattle.bundle_headers.specs.declared.clauses.Clauses.{Clauses}
 use Rattle.bundle_headers.proofs.ClauseRuns.{some_paths}
-use Rattle.bundle_headers.proofs.ClauseBytes.{all_more, ends_cases, name_gives, not_gives, path_gives, token_gives}
+use Rattle.bundle_headers.proofs.ClauseBytes.{ends_cases, not_gives}
 
 -- texts, each with a byte behind it
 abbrev pub ended : ℕ → List (List ℕ) → List ℕ
@@ -94,15 +89,16 @@ no_arguments : (texts : List (List ℕ)) (clause : Clause) → AreArguments text
 no_arguments texts clause are none =
     let parts = and_parts (eqb (length clause.attributes) 0) (eqb (length clause.directives) 0) (not_gives (eqb (length clause.attributes) 0 && eqb (length clause.directives) 0) none) in
     none_of_kind texts clause.attributes clause.directives are
-        (nil_from_length clause.attributes (eqb-true (length clause.attributes) 0 parts.0)) (nil_from_length clause.directives (eqb-true (length clause.directives) 0 parts.1))
+    (nil_from_length clause.attributes (eqb-true (length clause.attributes) 0 parts.0)) (nil_from_length clause.directives (eqb-true (length clause.directives) 0 parts.1))
 
 arguments_none : (clause : Clause) → AreArguments [] clause.attributes clause.directives → has_arguments clause ≡ true → ⊥
 arguments_none clause (ea, ed) has = let none = rw (ea, ed) at has in cc
 
 pub has_path_where_arguments : (s : Front) (text : List ℕ) → Lead s text → has_arguments s.clause ≡ true → HasPath s
 has_path_where_arguments s text lead has = elim lead.in_order [
-    inl some ↦ some_paths lead.paths s.clause.paths some lead.are_paths
-  | inr none ↦ absurd (arguments_none s.clause (subst (λ xs. AreArguments xs s.clause.attributes s.clause.directives) none lead.are_arguments) has) ]
+  | inl some ↦ some_paths lead.paths s.clause.paths some lead.are_paths
+  | inr none ↦ absurd (arguments_none s.clause (subst (λ xs. AreArguments xs s.clause.attributes s.clause.directives) none lead.are_arguments) has)
+]
 
 -- a part behind others
 next_same : (text part : List ℕ) (texts parts : List (List ℕ)) → text ≡ ended 44 texts ++ ended 59 parts → text ++ (part ++ 59 ∷ []) ≡ ended 44 texts ++ ended 59 (parts ++ part ∷ [])
@@ -122,8 +118,8 @@ adds_path s text part path lead none is =
     let empty = subst (λ xs. AreArguments xs s.clause.attributes s.clause.directives) no_args lead.are_arguments in
     let same : text ≡ ended 44 lead.texts ++ ended 59 lead.paths = lead.same ∙ ap (λ xs. ended 44 lead.texts ++ ended 59 xs) (ap (λ xs. lead.paths ++ xs) no_args ∙ append-nil lead.paths) in
     let paths = paths_push lead.paths s.clause.paths part path lead.are_paths is in
-    let some : 0 < length (lead.paths ++ part ∷ []) = rw length-append (omega arith) in
-    (record {
+    let some : 0 < length (lead.paths ++ part ∷ []) = rw length-append (omega arith) in (
+      record {
         texts = lead.texts;
         paths = lead.paths ++ part ∷ [];
         arguments = [];
@@ -131,13 +127,16 @@ adds_path s text part path lead none is =
         are_paths = paths;
         are_arguments = empty;
         in_order = inr refl;
-        same = next_same text part lead.texts lead.paths same ∙ ap (λ xs. ended 44 lead.texts ++ ended 59 xs) (sym (append-nil (lead.paths ++ part ∷ []))) },
-     record {
+        same = next_same text part lead.texts lead.paths same ∙ ap (λ xs. ended 44 lead.texts ++ ended 59 xs) (sym (append-nil (lead.paths ++ part ∷ [])));
+      },
+      record {
         texts = lead.texts;
         last = join_with_byte 59 ((lead.paths ++ part ∷ []) ++ []);
         whole = lead.whole;
         is_clause = (lead.paths ++ part ∷ [], [], some, paths, empty, refl);
-        same = done_same text part lead.texts lead.paths same ∙ ap (λ xs. ended 44 lead.texts ++ join_with_byte 59 xs) (sym (append-nil (lead.paths ++ part ∷ []))) })
+        same = done_same text part lead.texts lead.paths same ∙ ap (λ xs. ended 44 lead.texts ++ join_with_byte 59 xs) (sym (append-nil (lead.paths ++ part ∷ [])));
+      },
+    )
 
 paths_some_back : (texts paths : List (List ℕ)) → ArePaths texts paths → eqb (length paths) 0 ≡ false → 0 < length texts
 paths_some_back [] [] are has = absurd (cc)
@@ -167,8 +166,8 @@ adds_argument s kind text part name value lead has is =
     let are = argument_push s kind lead.arguments part name value lead.are_arguments is in
     let paths = subst (λ ps. ArePaths lead.paths ps) (sym (paths_stay s kind name value)) lead.are_paths in
     let whole = subst (λ cs. AreClauses lead.texts cs) (sym (whole_stays s kind name value)) lead.whole in
-    let order = append_assoc lead.paths lead.arguments (part ∷ []) in
-    (record {
+    let order = append_assoc lead.paths lead.arguments (part ∷ []) in (
+      record {
         texts = lead.texts;
         paths = lead.paths;
         arguments = lead.arguments ++ part ∷ [];
@@ -176,28 +175,31 @@ adds_argument s kind text part name value lead has is =
         are_paths = paths;
         are_arguments = are;
         in_order = inl some;
-        same = next_same text part lead.texts (lead.paths ++ lead.arguments) lead.same ∙ ap (λ xs. ended 44 lead.texts ++ ended 59 xs) order },
-     record {
+        same = next_same text part lead.texts (lead.paths ++ lead.arguments) lead.same ∙ ap (λ xs. ended 44 lead.texts ++ ended 59 xs) order;
+      },
+      record {
         texts = lead.texts;
         last = join_with_byte 59 (lead.paths ++ (lead.arguments ++ part ∷ []));
         whole = whole;
         is_clause = (lead.paths, lead.arguments ++ part ∷ [], some, paths, are, refl);
-        same = done_same text part lead.texts (lead.paths ++ lead.arguments) lead.same ∙ ap (λ xs. ended 44 lead.texts ++ join_with_byte 59 xs) order })
+        same = done_same text part lead.texts (lead.paths ++ lead.arguments) lead.same ∙ ap (λ xs. ended 44 lead.texts ++ join_with_byte 59 xs) order;
+      },
+    )
 
 abbrev next_clause : Front → Front
 next_clause s = record { whole = s.whole ++ s.clause ∷ []; clause = empty_clause }
 
 comma : (s : Front) (text : List ℕ) → Done s text → Lead (next_clause s) (text ++ 44 ∷ [])
 comma s text done = record {
-    texts = done.texts ++ done.last ∷ [];
-    paths = [];
-    arguments = [];
-    whole = clauses_push done.texts s.whole done.last s.clause done.whole done.is_clause;
-    are_paths = tt;
-    are_arguments = (refl, refl);
-    in_order = inr refl;
-    same = ap (λ xs. xs ++ 44 ∷ []) done.same ∙ (append_assoc (ended 44 done.texts) done.last (44 ∷ []) ∙ (sym (ended_push 44 done.texts done.last) ∙ sym (append-nil (ended 44 (done.texts ++ done.last ∷ [])))))
-  }
+  texts = done.texts ++ done.last ∷ [];
+  paths = [];
+  arguments = [];
+  whole = clauses_push done.texts s.whole done.last s.clause done.whole done.is_clause;
+  are_paths = tt;
+  are_arguments = (refl, refl);
+  in_order = inr refl;
+  same = ap (λ xs. xs ++ 44 ∷ []) done.same ∙ (append_assoc (ended 44 done.texts) done.last (44 ∷ []) ∙ (sym (ended_push 44 done.texts done.last) ∙ sym (append-nil (ended 44 (done.texts ++ done.last ∷ [])))));
+}
 
 pub done_spelled : (s : Front) (text : List ℕ) → Done s text → SpellsClauses text (clauses_of s)
 done_spelled s text done =
@@ -238,9 +240,10 @@ pub after : (s : Front) (text part whole : List ℕ) (b : ℕ) → Adds s text p
 after s text part whole b (lead, done) e same =
     let P : ℕ → Type 0 = λ c. Next (after_part s c) whole c in
     elim (ends_cases b e) [
-        inl is_comma ↦ subst P (sym is_comma) (whole ++ 44 ∷ [], comma s whole (subst (λ xs. Done s xs) (sym same) done), refl, sym (append-nil (whole ++ 44 ∷ [])))
+      | inl is_comma ↦ subst P (sym is_comma) (whole ++ 44 ∷ [], comma s whole (subst (λ xs. Done s xs) (sym same) done), refl, sym (append-nil (whole ++ 44 ∷ [])))
       | inr is_semicolon ↦ subst P (sym is_semicolon)
-          (whole ++ 59 ∷ [], subst (λ xs. Lead s xs) (sym (append_assoc text part (59 ∷ [])) ∙ ap (λ xs. xs ++ 59 ∷ []) (sym same)) lead, refl, sym (append-nil (whole ++ 59 ∷ []))) ]
+          (whole ++ 59 ∷ [], subst (λ xs. Lead s xs) (sym (append_assoc text part (59 ∷ [])) ∙ ap (λ xs. xs ++ 59 ∷ []) (sym same)) lead, refl, sym (append-nil (whole ++ 59 ∷ [])))
+    ]
 
 pub behind_more : (front head behind : List ℕ) (text : List ℕ) (b : ℕ) → text ≡ front ++ (head ++ behind) → text ++ b ∷ [] ≡ front ++ (head ++ (behind ++ b ∷ []))
 behind_more front head behind text b e = ap (λ xs. xs ++ b ∷ []) e ∙ (append_assoc front (head ++ behind) (b ∷ []) ∙ ap (λ xs. front ++ xs) (append_assoc head behind (b ∷ [])))
@@ -249,4 +252,3 @@ pub ends_argument : (s : Front) (kind : Kind) (name value text front head behind
     → Next (after_part (with_argument s kind name value) b) text b
 ends_argument s kind name value text front head behind b lead has opens val same e =
     after (with_argument s kind name value) front (head ++ behind) text b (adds_argument s kind front (head ++ behind) name value lead has (argument_of kind head name behind value opens val)) e same
-

@@ -1,21 +1,18 @@
 -- What is spelled as a list of clauses is read.
-use Rattle.std.proofs.Common.{◌≡◌, ℕ, ◌+◌, ◌<◌, ◌&&◌, ◌||◌, ◌⊎◌, List, [], ◌∷◌, ◌++◌, length, map, flat_map, Bool, true, false, not, cond, if◌then◌else◌, eqb, eqb-true, IsTrue, Option, Some, None, option_map, option_and_then, refl, sym, ap, ◌∙◌, arith, subst, append_assoc, inl, inr}
+use Rattle.std.proofs.Common.{◌≡◌, ℕ, ◌<◌, ◌||◌, List, [], ◌∷◌, ◌++◌, length, map, flat_map, Bool, true, false, not, eqb, eqb-true, Some, option_map, option_and_then, refl, sym, ap, ◌∙◌, arith, subst, append_assoc, inl, inr}
 use Rattle.std.specs.List.{join_with_byte, list_all}
 use Rattle.std.proofs.lemmas.Bool.{and_parts, ne_eqb}
-use Rattle.std.proofs.lemmas.List.{append-nil, length-append, nil_from_length}
-use Rattle.std.proofs.lemmas.List.Folds.{list_all-append}
-use Rattle.osgi_version.proofs.Options.{bind_gives, chosen, chosen_eq, map_gives, same_some}
-use Rattle.osgi_version.proofs.Readers.{IsReader, reads, run_keeps, run_on}
+use Rattle.std.proofs.lemmas.List.{append-nil}
+use Rattle.osgi_version.proofs.Readers.{reads, run_on}
 use Rattle.osgi_version.specs.Readings.{run}
-use Rattle.bundle_headers.specs.Blanks.{is_blank, trimmed}
-use Rattle.bundle_headers.specs.ClauseSteps.{add_path, after_part, buffer_of, clauses_at_end, clauses_of, clauses_start, clauses_step, empty_clause, has_arguments, name_in, open_step, reading, token, typed_step, value_step, quoted_step, behind_step, colon_step, with_argument, with_path}
-use Rattle.bundle_headers.specs.Clauses.{AreArguments, AreClauses, ArePaths, IsAttribute, IsClause, IsDirective, IsPlainValue, IsQuoted, IsQuotedValue, IsToken, IsTokenText, IsTypedName, IsValue, SpellsClauses, ends_part, is_quoted_byte, is_token_byte, is_value_byte, quoted_byte}
+use Rattle.bundle_headers.specs.Blanks.{is_blank}
+use Rattle.bundle_headers.specs.ClauseSteps.{add_path, after_part, clauses_at_end, clauses_of, clauses_start, clauses_step, empty_clause, has_arguments, name_in, reading, with_argument, with_path}
+use Rattle.bundle_headers.specs.Clauses.{AreArguments, AreClauses, ArePaths, IsAttribute, IsClause, IsDirective, IsToken, IsTokenText, IsValue, SpellsClauses, ends_part, is_quoted_byte, is_token_byte, is_value_byte, quoted_byte}
 use Rattle.bundle_headers.specs.declared.clause_reading.ClausesReading.{ClausesReading}
 use Rattle.bundle_headers.specs.declared.clause_reading.Front.{Front}
 use Rattle.bundle_headers.specs.declared.clause_reading.Kind.{Kind}
 use Rattle.bundle_headers.specs.declared.clause_reading.Kind.TheVariants.{Attribute, Directive}
-use Rattle.bundle_headers.specs.declared.clause_reading.Part.{Part}
-use Rattle.bundle_headers.specs.declared.clause_reading.Part.TheVariants.{Open, Colon, Typed, Value, Quoted, Escaped, Behind}
+use Rattle.bundle_headers.specs.declared.clause_reading.Part.TheVariants.{Open, Colon, Typed, Value, Quoted, Behind}
 use Rattle.bundle_headers.specs.declared.clauses.Clause.{Clause}
 use Rattle.bundle_headers.specs.declared.clauses.Clauses.{Clauses}
 use Rattle.bundle_headers.proofs.ClauseBytes.{plain_quoted_byte, token_byte, token_here, value_byte}
@@ -73,22 +70,26 @@ from_before from at front text t same (p, e, ends) = (p, same ∙ e, ends)
 
 path_part : (s : Front) (text path : List ℕ) → has_arguments s.clause ≡ false → IsToken text path → PartTo s text (add_path s path)
 path_part s text path none ((all, filled), same) =
-    let added : with_path s text ≡ Some (add_path s path) = rw none (ap (option_map (add_path s)) (token_here text path filled same)) in
-    (reading s (Open text), run_pushes (λ raw. reading s (Open raw)) is_token_byte (open_pushes s) [] text all,
-        (λ b e. rw e (ap (option_map (λ next. after_part next b)) added), ap (option_map clauses_of) added))
+    let added : with_path s text ≡ Some (add_path s path) = rw none (ap (option_map (add_path s)) (token_here text path filled same)) in (
+      reading s (Open text),
+      run_pushes (λ raw. reading s (Open raw)) is_token_byte (open_pushes s) [] text all,
+      (λ b e. rw e (ap (option_map (λ next. after_part next b)) added), ap (option_map clauses_of) added),
+    )
 
 value_part : (s : Front) (kind : Kind) (name text value : List ℕ) → IsValue text value → LeadsTo (reading s (Value kind name [])) text (with_argument s kind name value)
 value_part s kind name text value (inl (all, filled, same)) =
-    let is = token_here text value filled same in
-    (reading s (Value kind name text), run_pushes (λ raw. reading s (Value kind name raw)) is_value_byte (value_pushes s kind name) [] text all,
-        (λ b e. rw e (ap (option_map (λ v. after_part (with_argument s kind name v) b)) is), ap (option_map (λ v. clauses_of (with_argument s kind name v))) is))
+    let is = token_here text value filled same in (
+      reading s (Value kind name text),
+      run_pushes (λ raw. reading s (Value kind name raw)) is_value_byte (value_pushes s kind name) [] text all,
+      (λ b e. rw e (ap (option_map (λ v. after_part (with_argument s kind name v) b)) is), ap (option_map (λ v. clauses_of (with_argument s kind name v))) is),
+    )
 value_part s kind name text value (inr (before, quote, behind, blank, blank', (bytes, all, spelled, said), same)) =
     let front = run_pushes (λ raw. reading s (Value kind name raw)) (λ b. eqb b 32) (blank_pushes s kind name) [] before blank in
     let opened : run clauses_step (reading s (Value kind name before)) (34 ∷ (quote ++ (34 ∷ behind))) ≡ run clauses_step (reading s (Quoted kind name [])) (quote ++ (34 ∷ behind)) = rw blank refl in
     let inside : run clauses_step (reading s (Quoted kind name [])) quote ≡ Some (reading s (Quoted kind name value)) =
-        ap (run clauses_step (reading s (Quoted kind name []))) spelled ∙ (run_quoted s kind name [] bytes all ∙ ap (λ xs. Some (reading s (Quoted kind name xs))) (sym said)) in
+    ap (run clauses_step (reading s (Quoted kind name []))) spelled ∙ (run_quoted s kind name [] bytes all ∙ ap (λ xs. Some (reading s (Quoted kind name xs))) (sym said)) in
     let whole = run_on clauses_step (reading s (Value kind name [])) (reading s (Value kind name before)) before (34 ∷ (quote ++ (34 ∷ behind))) front
-        ∙ (opened ∙ (run_on clauses_step (reading s (Quoted kind name [])) (reading s (Quoted kind name value)) quote (34 ∷ behind) inside ∙ run_behind s kind name value behind blank')) in
+    ∙ (opened ∙ (run_on clauses_step (reading s (Quoted kind name [])) (reading s (Quoted kind name value)) quote (34 ∷ behind) inside ∙ run_behind s kind name value behind blank')) in
     (reading s (Behind kind name value), ap (run clauses_step (reading s (Value kind name []))) same ∙ whole, (λ b e. rw e refl, refl))
 
 abbrev HasPath : Front → Type 0
@@ -126,16 +127,16 @@ run_type s name (b ∷ bs) more (all, filled) =
 attribute_part : (s : Front) (text name value : List ℕ) → HasPath s → IsAttribute text name value → PartTo s text (with_argument s Attribute name value)
 attribute_part s text name value has (before, behind, inl is, val, same) =
     subst (λ xs. PartTo s xs (with_argument s Attribute name value)) (sym same ∙ refl)
-        (let v = value_part s Attribute name behind value val in (v.0, after_name s before name behind has is ∙ v.1, v.2))
+    (let v = value_part s Attribute name behind value val in (v.0, after_name s before name behind has is ∙ v.1, v.2))
 attribute_part s text name value has (before, behind, inr (n, type, is, is_type, split), val, same) =
     let regrouped : n ++ (58 ∷ (type ++ (61 ∷ behind))) ≡ text = sym (append_assoc n (58 ∷ type) (61 ∷ behind)) ∙ (ap (λ xs. xs ++ (61 ∷ behind)) (sym split) ∙ sym same) in
     subst (λ xs. PartTo s xs (with_argument s Attribute name value)) regrouped
-        (let v = value_part s Attribute name behind value val in (v.0, after_colon s n name (type ++ (61 ∷ behind)) has is ∙ (run_type s name type behind is_type ∙ v.1), v.2))
+    (let v = value_part s Attribute name behind value val in (v.0, after_colon s n name (type ++ (61 ∷ behind)) has is ∙ (run_type s name type behind is_type ∙ v.1), v.2))
 
 directive_part : (s : Front) (text name value : List ℕ) → HasPath s → IsDirective text name value → PartTo s text (with_argument s Directive name value)
 directive_part s text name value has (before, behind, is, val, same) =
     subst (λ xs. PartTo s xs (with_argument s Directive name value)) (sym same)
-        (let v = value_part s Directive name behind value val in (v.0, after_colon s before name (61 ∷ behind) has is ∙ v.1, v.2))
+    (let v = value_part s Directive name behind value val in (v.0, after_colon s before name (61 ∷ behind) has is ∙ v.1, v.2))
 
 -- parts, one after the other
 abbrev PartsLead : Front → List (List ℕ) → Front → Type 0
@@ -150,9 +151,12 @@ parts_run : (s t : Front) (text : List ℕ) (texts : List (List ℕ)) → PartsL
 parts_run s t text [] (u, part, e) = subst (λ w. PartTo s text w) e part
 parts_run s t text (next ∷ texts) (u, (p, led, ends), more) =
     let rest = parts_run u t next texts more in
-    let step : clauses_step p 59 ≡ Some (reading u (Open [])) = ends.0 59 refl in
-    (rest.0, run_on clauses_step (reading s (Open [])) p text (59 ∷ join_with_byte 59 (next ∷ texts)) led
-        ∙ (ap (option_and_then (λ q. run clauses_step q (join_with_byte 59 (next ∷ texts)))) step ∙ rest.1), rest.2)
+    let step : clauses_step p 59 ≡ Some (reading u (Open [])) = ends.0 59 refl in (
+      rest.0,
+      run_on clauses_step (reading s (Open [])) p text (59 ∷ join_with_byte 59 (next ∷ texts)) led
+          ∙ (ap (option_and_then (λ q. run clauses_step q (join_with_byte 59 (next ∷ texts)))) step ∙ rest.1),
+      rest.2,
+    )
 
 abbrev with_paths : Front → List (List ℕ) → Front
 with_paths s paths = record s { clause = record s.clause { paths = paths } }
@@ -164,25 +168,31 @@ paths_lead : (s : Front) (texts paths : List (List ℕ)) → has_arguments s.cla
 paths_lead s [] [] none are = ap (with_paths s) (sym (append-nil s.clause.paths))
 paths_lead s [] (path ∷ paths) none are = absurd are
 paths_lead s (text ∷ texts) [] none are = absurd are
-paths_lead s (text ∷ texts) (path ∷ paths) none (is, are) =
-    (add_path s path, path_part s text path none is,
-        subst (λ ps. PartsLead (add_path s path) texts (with_paths s ps)) (append_assoc s.clause.paths (path ∷ []) paths) (paths_lead (add_path s path) texts paths none are))
+paths_lead s (text ∷ texts) (path ∷ paths) none (is, are) = (
+  add_path s path,
+  path_part s text path none is,
+  subst (λ ps. PartsLead (add_path s path) texts (with_paths s ps)) (append_assoc s.clause.paths (path ∷ []) paths) (paths_lead (add_path s path) texts paths none are),
+)
 
 arguments_lead : (s : Front) (texts : List (List ℕ)) (attributes directives : List (List ℕ × List ℕ)) → HasPath s → AreArguments texts attributes directives
     → PartsLead s texts (with_all s (s.clause.attributes ++ attributes) (s.clause.directives ++ directives))
 arguments_lead s [] attributes directives has (ea, ed) =
     ap (λ xs. with_all s xs s.clause.directives) (sym (append-nil s.clause.attributes) ∙ ap (λ xs. s.clause.attributes ++ xs) (sym ea))
     ∙ ap (λ xs. with_all s (s.clause.attributes ++ attributes) xs) (sym (append-nil s.clause.directives) ∙ ap (λ xs. s.clause.directives ++ xs) (sym ed))
-arguments_lead s (text ∷ texts) attributes directives has (name, value, rest, inl (is, e, are)) =
-    (with_argument s Attribute name value, attribute_part s text name value has is,
-        subst (λ xs. PartsLead (with_argument s Attribute name value) texts (with_all s xs (s.clause.directives ++ directives)))
-            (append_assoc s.clause.attributes ((name, value) ∷ []) rest ∙ ap (λ xs. s.clause.attributes ++ xs) (sym e))
-            (arguments_lead (with_argument s Attribute name value) texts rest directives has are))
-arguments_lead s (text ∷ texts) attributes directives has (name, value, rest, inr (is, e, are)) =
-    (with_argument s Directive name value, directive_part s text name value has is,
-        subst (λ xs. PartsLead (with_argument s Directive name value) texts (with_all s (s.clause.attributes ++ attributes) xs))
-            (append_assoc s.clause.directives ((name, value) ∷ []) rest ∙ ap (λ xs. s.clause.directives ++ xs) (sym e))
-            (arguments_lead (with_argument s Directive name value) texts attributes rest has are))
+arguments_lead s (text ∷ texts) attributes directives has (name, value, rest, inl (is, e, are)) = (
+  with_argument s Attribute name value,
+  attribute_part s text name value has is,
+  subst (λ xs. PartsLead (with_argument s Attribute name value) texts (with_all s xs (s.clause.directives ++ directives)))
+      (append_assoc s.clause.attributes ((name, value) ∷ []) rest ∙ ap (λ xs. s.clause.attributes ++ xs) (sym e))
+      (arguments_lead (with_argument s Attribute name value) texts rest directives has are),
+)
+arguments_lead s (text ∷ texts) attributes directives has (name, value, rest, inr (is, e, are)) = (
+  with_argument s Directive name value,
+  directive_part s text name value has is,
+  subst (λ xs. PartsLead (with_argument s Directive name value) texts (with_all s (s.clause.attributes ++ attributes) xs))
+      (append_assoc s.clause.directives ((name, value) ∷ []) rest ∙ ap (λ xs. s.clause.directives ++ xs) (sym e))
+      (arguments_lead (with_argument s Directive name value) texts attributes rest has are),
+)
 
 pub some_paths : (texts paths : List (List ℕ)) → 0 < length texts → ArePaths texts paths → eqb (length paths) 0 ≡ false
 some_paths [] paths some are = absurd (omega arith)
@@ -199,8 +209,8 @@ clause_run whole text clause (path ∷ paths, arguments, some, are, are', same) 
     let first = paths_lead (begun whole) (path ∷ paths) clause.paths refl are in
     let second = arguments_lead (with_paths (begun whole) clause.paths) arguments clause.attributes clause.directives (some_paths (path ∷ paths) clause.paths some are) are' in
     subst (λ xs. PartTo (begun whole) xs (record { whole = whole; clause = clause })) (sym same)
-        (parts_run (begun whole) (record { whole = whole; clause = clause }) path (paths ++ arguments)
-            (leads_append (begun whole) (with_paths (begun whole) clause.paths) (record { whole = whole; clause = clause }) (path ∷ paths) arguments first second))
+    (parts_run (begun whole) (record { whole = whole; clause = clause }) path (paths ++ arguments)
+    (leads_append (begun whole) (with_paths (begun whole) clause.paths) (record { whole = whole; clause = clause }) (path ∷ paths) arguments first second))
 
 clauses_run : (whole : List Clause) (text : List ℕ) (texts : List (List ℕ)) (clauses : List Clause) → AreClauses (text ∷ texts) clauses
     → reads clauses_step clauses_at_end (reading (begun whole) (Open [])) (join_with_byte 44 (text ∷ texts)) ≡ Some (record { list = whole ++ clauses })
@@ -213,8 +223,8 @@ clauses_run whole text (next ∷ texts) (clause ∷ clauses) (is, are) =
     let step : clauses_step led.0 44 ≡ Some (reading (begun (whole ++ clause ∷ [])) (Open [])) = led.2.0 44 refl in
     let rest = clauses_run (whole ++ clause ∷ []) next texts clauses are in
     ap (option_and_then clauses_at_end)
-        (run_on clauses_step (reading (begun whole) (Open [])) led.0 text (44 ∷ join_with_byte 44 (next ∷ texts)) led.1
-        ∙ ap (option_and_then (λ q. run clauses_step q (join_with_byte 44 (next ∷ texts)))) step)
+    (run_on clauses_step (reading (begun whole) (Open [])) led.0 text (44 ∷ join_with_byte 44 (next ∷ texts)) led.1
+    ∙ ap (option_and_then (λ q. run clauses_step q (join_with_byte 44 (next ∷ texts)))) step)
     ∙ (rest ∙ ap (λ (xs : List Clause). Some (record { list = xs })) (append_assoc whole (clause ∷ []) clauses))
 
 pub clauses_complete : (text : List ℕ) (clauses : Clauses) → SpellsClauses text clauses → reads clauses_step clauses_at_end clauses_start text ≡ Some clauses

@@ -1,11 +1,10 @@
 -- A header as a text.
-use Rattle.std.proofs.Common.{◌≡◌, ℕ, ◌+◌, ◌<◌, ◌&&◌, List, [], ◌∷◌, ◌++◌, length, Bool, true, false, eqb, eqb-true, refl, sym, ap, ◌∙◌, arith, drop, take, subst, IsUtf8, Option, Some, None, append_assoc, take-append-drop, leb, nat_lt, cond}
+use Rattle.std.proofs.Common.{◌≡◌, ℕ, ◌+◌, ◌&&◌, List, [], ◌∷◌, ◌++◌, Bool, true, false, eqb, eqb-true, refl, sym, ap, ◌∙◌, arith, drop, subst, IsUtf8, Option, Some, None, take-append-drop, leb, nat_lt, cond}
 use Rattle.std.specs.Str.{is_utf8}
 use Rattle.std.specs.Str.Lossy.{utf8_valid_len}
 use Rattle.std.proofs.lemmas.Bool.{and_parts, false_from_ne_true}
 use Rattle.std.proofs.lemmas.List.{drop-drop}
 use Rattle.std.proofs.lemmas.Str.{IsUtf8-from_is_utf8, is_utf8-from_IsUtf8}
-use Rattle.bundle_headers.specs.Blanks.{trimmed}
 use Rattle.bundle_headers.specs.Headers.{is_begun, later_fault, name_length, name_of, place_in, starts_value, value_of}
 use Rattle.bundle_headers.specs.declared.fault.HeaderFault.{HeaderFault}
 use Rattle.bundle_headers.specs.declared.fault.HeaderFault.TheVariants.{DuplicateHeader, NotUtf8}
@@ -33,8 +32,9 @@ text_where_no_fault : (text repeats : Bool) (number : ℕ) (place : ℕ × ℕ) 
 text_where_no_fault true repeats number place e = refl
 text_where_no_fault false false number place e = absurd (cc)
 text_where_no_fault false true number place e = elim (nat_lt number place.0) as (λ t. cond t (Some (DuplicateHeader number)) (Some (NotUtf8 place.1)) ≡ None → false ≡ true) [
-    true ↦ λ h. absurd (cc)
-  | false ↦ λ h. absurd (cc) ] e
+  | true ↦ λ h. absurd (cc)
+  | false ↦ λ h. absurd (cc)
+] e
 
 pub text_without_fault : (text : List ℕ) (repeats : Bool) (folded : Folded) → fault_at (is_utf8 text) repeats folded (utf8_valid_len text) ≡ None → IsUtf8 text
 text_without_fault text repeats folded e = IsUtf8-from_is_utf8 text (text_where_no_fault (is_utf8 text) repeats folded.first.number (place_in (folded.first ∷ folded.more) (utf8_valid_len text)) e)

@@ -1,5 +1,5 @@
 -- The lines of a text, one after the other.
-use Rattle.std.proofs.Common.{◌≡◌, ℕ, ◌+◌, ◌<◌, ◌&&◌, ◌||◌, List, [], ◌∷◌, ◌++◌, Bool, true, false, cond, eqb, eqb-true, refl, sym, ap, ◌∙◌, arith, drop, length, suc, map, subst, ◌⊎◌, inl, inr, append_assoc, ◌≤◌}
+use Rattle.std.proofs.Common.{◌≡◌, ℕ, ◌+◌, ◌<◌, ◌&&◌, ◌||◌, List, [], ◌∷◌, ◌++◌, true, false, eqb, eqb-true, refl, sym, ap, ◌∙◌, arith, drop, length, suc, map, ◌⊎◌, inl, inr, append_assoc, ◌≤◌}
 use Rattle.std.proofs.lemmas.List.{append-nil, drop-drop, drop_all, length-drop}
 use Rattle.std.proofs.lemmas.Bool.{and_parts, lt-ltb, le-ltb}
 use Rattle.bundle_headers.specs.Lines.{begun_at, end_length, ended_at, ends_line, has_text, line_length, lines_from, marked, plain_line, section, starts_with_feed, up_to_empty}
@@ -69,11 +69,13 @@ text_byte number at b bs e ends (inr none) = rw (e, ends, none) refl
 rest_or_none : (number at : ℕ) (bs : List ℕ) → Split number at bs ⊎ (bs ≡ [])
 rest_or_none number at [] = inr refl
 rest_or_none number at (b ∷ bs) =
-    inl (    elim (eqb b 13 && starts_with_feed bs) as (λ t. (eqb b 13 && starts_with_feed bs) ≡ t → Split number at (b ∷ bs)) [
-        true ↦ λ e. both number at b bs e
+    inl (elim (eqb b 13 && starts_with_feed bs) as (λ t. (eqb b 13 && starts_with_feed bs) ≡ t → Split number at (b ∷ bs)) [
+      | true ↦ λ e. both number at b bs e
       | false ↦ λ e. elim (ends_line b) as (λ u. ends_line b ≡ u → Split number at (b ∷ bs)) [
-            true ↦ λ ends. single number at b bs e ends
-          | false ↦ λ ends. text_byte number at b bs e ends (rest_or_none number (at + 1) bs) ] refl ] refl)
+        | true ↦ λ ends. single number at b bs e ends
+        | false ↦ λ ends. text_byte number at b bs e ends (rest_or_none number (at + 1) bs)
+      ] refl
+    ] refl)
 
 -- a text with a byte has a first line, and then those of the rest
 pub lines_from-first : (number at : ℕ) (bs : List ℕ) → 0 < length bs → Split number at bs
@@ -90,10 +92,10 @@ section_more bytes number start n e front h is_n some is_e told =
     let split = lines_from-first number start (drop start bytes) (rw length-drop (omega arith)) in
     let line = plain_line number start (start + n) in
     let first : lines_from number start (drop start bytes) ≡ plain_line number start (start + n) ∷ lines_from (number + 1) (start + (n + e)) (drop (start + (n + e)) bytes) =
-        split ∙ rw (is_n, is_e, drop-drop (n + e) start bytes) refl in
+    split ∙ rw (is_n, is_e, drop-drop (n + e) start bytes) refl in
     let has : has_text (plain_line number start (start + n)) ≡ true = lt-ltb start (start + n) (omega arith) in
     let taken : shown bytes (plain_line number start (start + n) ∷ lines_from (number + 1) (start + (n + e)) (drop (start + (n + e)) bytes))
-        ≡ marked bytes (plain_line number start (start + n)) ∷ shown bytes (lines_from (number + 1) (start + (n + e)) (drop (start + (n + e)) bytes)) = rw has refl in
+    ≡ marked bytes (plain_line number start (start + n)) ∷ shown bytes (lines_from (number + 1) (start + (n + e)) (drop (start + (n + e)) bytes)) = rw has refl in
     append_assoc front (marked bytes (plain_line number start (start + n)) ∷ []) (shown bytes (lines_from (number + 1) (start + (n + e)) (drop (start + (n + e)) bytes)))
     ∙ (ap (λ ls. front ++ ls) (sym taken ∙ sym (ap (shown bytes) first)) ∙ told)
 

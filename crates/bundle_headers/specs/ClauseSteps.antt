@@ -1,5 +1,5 @@
 -- The steps that the bytes of a list of clauses make.
-use Rattle.std.specs.Prelude.{ℕ, ◌==◌, ◌&&◌, ◌||◌, Bool, true, false, not, List, [], ◌∷◌, ◌++◌, length, Option, Some, None, option_map, if◌then◌else◌}
+use Rattle.std.specs.Prelude.{ℕ, ◌==◌, ◌&&◌, Bool, not, List, [], ◌∷◌, ◌++◌, length, Option, Some, None, option_map, if◌then◌else◌}
 use Rattle.bundle_headers.specs.Blanks.{is_blank, trimmed}
 use Rattle.bundle_headers.specs.Clauses.{ends_part, is_token_byte}
 use Rattle.bundle_headers.specs.declared.clause_reading.ClausesReading.{ClausesReading}

@@ -1,5 +1,5 @@
 -- The texts of lists of clauses (OSGi Core 8, section 1.3.2 "General Syntax Definitions", and 3.2.4).
-use Rattle.std.specs.Prelude.{◌≡◌, ℕ, ◌<◌, ◌==◌, ◌&&◌, ◌||◌, ◌⊎◌, Bool, true, false, not, IsTrue, IsFalse, List, [], ◌∷◌, ◌++◌, length, map, flat_map, if◌then◌else◌, Result, Ok, Err}
+use Rattle.std.specs.Prelude.{◌≡◌, ℕ, ◌<◌, ◌==◌, ◌||◌, ◌⊎◌, Bool, false, not, IsTrue, List, [], ◌∷◌, ◌++◌, length, map, flat_map, if◌then◌else◌, Result, Ok, Err}
 use Rattle.std.specs.List.{join_with_byte, list_all}
 use Rattle.bundle_headers.specs.Blanks.{is_blank, trimmed}
 use Rattle.osgi_version.specs.Readings.{IsBadAt, IsRead}

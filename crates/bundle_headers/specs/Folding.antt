@@ -1,5 +1,5 @@
 -- Lines that are continued (the JAR file specification, "JAR manifest": a continuation begins with one blank).
-use Rattle.std.specs.Prelude.{ℕ, ◌+◌, ◌-◌, nat_lt, List, [], ◌∷◌, ◌++◌, drop, flat_map, take, if◌then◌else◌}
+use Rattle.std.specs.Prelude.{ℕ, ◌-◌, List, [], ◌∷◌, ◌++◌, drop, flat_map, take, if◌then◌else◌}
 use Rattle.bundle_headers.specs.declared.folding.Folded.{Folded}
 use Rattle.bundle_headers.specs.declared.line.Line.{Line}
 

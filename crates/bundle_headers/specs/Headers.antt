@@ -73,7 +73,7 @@ abbrev pub header_of : List ℕ → List Header → Folded → Result Header Hea
 header_of bytes headers folded =
     if folded.first.continues || not (is_begun (joined bytes folded)) then Err (BadHeader folded.first.number)
     else unless_fault (later_fault (is_utf8 (joined bytes folded)) (has_name headers (name_of (joined bytes folded))) folded.first.number (bad_place bytes folded))
-        (name_of (joined bytes folded), value_of (joined bytes folded))
+    (name_of (joined bytes folded), value_of (joined bytes folded))
 
 abbrev pub result_and_then : {A B : Type 0} → (A → Result B HeaderFault) → Result A HeaderFault → Result B HeaderFault
 result_and_then f (Ok x) = f x

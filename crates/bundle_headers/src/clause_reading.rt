@@ -130,8 +130,16 @@ impl Front {
         ensures { IfOk result (λ front. front ≡ with_argument self kind name value) }
     {
         match kind {
-            Kind::Attribute => self.clause.attributes.push((name, value)).map_err(|refused| refused.1)?,
-            Kind::Directive => self.clause.directives.push((name, value)).map_err(|refused| refused.1)?,
+            Kind::Attribute => self
+                .clause
+                .attributes
+                .push((name, value))
+                .map_err(|refused| refused.1)?,
+            Kind::Directive => self
+                .clause
+                .directives
+                .push((name, value))
+                .map_err(|refused| refused.1)?,
         }
         Ok(self)
     }

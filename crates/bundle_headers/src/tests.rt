@@ -57,15 +57,22 @@ fn a_whole_manifest_is_read(rt: HostRuntime) -> Result<(), Fail> {
     let list = clauses.list.as_slice();
     assert_eq!(rt; list.len(), 2);
     assert_eq!(rt; list[1].directives.as_slice().len(), 1);
-    assert_eq!(rt; list[1].directives.as_slice()[0].1.as_str(), "(&(osgi.ee=JavaSE)(version=17))");
+    assert_eq!(rt;
+        list[1].directives.as_slice()[0].1.as_str(),
+        "(&(osgi.ee=JavaSE)(version=17))"
+    );
     let offers = manifest.get("Provide-Capability").ok_or("no header")?;
     let clauses = Clauses::parse(alloc, offers)?;
     let list = clauses.list.as_slice();
     assert_eq!(rt; list.len(), 1);
     assert_eq!(rt; list[0].attributes.as_slice().len(), 1);
     assert_eq!(rt; list[0].attributes.as_slice()[0].0.as_str(), "objectClass");
-    assert_eq!(rt; list[0].attributes.as_slice()[0].1.as_str(), "com.acme.Greeter");
+    assert_eq!(rt;
+        list[0].attributes.as_slice()[0].1.as_str(),
+        "com.acme.Greeter"
+    );
     Ok(())
 }
 
-const GREETER: &[u8] = b"Manifest-Version: 1.0\r\nBnd-LastModified: 1704106800000\r\nBundle-ManifestVersion: 2\r\nBundle-Name: com.acme.greeter\r\nBundle-SymbolicName: com.acme.greeter\r\nBundle-Version: 1.2.0.202401011200\r\nImport-Package: org.osgi.service.log;version=\"[1.4,2)\"\r\nProvide-Capability: osgi.service;objectClass:List<String>=\"com.acme.Gre\r\n eter\";uses:=\"com.acme\"\r\nRequire-Capability: osgi.extender;filter:=\"(&(osgi.extender=osgi.compone\r\n nt)(version>=1.5.0)(!(version>=2.0.0)))\",osgi.ee;filter:=\"(&(osgi.ee=Ja\r\n vaSE)(version=17))\"\r\nService-Component: OSGI-INF/com.acme.GreeterImpl.xml\r\n\r\n";
+const GREETER: &[u8] =
+    b"Manifest-Version: 1.0\r\nBnd-LastModified: 1704106800000\r\nBundle-ManifestVersion: 2\r\nBundle-Name: com.acme.greeter\r\nBundle-SymbolicName: com.acme.greeter\r\nBundle-Version: 1.2.0.202401011200\r\nImport-Package: org.osgi.service.log;version=\"[1.4,2)\"\r\nProvide-Capability: osgi.service;objectClass:List<String>=\"com.acme.Gre\r\n eter\";uses:=\"com.acme\"\r\nRequire-Capability: osgi.extender;filter:=\"(&(osgi.extender=osgi.compone\r\n nt)(version>=1.5.0)(!(version>=2.0.0)))\",osgi.ee;filter:=\"(&(osgi.ee=Ja\r\n vaSE)(version=17))\"\r\nService-Component: OSGI-INF/com.acme.GreeterImpl.xml\r\n\r\n";

@@ -1,4 +1,4 @@
-use Rattle.std.proofs.Common.{◌≡◌, ◌+◌, [], ◌∷◌, ◌++◌, take, get_or}
+use Rattle.std.proofs.Common.{◌≡◌, ◌+◌, [], ◌∷◌, ◌++◌, take}
 use Rattle.bundle_headers.specs.Folding.{unfold_lines}
 use Rattle.bundle_headers.proofs.folding.unfold_lines.Given as goal
 

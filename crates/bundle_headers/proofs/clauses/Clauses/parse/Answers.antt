@@ -1,4 +1,4 @@
-use Rattle.std.proofs.Common.{◌≡◌, Some, None, get_or, subst, sym, ◌∙◌}
+use Rattle.std.proofs.Common.{◌≡◌, Some, None, get_or, subst, ◌∙◌}
 use Rattle.osgi_version.specs.Readings.{IsBadAt}
 use Rattle.osgi_version.proofs.Readers.{run_more, run_whole, bad_in, bad_at_end, read_at_end}
 use Rattle.bundle_headers.specs.ClauseSteps.{clauses_at_end, clauses_start, clauses_step}
@@ -15,7 +15,7 @@ returns-in-None c =
     let bytes = c.as_bytes-byte-items.result.now in
     let dead : clauses_step c.loop-at.reading (get_or bytes c.loop-at.at 0) ≡ None = cc (c.in_ok-next.ensures) in
     subst (λ xs. IsBadAt SpellsClauses xs c.loop-at.at) c.as_bytes-byte-items.ensures.value
-        (bad_in clauses_reader bytes c.loop-at.at c.loop-at.reading c.loop-at-test.true c.loop-at.invariant.led dead)
+    (bad_in clauses_reader bytes c.loop-at.at c.loop-at.reading c.loop-at-test.true c.loop-at.invariant.led dead)
 
 pub loop-at-preserved : goal.loop-at-preserved
 loop-at-preserved c =
@@ -23,7 +23,7 @@ loop-at-preserved c =
     let next : clauses_step c.loop-at.reading (get_or bytes c.loop-at.at 0) ≡ Some c.in-Some.next = cc (c.in_ok-next.ensures) in
     record {
       led = run_more clauses_step clauses_start c.loop-at.reading bytes c.loop-at.at c.loop-at-test.true c.loop-at.invariant.led ∙ next;
-      text = text_behind c.loop-at.reading c.in-Some.next bytes c.loop-at.at c.loop-at-test.true next c.loop-at.invariant.text
+      text = text_behind c.loop-at.reading c.in-Some.next bytes c.loop-at.at c.loop-at-test.true next c.loop-at.invariant.text;
     }
 
 pub returns-in-Some-2 : goal.returns-in-Some-2

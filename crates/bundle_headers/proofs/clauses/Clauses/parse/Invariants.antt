@@ -6,6 +6,6 @@ use Rattle.bundle_headers.proofs.clauses.Clauses.parse.Given as goal
 -- the steps of the bytes so far lead here, and the piece goes on as a text
 abbrev pub invariant-loop-at : goal.invariant-loop-at
 invariant-loop-at l = record {
-    led : run clauses_step clauses_start (take l.at l.byte-items) ≡ Some l.reading;
-    text : IsUtf8 (buffer_of l.reading.part ++ drop l.at l.byte-items)
-  }
+  led : run clauses_step clauses_start (take l.at l.byte-items) ≡ Some l.reading;
+  text : IsUtf8 (buffer_of l.reading.part ++ drop l.at l.byte-items);
+}
