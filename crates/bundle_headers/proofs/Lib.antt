@@ -1,0 +1,10 @@
+pub mod BlankLemmas
+pub mod ClauseBytes
+pub mod ClauseFronts
+pub mod ClauseReader
+pub mod ClauseRuns
+pub mod ClauseTexts
+pub mod FoldingLemmas
+pub mod HeaderLemmas
+pub mod LineLemmas
+pub mod TextLemmas

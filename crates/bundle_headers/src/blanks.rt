@@ -1,0 +1,38 @@
+//! Blanks round a text.
+ghost use Rattle.std.specs.Prelude.{◌≡◌};
+ghost use Rattle.bundle_headers.specs.Blanks.{is_blank, trim_end, trim_start, trimmed};
+
+/// The bytes without the blanks before and behind them.
+pub(crate) fn trimmed(bytes: &[u8]) -> &[u8]
+    ensures { result.now ≡ trimmed bytes.now }
+{
+    trim_end(trim_start(bytes))
+}
+
+fn trim_start(bytes: &[u8]) -> &[u8]
+    ensures { result.now ≡ trim_start bytes.now }
+{
+    let mut rest = bytes;
+    while let [b' ', behind @ ..] = rest {
+        rest = behind;
+    }
+    rest
+}
+
+fn trim_end(bytes: &[u8]) -> &[u8]
+    ensures { result.now ≡ trim_end bytes.now }
+{
+    let mut end = bytes.len();
+    while end > 0 && bytes[end - 1] == b' ' {
+        end -= 1;
+    }
+    let (front, _) = bytes.split_at(end);
+    front
+}
+
+/// Whether there is nothing but blanks.
+pub(crate) fn is_blank(bytes: &[u8]) -> bool
+    ensures { result ≡ is_blank bytes.now }
+{
+    bytes.iter().all(|byte| *byte == b' ')
+}
