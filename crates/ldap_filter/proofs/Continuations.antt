@@ -1,9 +1,8 @@
 -- With what a text can go on from a state of the machine, and which tree it then spells.
-use Rattle.std.proofs.Common.{◌≡◌, refl, sym, ap, ◌∙◌, subst, ℕ, ◌==◌, ◌&&◌, List, [], ◌∷◌, ◌++◌, Bool, true, false, cond, Option, Some, None, append_assoc, append-nil}
+use Rattle.std.proofs.Common.{◌≡◌, refl, ap, ◌∙◌, ℕ, List, [], ◌∷◌, ◌++◌, append_assoc}
 use Rattle.ldap_filter.specs.declared.comparison.Comparison.{Comparison}
-use Rattle.ldap_filter.specs.declared.comparison.Comparison.TheVariants.{Equal, Like, AtLeast, AtMost}
-use Rattle.ldap_filter.specs.Trees.{Tree, Every, Any, Not, Compare, Trees, No_more, And_then, joined, trees_of, tree_with}
-use Rattle.ldap_filter.specs.Spelling.{AreBlanks, sign, has_stars, is_plain, is_attribute, AreAttribute, trim_front, trim_back, before_rest, is_name, SpellsValue, nothing, itself, escaped, star, Spells, bracketed, SpellsInside, every, any, negated, compares, SpellsAll, no_more, and_then}
+use Rattle.ldap_filter.specs.Trees.{Tree, Every, Any, Not, Trees, And_then, joined, tree_with}
+use Rattle.ldap_filter.specs.Spelling.{AreBlanks, sign, has_stars, AreAttribute, trim_front, trim_back, SpellsValue, Spells, bracketed, SpellsInside, every, any, negated, compares, SpellsAll}
 use Rattle.ldap_filter.specs.Machine.{Frame, In_every, In_any, In_not, Mode, Wanted, Opened, Attribute, Operator, Valued, Escaped, After, State, value_tree}
 
 -- behind a filter in these open ones

@@ -1,5 +1,5 @@
 -- What `parse` reads as a whole number is what the definition says.
-use Rattle.std.proofs.Common.{◌≡◌, refl, sym, ap, ◌∙◌, ℕ, ◌^◌, ◌<◌, List, [], ◌∷◌, Bool, true, false, ◌&&◌, cond, ltb, length, Option, Some, None, ℤ, pos, negsuc, Decides, arith, w64}
+use Rattle.std.proofs.Common.{◌≡◌, refl, ap, ℕ, ◌^◌, List, [], ◌∷◌, Bool, true, false, cond, ltb, length, Some, None, ℤ, pos, negsuc, Decides, w64}
 use Rattle.std.specs.Prelude.{Result, Ok, Err}
 use Rattle.std.specs.Result.{OkIff, result_ok}
 use Rattle.std.specs.Char.{digit_value}

@@ -1,5 +1,5 @@
 -- A filter with none open round it.
-use Rattle.std.proofs.Common.{◌≡◌, refl, sym, ap, ◌∙◌, ℕ, suc, ◌<◌, eqb, List, [], ◌∷◌, ◌++◌, Bool, true, false, cond, Option, Some, None, length, map, reverse, arith}
+use Rattle.std.proofs.Common.{◌≡◌, refl, sym, ap, ◌∙◌, ℕ, suc, eqb, List, [], ◌∷◌, Bool, true, false, cond, Some, None, length, map, arith}
 use mathlib.Core.List.{reverse_aux}
 use Rattle.std.proofs.lemmas.Bool.{eqb-true}
 use Rattle.ldap_filter.specs.declared.mode.Frame.{Frame as Open}

@@ -1,15 +1,14 @@
 -- What the machine reads is what the grammar spells, and it goes on just where some filter does.
-use Rattle.std.proofs.Common.{◌≡◌, ◌≢◌, refl, sym, ap, ◌∙◌, subst, ℕ, suc, ◌+◌, eqb, ◌&&◌, List, [], ◌∷◌, ◌++◌, Bool, true, false, cond, Option, Some, None, append_assoc, append-nil, arith}
+use Rattle.std.proofs.Common.{◌≡◌, refl, sym, ap, ◌∙◌, subst, ℕ, eqb, ◌&&◌, List, [], ◌∷◌, ◌++◌, Option, Some, None, append_assoc, append-nil}
 use Rattle.std.specs.Prelude.{option_and_then}
-use Rattle.ldap_filter.specs.declared.comparison.Comparison.{Comparison}
-use Rattle.ldap_filter.specs.declared.comparison.Comparison.TheVariants.{Equal, Like, AtLeast, AtMost}
-use Rattle.ldap_filter.specs.Trees.{Tree, Every, Any, Not, Compare, Trees, No_more, And_then, joined, trees_of, tree_with}
-use Rattle.ldap_filter.specs.Spelling.{AreBlanks, sign, has_stars, is_plain, is_attribute, AreAttribute, trim_front, trim_back, before_rest, is_name, SpellsValue, nothing, itself, escaped, star, Spells, bracketed, SpellsInside, every, any, negated, compares, SpellsAll, no_more, and_then}
+use Rattle.ldap_filter.specs.declared.comparison.Comparison.TheVariants.{Equal}
+use Rattle.ldap_filter.specs.Trees.{Tree, Every, Any, Not, Compare, No_more, joined, tree_with}
+use Rattle.ldap_filter.specs.Spelling.{AreBlanks, sign, has_stars, is_attribute, trim_back, nothing, Spells, bracketed, SpellsInside, compares, no_more}
 use Rattle.ldap_filter.specs.Places.{IsOpen}
-use Rattle.ldap_filter.specs.Machine.{Frame, In_every, In_any, In_not, Mode, Wanted, Opened, Attribute, Operator, Valued, Escaped, After, State, value_tree, on_wanted, on_opened, on_attribute, on_operator, on_valued, closed, continued, on_after, step, run, start, accepted}
-use Rattle.ldap_filter.proofs.Continuations.{Behind, BehindValue, Continues, GoesOn, blanks_behind, blanks_after}
+use Rattle.ldap_filter.specs.Machine.{Frame, In_every, In_any, In_not, Mode, Wanted, Opened, Attribute, Operator, Valued, Escaped, After, State, value_tree, closed, continued, step, run, start, accepted}
+use Rattle.ldap_filter.proofs.Continuations.{Behind, Continues, GoesOn, blanks_after}
 use Rattle.ldap_filter.proofs.StepsBack.{on_test, on_byte, IsSound, step_back}
-use Rattle.ldap_filter.proofs.StepsOn.{Goes, step_on}
+use Rattle.ldap_filter.proofs.StepsOn.{step_on}
 
 are_snoc : (blanks : List ℕ) → AreBlanks blanks → AreBlanks (blanks ++ 32 ∷ [])
 are_snoc [] are = (refl, tt)

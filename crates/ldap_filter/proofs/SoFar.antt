@@ -1,9 +1,8 @@
 -- A text that is read up to a place: what the state there says of it.
-use Rattle.std.proofs.Common.{◌≡◌, ◌≢◌, refl, sym, ap, ◌∙◌, subst, ℕ, zero, suc, ◌+◌, ◌-◌, ◌<◌, ◌≤◌, eqb, ltb, ◌==◌, List, [], ◌∷◌, ◌++◌, Bool, true, false, cond, Option, Some, None, length, take, drop, append_assoc, append-nil, arith, length-append}
+use Rattle.std.proofs.Common.{◌≡◌, refl, sym, ap, ◌∙◌, subst, ℕ, zero, suc, ◌+◌, ◌<◌, ◌≤◌, eqb, ltb, List, [], ◌∷◌, ◌++◌, Bool, true, false, cond, Option, Some, None, length, take, append_assoc, append-nil, arith, length-append}
 use Rattle.std.specs.Prelude.{option_and_then, option_map, is_some, slice_get, encode_utf8}
 use Rattle.std.specs.Bool.{OnTrue}
 use Rattle.std.proofs.lemmas.Bool.{eqb-true, eq-eqb, false≢true}
-use Rattle.std.proofs.lemmas.List.{take-append-le}
 use Rattle.std.proofs.lemmas.Str.{encode_ascii}
 use borrow.Author.Tests.{ltb-true, ltb-false}
 use Rattle.std.proofs.lemmas.Bool.{lt-ltb}
@@ -13,9 +12,9 @@ use Rattle.ldap_filter.specs.Places.{IsOpen, standing, IsWithin, IsBadAt, IsTooD
 use Rattle.ldap_filter.specs.Parsing.{IsTreeOf}
 use Rattle.ldap_filter.specs.Machine.{Frame, Mode, Wanted, Opened, Attribute, Operator, Valued, Escaped, After, State, step, run, start, accepted}
 use Rattle.ldap_filter.specs.Reading.{opens, wide, read_char}
-use Rattle.ldap_filter.proofs.Runs.{split, Read, spelled_read, read_spelled, open_reads, reads_open, one_tree}
+use Rattle.ldap_filter.proofs.Runs.{split, spelled_read, read_spelled, open_reads, reads_open, one_tree}
 use Rattle.ldap_filter.proofs.Standing.{Scan, after_byte, after_bytes, standing_is, after_snoc, AgreesWith, step_agrees, step_within}
-use Rattle.ldap_filter.proofs.WideChars.{AreHigh, Begun, encode_high, high_is_not, wide_runs, wide_stops}
+use Rattle.ldap_filter.proofs.WideChars.{AreHigh, encode_high, high_is_not, wide_runs, wide_stops}
 
 pub record SoFar (text rest : List ℕ) (at : ℕ) (frames : List Frame) (mode : Mode) : Type 0 where
   pub front : List ℕ

@@ -1,13 +1,12 @@
 -- What a state goes on with after a byte, the state before goes on with from the byte on.
-use Rattle.std.proofs.Common.{◌≡◌, ◌≢◌, refl, sym, ap, ◌∙◌, subst, ℕ, suc, eqb, ◌==◌, ◌&&◌, ◌||◌, not, List, [], ◌∷◌, ◌++◌, Bool, true, false, cond, Option, Some, None, append_assoc, append-nil, arith}
+use Rattle.std.proofs.Common.{◌≡◌, refl, sym, ap, ◌∙◌, subst, ℕ, eqb, ◌&&◌, ◌||◌, not, List, [], ◌∷◌, ◌++◌, Bool, true, false, cond, Some, None, append_assoc, append-nil}
 use Rattle.std.proofs.lemmas.Bool.{eqb-true, eq-eqb, false≢true}
-use Rattle.std.proofs.lemmas.Bool.Decides.{nat_tests}
 use Rattle.ldap_filter.specs.declared.comparison.Comparison.{Comparison}
 use Rattle.ldap_filter.specs.declared.comparison.Comparison.TheVariants.{Equal, Like, AtLeast, AtMost}
-use Rattle.ldap_filter.specs.Trees.{Tree, Every, Any, Not, Compare, Trees, No_more, And_then, joined, trees_of, tree_with}
-use Rattle.ldap_filter.specs.Spelling.{AreBlanks, sign, has_stars, is_plain, is_attribute, AreAttribute, trim_front, trim_back, before_rest, is_name, SpellsValue, nothing, itself, escaped, star, Spells, bracketed, SpellsInside, every, any, negated, compares, SpellsAll, no_more, and_then}
+use Rattle.ldap_filter.specs.Trees.{Tree, Every, Any, Not, No_more, And_then, tree_with}
+use Rattle.ldap_filter.specs.Spelling.{AreBlanks, sign, has_stars, is_plain, is_attribute, trim_front, trim_back, before_rest, is_name, nothing, itself, escaped, star, bracketed, every, any, negated, compares, no_more, and_then}
 use Rattle.ldap_filter.specs.Machine.{Frame, In_every, In_any, In_not, Mode, Wanted, Opened, Attribute, Operator, Valued, Escaped, After, State, value_tree, on_wanted, on_opened, on_attribute, on_operator, on_valued, closed, continued, on_after, step}
-use Rattle.ldap_filter.proofs.Continuations.{Behind, BehindValue, Continues, GoesOn, blanks_behind, joined_snoc, blank_before, blank_inside, blanks_after}
+use Rattle.ldap_filter.proofs.Continuations.{Behind, Continues, GoesOn, blanks_behind, joined_snoc, blank_before, blank_inside, blanks_after}
 
 -- by the two ways that a test may go
 pub on_test : {G X : Type 0} (v : Bool) (x y z : X) → cond v x y ≡ z → (v ≡ true → x ≡ z → G) → (v ≡ false → y ≡ z → G) → G

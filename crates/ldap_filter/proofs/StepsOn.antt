@@ -1,14 +1,13 @@
 -- Where a text can go on from a state with a byte, the machine goes on with it, and the text from there.
-use Rattle.std.proofs.Common.{◌≡◌, ◌≢◌, refl, sym, ap, ◌∙◌, subst, ℕ, suc, eqb, ◌==◌, ◌&&◌, ◌||◌, not, List, [], ◌∷◌, ◌++◌, Bool, true, false, cond, Option, Some, None, append_assoc, append-nil, arith}
+use Rattle.std.proofs.Common.{◌≡◌, refl, sym, ap, ◌∙◌, subst, ℕ, eqb, ◌&&◌, ◌||◌, not, List, [], ◌∷◌, ◌++◌, Bool, true, false, cond, Option, Some, None, append_assoc, append-nil}
 use Rattle.std.proofs.lemmas.Bool.{eqb-true, eq-eqb, false≢true}
-use Rattle.std.proofs.lemmas.Bool.Decides.{nat_tests}
 use Rattle.ldap_filter.specs.declared.comparison.Comparison.{Comparison}
 use Rattle.ldap_filter.specs.declared.comparison.Comparison.TheVariants.{Equal, Like, AtLeast, AtMost}
-use Rattle.ldap_filter.specs.Trees.{Tree, Every, Any, Not, Compare, Trees, No_more, And_then, joined, trees_of, tree_with}
-use Rattle.ldap_filter.specs.Spelling.{AreBlanks, sign, has_stars, is_plain, is_attribute, AreAttribute, trim_front, trim_back, before_rest, is_name, SpellsValue, nothing, itself, escaped, star, Spells, bracketed, SpellsInside, every, any, negated, compares, SpellsAll, no_more, and_then}
-use Rattle.ldap_filter.specs.Machine.{Frame, In_every, In_any, In_not, Mode, Wanted, Opened, Attribute, Operator, Valued, Escaped, After, State, value_tree, on_wanted, on_opened, on_attribute, on_operator, on_valued, closed, continued, on_after, step}
-use Rattle.ldap_filter.proofs.Continuations.{Behind, BehindValue, Continues, GoesOn, blanks_behind, joined_snoc, blank_before, blank_inside, blanks_after}
-use Rattle.ldap_filter.proofs.StepsBack.{name_begins, front_stays, trim_stops, name_ends, name_grows, IsSound}
+use Rattle.ldap_filter.specs.Trees.{Tree, Every, Any, Not, Trees, And_then, joined, trees_of, tree_with}
+use Rattle.ldap_filter.specs.Spelling.{AreBlanks, sign, has_stars, is_plain, is_attribute, AreAttribute, trim_front, trim_back, is_name, SpellsValue, nothing, itself, escaped, star, Spells, bracketed, SpellsInside, every, any, negated, compares, SpellsAll, no_more, and_then}
+use Rattle.ldap_filter.specs.Machine.{Frame, In_every, In_any, In_not, Mode, Wanted, Opened, Attribute, Operator, Valued, Escaped, After, State, value_tree, on_attribute, on_valued, step}
+use Rattle.ldap_filter.proofs.Continuations.{Behind, BehindValue, Continues, GoesOn, blanks_behind, joined_snoc}
+use Rattle.ldap_filter.proofs.StepsBack.{name_begins, front_stays, name_ends, name_grows, IsSound}
 
 -- the machine goes on
 pub record Goes (next : Option State) (rest : List ℕ) (t : Tree) : Type 0 where

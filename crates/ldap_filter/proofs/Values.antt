@@ -1,7 +1,7 @@
 -- The tree of a value, by its parts.
 use Rattle.std.proofs.Common.{◌≡◌, refl, ℕ, List, [], ◌∷◌, ◌++◌, Bool, true, false, cond}
 use Rattle.ldap_filter.specs.declared.comparison.Comparison.{Comparison}
-use Rattle.ldap_filter.specs.Trees.{Tree, Compare, Present, Parts, tree_with}
+use Rattle.ldap_filter.specs.Trees.{Compare, Present, Parts}
 use Rattle.ldap_filter.specs.Machine.{value_tree}
 use Rattle.ldap_filter.specs.Reading.{is_star_alone}
 

@@ -1,13 +1,12 @@
 -- The bytes of a character that is no ASCII, one after another.
-use Rattle.std.proofs.Common.{◌≡◌, refl, sym, ap, ◌∙◌, subst, ℕ, ◌+◌, ◌<◌, ◌≤◌, eqb, ◌&&◌, ◌||◌, not, List, [], ◌∷◌, ◌++◌, Bool, true, false, cond, ltb, ◌/◌, ◌%◌, Option, Some, None, append_assoc, append-nil, arith, lit<}
-use Rattle.std.specs.Prelude.{option_and_then, option_map, encode_utf8}
-use Rattle.std.proofs.lemmas.Bool.{eqb-true, false≢true}
+use Rattle.std.proofs.Common.{◌≡◌, refl, sym, ap, ◌∙◌, ℕ, ◌+◌, ◌<◌, ◌≤◌, eqb, ◌&&◌, ◌||◌, not, List, [], ◌∷◌, ◌++◌, Bool, true, false, cond, ltb, ◌/◌, ◌%◌, Some, None, append_assoc, append-nil, arith}
+use Rattle.std.specs.Prelude.{option_and_then, option_map}
+use Rattle.std.proofs.lemmas.Bool.{eqb-true}
 use borrow.Author.Tests.{ltb-true}
-use Rattle.std.proofs.lemmas.Str.{encode_ascii}
 use lib.Utf8.{encode}
 use Rattle.ldap_filter.specs.declared.comparison.Comparison.{Comparison}
 use Rattle.ldap_filter.specs.Spelling.{has_stars, is_attribute}
-use Rattle.ldap_filter.specs.Machine.{Frame, In_every, In_any, In_not, Mode, Wanted, Opened, Attribute, Operator, Valued, Escaped, After, State, on_wanted, on_opened, on_attribute, on_operator, on_valued, closed, continued, on_after, step, run}
+use Rattle.ldap_filter.specs.Machine.{Frame, Mode, Wanted, Opened, Attribute, Operator, Valued, Escaped, After, State, closed, continued, step, run}
 use Rattle.ldap_filter.specs.Reading.{wide}
 use Rattle.ldap_filter.proofs.StepsOn.{opened_name, grown_name}
 

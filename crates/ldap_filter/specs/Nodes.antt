@@ -1,5 +1,4 @@
 -- The tree that a node in memory is.
-use Rattle.std.specs.Prelude.{List, [], ◌∷◌, map}
 use Rattle.ldap_filter.specs.declared.node.Node.{Node, fold-Node}
 use Rattle.ldap_filter.specs.declared.node.Node.TheOpen.{Node-F}
 use Rattle.ldap_filter.specs.Trees.{Tree, Every, Any, Not, Present, Compare, Parts, trees_of}

@@ -1,5 +1,5 @@
 -- Where a text ceases to be the beginning of a filter.
-use Rattle.std.specs.Prelude.{◌≡◌, ℕ, zero, suc, ◌+◌, ◌-◌, ◌==◌, ◌<◌, ◌≤◌, List, [], ◌∷◌, ◌++◌, Bool, true, false, if◌then◌else◌, length, take, slice_get, Some}
+use Rattle.std.specs.Prelude.{◌≡◌, ℕ, suc, ◌+◌, ◌-◌, ◌==◌, ◌<◌, ◌≤◌, List, [], ◌∷◌, ◌++◌, Bool, true, false, if◌then◌else◌, length, take, slice_get, Some}
 use Rattle.ldap_filter.specs.Trees.{Tree}
 use Rattle.ldap_filter.specs.Spelling.{Spells}
 

@@ -1,11 +1,8 @@
 -- What the code keeps while it reads a filter, as a state of the machine, and what it is to do with a character.
-use Rattle.std.specs.Prelude.{◌≡◌, ℕ, ◌<◌, ◌≤◌, ◌==◌, List, [], ◌∷◌, ◌++◌, map, reverse, length, Bool, true, false, Option, Some, None, is_some, option_map, Result, Ok, Err, string_bytes, nat_lt, encode_utf8, if◌then◌else◌, String}
+use Rattle.std.specs.Prelude.{◌≡◌, ℕ, ◌<◌, ◌≤◌, ◌==◌, List, [], ◌∷◌, ◌++◌, map, reverse, length, Bool, true, false, Option, Some, None, is_some, option_map, Result, Ok, Err, string_bytes, nat_lt, encode_utf8, if◌then◌else◌}
 use Rattle.std.specs.Bool.{OnTrue}
-use Rattle.ldap_filter.specs.declared.comparison.Comparison.{Comparison}
-use Rattle.ldap_filter.specs.declared.node.Node.{Node}
 use Rattle.ldap_filter.specs.declared.mode.Frame.{Frame as Open}
 use Rattle.ldap_filter.specs.declared.mode.Frame.TheVariants.{Every as OpenEvery, Any as OpenAny, Not as OpenNot}
-use Rattle.ldap_filter.specs.declared.mode.Comparing.{Comparing}
 use Rattle.ldap_filter.specs.declared.mode.Mode.{Mode as Kept}
 use Rattle.ldap_filter.specs.declared.mode.Mode.TheVariants.{Wanted as KeptWanted, Opened as KeptOpened, Attribute as KeptAttribute, Operator as KeptOperator, Valued as KeptValued, Escaped as KeptEscaped, After as KeptAfter}
 use Rattle.ldap_filter.specs.declared.mode.Stop.{Stop}

@@ -1,5 +1,5 @@
 -- The search for parts from the left.
-use Rattle.std.specs.Prelude.{ℕ, List, [], ◌∷◌, Bool, true, false, if◌then◌else◌, Option, Some, None, length, drop}
+use Rattle.std.specs.Prelude.{ℕ, List, [], ◌∷◌, Bool, false, if◌then◌else◌, Option, Some, None, length, drop}
 use Rattle.ldap_filter.specs.Matching.{begins, some_rest}
 use Rattle.std.specs.Str.{bytes_eq}
 

@@ -15,9 +15,10 @@ impl Filter {
     /// The filter that a text spells. It spells no other one.
     ///
     /// # Errors
-    /// BadFilter exactly where the text spells none, with the length in bytes of its longest beginning that some
-    /// filter has too, and whether that is the whole text. TooDeep exactly where a filter begins with the 65th bracket
-    /// that stands open, with the place of the first such bracket. OutOfMemory may come at any place.
+    /// TooDeep exactly where a bracket opens a filter while 64 others stand open and no bad place comes before it, with
+    /// the place of the first such bracket. Else BadFilter exactly where the text spells no filter, with the length in
+    /// bytes of its longest beginning that some filter has too, and whether that is the whole text. OutOfMemory may come
+    /// at any place.
     pub fn parse(alloc: Global, text: &str) -> Result<Filter, FilterFault>
         ensures { Parses text.now result }
     {

@@ -1,4 +1,4 @@
-use Rattle.std.proofs.Common.{◌≡◌, ◌++◌, map, take}
+use Rattle.std.proofs.Common.{◌≡◌, map, take}
 use Rattle.ldap_filter.specs.Nodes.{tree_of}
 use Rattle.ldap_filter.proofs.filter.+copying_nodes.Given as goal
 

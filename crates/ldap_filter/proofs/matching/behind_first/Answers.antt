@@ -1,4 +1,4 @@
-use Rattle.std.proofs.Common.{◌≡◌, ap, sym, ◌∙◌, Some, rules}
+use Rattle.std.proofs.Common.{ap, sym, ◌∙◌, Some}
 use Rattle.ldap_filter.proofs.Greedy.{behind_here}
 use Rattle.ldap_filter.proofs.matching.behind_first.Goals as goal
 

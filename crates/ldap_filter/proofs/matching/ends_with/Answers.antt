@@ -1,4 +1,4 @@
-use Rattle.std.proofs.Common.{◌≡◌, ap, sym, ◌∙◌, Some, rules}
+use Rattle.std.proofs.Common.{sym, ◌∙◌}
 use Rattle.ldap_filter.proofs.Greedy.{whole_rest}
 use Rattle.ldap_filter.proofs.matching.ends_with.Goals as goal
 

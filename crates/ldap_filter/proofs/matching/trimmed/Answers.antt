@@ -1,4 +1,4 @@
-use Rattle.std.proofs.Common.{◌≡◌, refl}
+use Rattle.std.proofs.Common.{refl}
 use Rattle.std.proofs.lemmas.Str.Ascii.{trim_ascii_is}
 use Rattle.ldap_filter.specs.Matching.{without_front}
 use Rattle.ldap_filter.proofs.matching.trimmed.Goals as goal

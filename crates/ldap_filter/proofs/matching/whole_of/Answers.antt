@@ -1,4 +1,4 @@
-use Rattle.std.proofs.Common.{◌≡◌, ◌∙◌}
+use Rattle.std.proofs.Common.{◌∙◌}
 use Rattle.ldap_filter.proofs.Numbers.{parsed}
 use Rattle.ldap_filter.proofs.matching.whole_of.Goals as goal
 

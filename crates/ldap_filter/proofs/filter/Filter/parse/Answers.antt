@@ -1,5 +1,5 @@
-use Rattle.std.proofs.Common.{rules, ◌≡◌, sym, ap, ◌∙◌, subst, ℕ, false}
-use Rattle.std.specs.Str.Iter.{char_indices_rest, char_indices_offset}
+use Rattle.std.proofs.Common.{rules, sym, subst, ℕ, false}
+use Rattle.std.specs.Str.Iter.{char_indices_rest}
 use Rattle.ldap_filter.specs.Places.{IsBadAt, IsTooDeepAt}
 use Rattle.ldap_filter.specs.Parsing.{IsTreeOf}
 use Rattle.ldap_filter.specs.Reading.{stack_of, mode_of}
