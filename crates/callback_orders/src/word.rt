@@ -1,6 +1,8 @@
 //! The callbacks of one instance so far (OSGi Compendium 8, section 112.5 "Component Life Cycle").
-ghost use Rattle.callback_orders.specs.Sequences.{begun, ended, have_ended, is_in_order, is_outstanding};
-ghost use Rattle.std.specs.Prelude.{◌≡◌, ◌++◌, ◌∷◌, [], IfOk, IsTrue, OnOk, OnErr};
+ghost use Rattle.callback_orders.specs.Sequences.{begun, ended, have_ended, is_in_order, is_outstanding, is_sequence, is_whiteboard_sequence};
+ghost use Rattle.callback_orders.specs.Grammar.{IsSequence, IsWhiteboardSequence};
+ghost use Rattle.callback_orders.specs.declared.word.Called.{Called};
+ghost use Rattle.std.specs.Prelude.{◌↔◌, List, ◌≡◌, ◌++◌, ◌∷◌, [], IfOk, IsTrue, OnOk, OnErr};
 
 use crate::{Callback, Outcome};
 use prop_map::OutOfMemory;
@@ -47,6 +49,12 @@ impl Word {
             calls: Vec::new(alloc),
         })
     }
+
+    /// For contracts alone: the tests of callbacks so far say what the grammar of finished callbacks says.
+    pub fn note_grammar()
+        ensures instance { (calls : List Called) → IsTrue (is_sequence calls) ↔ IsSequence calls }
+        ensures whiteboard { (calls : List Called) → IsTrue (is_whiteboard_sequence calls) ↔ IsWhiteboardSequence calls }
+    {}
 
     /// The callbacks, the first one first. They are in order.
     pub fn calls(&self) -> &[Called]
