@@ -18,7 +18,10 @@ pub struct Called {
     pub outcome: Option<Outcome>,
 }
 
-/// The callbacks of one instance so far, each with its outcome once it has ended. They are the front of a whole sequence at any time.
+/// The callbacks of one instance so far, each with its outcome once it has ended. At any time they are the front of a finished
+/// sequence: Create; Binds and Unbinds; perhaps Activate and, where that was done, Binds, Unbinds, Updateds and Modifieds up to
+/// Deactivate; Unbinds; Destroy. A Create that isn't done is the whole. For each reference and service Bind and Unbind alternate,
+/// an Updated stands between them, and at Destroy nothing is bound. The whiteboard's instance has Binds and Unbinds alone.
 #[derive(Drop)]
 pub struct Word {
     calls: Vec<Called>,
