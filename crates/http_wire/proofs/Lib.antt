@@ -5,3 +5,5 @@ pub mod CutLemmas
 pub mod InsideTargetLemmas
 pub mod ContinuationLemmas
 pub mod HeadReadingLemmas
+pub mod ChunkScanLemmas
+pub mod ChunkedBodyLemmas

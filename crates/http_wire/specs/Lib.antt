@@ -1,3 +1,6 @@
+pub mod ChunkContinuation
+pub mod ChunkScan
+pub mod ChunkedBody
 pub mod Continuation
 pub mod FieldValues
 pub mod HeadMeaning

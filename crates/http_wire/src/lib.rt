@@ -1,6 +1,8 @@
 //! Heads, chunked bodies and answers of HTTP/1.1 as bytes (RFC 9112).
 #![tactic(auto)]
 
+mod chunk_needs;
+mod chunk_scan;
 mod continuation;
 mod field_values;
 mod head_meaning;
