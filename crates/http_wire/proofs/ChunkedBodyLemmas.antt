@@ -26,7 +26,7 @@ sized_no_last buf at size l line some after b =
     let same = chunk_line_unique buf l b.line (drop at buf) after line.reads (b.valid, b.is) in
     some (line.size_is ∙ ap chunk_size same.0 ∙ b.ends)
 
-append_same : (xs ys p q : List ℕ) → length xs ≡ length ys → xs ++ p ≡ ys ++ q → (xs ≡ ys) × (p ≡ q)
+pub append_same : (xs ys p q : List ℕ) → length xs ≡ length ys → xs ++ p ≡ ys ++ q → (xs ≡ ys) × (p ≡ q)
 append_same [] [] p q size e = (refl, e)
 append_same [] (y ∷ ys) p q size e = absurd (omega arith)
 append_same (x ∷ xs) [] p q size e = absurd (omega arith)

@@ -151,7 +151,7 @@ goes_on_front a b (inr i) =
       short = omega (arith, i.short, length-append a b);
     })
 
-take_take : (k n : ℕ) (xs : List ℕ) → k ≤ n → take k (take n xs) ≡ take k xs
+pub take_take : (k n : ℕ) (xs : List ℕ) → k ≤ n → take k (take n xs) ≡ take k xs
 take_take zero n xs h = refl
 take_take (suc k) zero xs h = absurd (omega arith)
 take_take (suc k) (suc n) [] h = refl

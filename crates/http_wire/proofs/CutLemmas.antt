@@ -32,14 +32,20 @@ pub end_some : (e : LineEnd) → 0 < length (print_end e)
 end_some crlf = omega arith
 end_some lf = omega arith
 
-section_some : (fs : List Field) (last : LineEnd) → 0 < length (print_section fs last)
+pub section_some : (fs : List Field) (last : LineEnd) → 0 < length (print_section fs last)
 section_some fs last = omega (arith, length-append (flat_map print_field fs) (print_end last), end_some last)
 
 -- ---- sections
 
+-- the shortest ends of a section that is cut short
+pub data IsSectionEnd (tail : List ℕ) : Type 0 where
+  one_line : tail ≡ 10 ∷ [] → IsSectionEnd tail
+  two_lines : tail ≡ 10 ∷ 10 ∷ [] → IsSectionEnd tail
+  behind_name : tail ≡ 58 ∷ 10 ∷ 10 ∷ [] → IsSectionEnd tail
+
 pub record ShortSection (text : List ℕ) (most fields : ℕ) : Type 0 where
   pub tail : List ℕ
-  pub is_tail : IsTail tail
+  pub is_tail : IsSectionEnd tail
   pub lines : List Field
   pub last : LineEnd
   pub valid : All IsField lines
@@ -55,10 +61,16 @@ two_ends : IsTail (10 ∷ 10 ∷ [])
 unfolding ending
 two_ends = part 13 (omega arith) refl
 
+section_tail : (tail : List ℕ) → IsSectionEnd tail → IsTail tail
+unfolding ending
+section_tail tail (one_line e) = part 14 (omega arith) e
+section_tail tail (two_lines e) = part 13 (omega arith) e
+section_tail tail (behind_name e) = after_name e
+
 section_end : (last : LineEnd) (v more : List ℕ) (m : ℕ) → v ++ more ≡ print_end last → 0 < length more → ShortSection v (length more) m
 section_end last [] more m e some = record {
   tail = 10 ∷ [];
-  is_tail = one_end;
+  is_tail = one_line refl;
   lines = [];
   last = lf;
   valid = All-nil IsField;
@@ -68,7 +80,7 @@ section_end last [] more m e some = record {
 }
 section_end crlf (a ∷ []) more m e some = record {
   tail = 10 ∷ [];
-  is_tail = one_end;
+  is_tail = one_line refl;
   lines = [];
   last = crlf;
   valid = All-nil IsField;
@@ -96,7 +108,7 @@ field_text : (f : Field) (rest : List ℕ) → print_field f ++ rest ≡ f.name 
 field_text f rest = simp append_assoc
 
 -- a line that is cut behind its name or in its value, and ends so
-line_cut : (f : Field) (v tail : List ℕ) (n m : ℕ) → IsField f → IsTail tail → v ++ tail ≡ print_field f ++ 10 ∷ [] → length tail ≤ n → ShortSection v n (suc m)
+line_cut : (f : Field) (v tail : List ℕ) (n m : ℕ) → IsField f → IsSectionEnd tail → v ++ tail ≡ print_field f ++ 10 ∷ [] → length tail ≤ n → ShortSection v n (suc m)
 line_cut f v tail n m valid is_tail e short = record {
   tail = tail;
   is_tail = is_tail;
@@ -114,7 +126,7 @@ plain_field name raw end = record { name = name; raw = raw; end = end }
 name_cut : (v : List ℕ) (x : List ℕ) (n m : ℕ) → AllPass is_token_byte (v ++ x) → 3 ≤ n → ShortSection v n (suc m)
 name_cut [] x n m all short = record {
   tail = 10 ∷ [];
-  is_tail = one_end;
+  is_tail = one_line refl;
   lines = [];
   last = lf;
   valid = All-nil IsField;
@@ -124,12 +136,12 @@ name_cut [] x n m all short = record {
 }
 name_cut (b ∷ v) x n m all short =
     line_cut (record { name = b ∷ v; raw = []; end = lf }) (b ∷ v) (58 ∷ 10 ∷ 10 ∷ []) n m
-    (record { name = (omega arith, pass_front is_token_byte (b ∷ v) x all); raw = All-nil _ }) (after_name refl) (simp append_assoc) short
+    (record { name = (omega arith, pass_front is_token_byte (b ∷ v) x all); raw = All-nil _ }) (behind_name refl) (simp append_assoc) short
 
 value_cut : (f : Field) (v w x : List ℕ) (n m : ℕ) → IsField f → f.raw ≡ w ++ x → v ≡ f.name ++ 58 ∷ w → 2 ≤ n → ShortSection v n (suc m)
 value_cut f v w x n m valid raw is short =
     line_cut (record { name = f.name; raw = w; end = lf }) v (10 ∷ 10 ∷ []) n m
-    (record { name = valid.name; raw = pass_front is_value_byte w x (subst (AllPass is_value_byte) raw valid.raw) }) two_ends (rw is (simp append_assoc)) short
+    (record { name = valid.name; raw = pass_front is_value_byte w x (subst (AllPass is_value_byte) raw valid.raw) }) (two_lines refl) (rw is (simp append_assoc)) short
 
 -- a line that is cut in its end, or read whole
 value_read : (name raw : List ℕ) (end : LineEnd) (v u more rest : List ℕ) (m : ℕ) → IsField (record { name = name; raw = raw; end = end })
@@ -142,7 +154,7 @@ value_read name raw end v [] more rest m valid is e some next =
 value_read name raw crlf v (a ∷ []) more rest m valid is e some next =
     let f : Field = record { name = name; raw = raw; end = crlf } in
     let cr : a ≡ 13 = cc in
-    line_cut f v (10 ∷ 10 ∷ []) (length more) m valid two_ends (rw (is, cr) (simp append_assoc)) (omega (arith, ap length e))
+    line_cut f v (10 ∷ 10 ∷ []) (length more) m valid (two_lines refl) (rw (is, cr) (simp append_assoc)) (omega (arith, ap length e))
 value_read name raw crlf v (a ∷ b ∷ u) more rest m valid is e some next =
     let f : Field = record { name = name; raw = raw; end = crlf } in
     let same : a ∷ b ∷ u ≡ 13 ∷ 10 ∷ u = cc in
@@ -359,7 +371,7 @@ in_section : (h : RequestHead) (v more bytes : List ℕ) → IsRequestHead h →
 in_section h v more bytes valid e some is =
     let s = section_cut h.fields h.last v more valid.fields e some in
     done (record h { fields = s.lines; last = s.last }) bytes s.tail (length more) (length h.fields)
-    (record { method = valid.method; target = valid.target; target_text = valid.target_text; minor = valid.minor; fields = s.valid }) s.is_tail
+    (record { method = valid.method; target = valid.target; target_text = valid.target_text; minor = valid.minor; fields = s.valid }) (section_tail s.tail s.is_tail)
     (rw is (simp (append_assoc, cons-append, s.is))) s.shorter s.fewer
 
 -- what stands behind the target has ten bytes at least

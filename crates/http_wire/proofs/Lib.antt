@@ -7,3 +7,6 @@ pub mod ContinuationLemmas
 pub mod HeadReadingLemmas
 pub mod ChunkScanLemmas
 pub mod ChunkedBodyLemmas
+pub mod ChunkLineCut
+pub mod ChunkNeedsLemmas
+pub mod BodyReadingLemmas

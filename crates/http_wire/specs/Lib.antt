@@ -1,3 +1,4 @@
+pub mod BodyReading
 pub mod ChunkContinuation
 pub mod ChunkScan
 pub mod ChunkedBody

@@ -1,6 +1,7 @@
 //! Heads, chunked bodies and answers of HTTP/1.1 as bytes (RFC 9112).
 #![tactic(auto)]
 
+mod body_reading;
 mod chunk_needs;
 mod chunk_scan;
 mod continuation;
@@ -13,6 +14,7 @@ mod pieces;
 mod response_text;
 mod target_path;
 
+pub use body_reading::read_chunks;
 pub use head_reading::read_head;
-pub use messages::{AnswerStop, Answered, Framing, Head, HeadRead, Request};
+pub use messages::{AnswerStop, Answered, BodyRead, Framing, Head, HeadRead, Request};
 pub use response_text::write_response;

@@ -42,6 +42,19 @@ pub enum HeadRead {
     NotImplemented,
 }
 
+/// What bytes begin with, read as a chunked body.
+#[derive(Drop)]
+pub enum BodyRead {
+    /// A proper prefix of a body within the limits.
+    More,
+    /// The content of the chunks, and the bytes of the body, its trailers included.
+    Whole { body: List<u8>, length: usize },
+    /// No chunks: the answer is 400.
+    Bad,
+    /// More than 65,536 bytes of content, or more than 1,048,576 bytes in all: the answer is 413.
+    TooLarge,
+}
+
 /// A request with its body.
 #[derive(Drop)]
 pub struct Request {
