@@ -1,17 +1,17 @@
 -- From what bytes lack to what they begin with.
-use Rattle.std.proofs.Common.{◌≡◌, ◌≢◌, ℕ, ◌+◌, ◌-◌, ◌<◌, ◌≤◌, Bool, true, false, List, [], ◌∷◌, ◌++◌, length, drop, take, refl, sym, ap, ◌∙◌, subst, arith, append_assoc, append-nil, length-append, length-drop, length-take, take-append-drop, inl, inr}
-use Rattle.std.specs.Prelude.{min, nat_lt, nat_le, ◌&&◌, IsTrue, ◌↔◌, ◌⊎◌}
+use Rattle.std.proofs.Common.{◌≡◌, ◌≢◌, ℕ, ◌+◌, ◌-◌, ◌<◌, ◌≤◌, List, [], ◌∷◌, ◌++◌, length, drop, take, refl, sym, ap, ◌∙◌, subst, arith, append_assoc, append-nil, length-append, length-drop, length-take, take-append-drop, inl, inr}
+use Rattle.std.specs.Prelude.{min, IsTrue, ◌↔◌}
 use Rattle.std.proofs.lemmas.Bool.{false≢true}
 use Rattle.std.proofs.lemmas.Bool.Decides.{nat_tests}
 use Rattle.std.proofs.lemmas.List.{nil_from_length, take_all}
 use Rattle.httparse.specs.Ascii.{crlf_bytes}
 use Rattle.httparse.specs.Grammar.{print_chunk_line, print_section}
-use Rattle.http_wire.specs.ChunkedBody.{BeginsChunk, BeginsLast, HasSection, ReadsChunks, joined, IsBodyAt, IsBody, BeginsBody, IsLessBody, IsBodyFront}
+use Rattle.http_wire.specs.ChunkedBody.{HasSection, ReadsChunks, IsBodyAt, IsBody, BeginsBody, IsLessBody, IsBodyFront}
 use Rattle.http_wire.specs.ChunkScan.{IsEnded, IsBehind, IsStuck}
 use Rattle.http_wire.specs.ChunkContinuation.{NeedsOf, IsWholeBody, leaves_room, may_begin}
 use Rattle.http_wire.specs.BodyReading.{ReadsBody, AnswersBody}
 use Rattle.http_wire.specs.declared.messages.BodyRead.{BodyRead}
-use Rattle.http_wire.specs.declared.messages.BodyRead.TheVariants.{More, Whole, Bad, TooLarge}
+use Rattle.http_wire.specs.declared.messages.BodyRead.TheVariants.{Whole}
 use Rattle.http_wire.specs.declared.chunk_needs.Needs.{Needs}
 use Rattle.http_wire.specs.declared.chunk_needs.Needs.TheVariants.{Never, TooMuch, Least}
 use Rattle.http_wire.proofs.ContinuationLemmas.{take_take}

@@ -1,20 +1,19 @@
 -- What bytes lack to be a section of fields, or a chunked body.
-use Rattle.std.proofs.Common.{◌≡◌, ◌≢◌, ℕ, zero, suc, ◌+◌, ◌-◌, ◌<◌, ◌≤◌, Bool, true, false, List, [], ◌∷◌, ◌++◌, length, drop, take, refl, sym, ap, ◌∙◌, subst, arith, append_assoc, append-nil, length-append, length-drop, length-take, take-append-drop, inl, inr, Option, Some, None}
+use Rattle.std.proofs.Common.{◌≡◌, ◌≢◌, ℕ, ◌+◌, ◌-◌, ◌<◌, ◌≤◌, Bool, true, false, List, [], ◌∷◌, ◌++◌, length, drop, take, refl, sym, ap, ◌∙◌, subst, arith, append_assoc, append-nil, length-append, length-drop, length-take, take-append-drop, inl, inr, Option, Some, None}
 use Rattle.std.specs.Prelude.{replicate, nat_lt, nat_le, if◌then◌else◌, ◌==◌, bytes_eq, IsTrue, ◌↔◌}
 use Rattle.std.proofs.lemmas.List.{length-replicate, nil_from_length}
-use Rattle.std.proofs.lemmas.List.Elements.{All-nil, All-cons, All-push}
+use Rattle.std.proofs.lemmas.List.Elements.{All-nil, All-push}
 use Rattle.std.proofs.lemmas.Bool.{cases_lt}
 use Rattle.std.proofs.lemmas.Bool.Decides.{nat_tests}
 use Rattle.std.proofs.lemmas.Slice.Eq.{bytes_eq-Decides}
 use Rattle.std.specs.Char.{is_ascii_hexdigit}
 use Rattle.httparse.specs.Ascii.{crlf_bytes}
-use Rattle.httparse.specs.Grammar.{ChunkLine, IsChunkLine, ReadsChunkLine, HasNoChunkLine, print_chunk_line, print_extension, chunk_size, LineEnd, lf, Field, IsField, print_field, ReadsSection, HasNoSection, print_section, print_end}
-use Rattle.std.specs.List.{flat_map}
+use Rattle.httparse.specs.Grammar.{ChunkLine, IsChunkLine, HasNoChunkLine, print_chunk_line, print_extension, chunk_size, lf, IsField, HasNoSection, print_section}
 use Rattle.httparse.specs.Spans.{IsChunkLineAt}
 use Rattle.httparse.proofs.ChunkLemmas.{chunk_line_unique, ReadsChunkLine-append}
-use Rattle.http_wire.specs.ChunkedBody.{BeginsChunk, BeginsLast, HasSection, ReadsChunks, joined, IsBodyAt}
+use Rattle.http_wire.specs.ChunkedBody.{HasSection, ReadsChunks, joined, IsBodyAt}
 use Rattle.http_wire.specs.ChunkScan.{IsBehind, IsEnded, IsStuck}
-use Rattle.http_wire.specs.ChunkContinuation.{IsSection, LacksOfSection, NeedsOfSection, Lacks, Overflows, NeedsOf, IsWholeBody, IsChunkRest, needs_of, needs_behind, needs_ended, needs_of_line, needs_of_chunk, ends_in_cr, line_ending, IsCutLine}
+use Rattle.http_wire.specs.ChunkContinuation.{IsSection, LacksOfSection, NeedsOfSection, Lacks, NeedsOf, IsWholeBody, IsChunkRest, needs_of, needs_behind, needs_ended, needs_of_line, needs_of_chunk, ends_in_cr, line_ending, IsCutLine}
 use Rattle.http_wire.specs.declared.chunk_needs.Needs.{Needs}
 use Rattle.http_wire.specs.declared.chunk_needs.Needs.TheVariants.{Never, TooMuch, Least}
 use Rattle.http_wire.proofs.CutLemmas.{section_cut, IsSectionEnd, one_line, two_lines, behind_name, section_some}

@@ -1,6 +1,6 @@
 -- Behind each chunk a body goes on.
 use Rattle.std.proofs.Common.{◌≡◌, ℕ, List, [], ◌∷◌, ◌++◌, refl, sym, ap, ◌∙◌, subst, append_assoc}
-use Rattle.http_wire.specs.ChunkedBody.{BeginsChunk, BeginsLast, HasSection, ReadsChunks, joined, IsBodyAt}
+use Rattle.http_wire.specs.ChunkedBody.{BeginsChunk, BeginsLast, ReadsChunks, joined, IsBodyAt}
 use Rattle.http_wire.specs.ChunkScan.{IsBehind, IsEnded, IsStuck}
 use Rattle.http_wire.proofs.ChunkedBodyLemmas.{chunk_longer, last_longer, first_same, end_same}
 

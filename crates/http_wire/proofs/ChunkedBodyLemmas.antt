@@ -1,9 +1,9 @@
 -- A body is read in one way, and further bytes change nothing.
-use Rattle.std.proofs.Common.{◌≡◌, ◌≢◌, ℕ, ◌<◌, ◌≤◌, List, [], ◌∷◌, ◌++◌, length, drop, take, refl, sym, ap, ◌∙◌, subst, arith, append_assoc, append-nil, length-append, length-drop, take-append-drop}
+use Rattle.std.proofs.Common.{◌≡◌, ◌≢◌, ℕ, List, [], ◌∷◌, ◌++◌, length, drop, refl, sym, ap, ◌∙◌, subst, arith, append_assoc}
 use Rattle.httparse.specs.Ascii.{crlf_bytes}
-use Rattle.httparse.specs.Grammar.{ChunkLine, ReadsChunkLine, HasNoChunkLine, print_chunk_line, print_extension, chunk_size, LineEnd, Field, ReadsSection, print_section, print_end}
+use Rattle.httparse.specs.Grammar.{ChunkLine, HasNoChunkLine, print_chunk_line, chunk_size}
 use Rattle.httparse.specs.Spans.{IsChunkLineAt}
-use Rattle.httparse.proofs.ChunkLemmas.{chunk_line_unique, ReadsChunkLine-append}
+use Rattle.httparse.proofs.ChunkLemmas.{chunk_line_unique}
 use Rattle.httparse.proofs.GrammarLemmas.{section_unique, ReadsSection-append}
 use Rattle.std.proofs.lemmas.List.{append_cancel_left}
 use Rattle.http_wire.specs.ChunkedBody.{BeginsChunk, BeginsLast, HasSection, ReadsChunks, joined, IsBodyAt}

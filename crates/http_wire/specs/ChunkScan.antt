@@ -1,5 +1,5 @@
 -- How far the chunks at the front can be read. Our own.
-use Rattle.std.specs.Prelude.{◌≡◌, ℕ, List, [], ◌∷◌, ◌++◌}
+use Rattle.std.specs.Prelude.{◌≡◌, ℕ, List, ◌++◌}
 use Rattle.http_wire.specs.ChunkedBody.{BeginsChunk, BeginsLast, HasSection, IsBodyAt}
 use Rattle.http_wire.specs.declared.chunk_scan.Found.{Found}
 use Rattle.http_wire.specs.declared.chunk_scan.Found.TheVariants.{Full, Last}

@@ -13,6 +13,8 @@ mod messages;
 mod pieces;
 mod response_text;
 mod target_path;
+#[cfg(test)]
+mod tests;
 
 pub use body_reading::read_chunks;
 pub use head_reading::read_head;

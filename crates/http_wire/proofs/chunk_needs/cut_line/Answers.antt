@@ -1,4 +1,4 @@
-use Rattle.std.proofs.Common.{◌≡◌, ◌∙◌, List, [], ℕ, ◌++◌, length, sym, ap, arith, append-nil}
+use Rattle.std.proofs.Common.{◌≡◌, ◌∙◌, List, [], ℕ, ◌++◌, sym, ap, arith, append-nil}
 use Rattle.httparse.specs.Grammar.{print_chunk_line}
 use Rattle.http_wire.specs.ChunkContinuation.{line_ending}
 use Rattle.http_wire.proofs.ChunkNeedsLemmas.{never_cut}

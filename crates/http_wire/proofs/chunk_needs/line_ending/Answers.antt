@@ -1,4 +1,4 @@
-use Rattle.std.proofs.Common.{◌≡◌, ◌∙◌, ◌-◌, Bool, List, ℕ, [], ◌∷◌, length, sym, ap, arith}
+use Rattle.std.proofs.Common.{◌∙◌, ◌-◌, Bool, List, ℕ, [], ◌∷◌, length, sym, ap, arith}
 use Rattle.std.specs.Prelude.{if◌then◌else◌, bytes_eq}
 use Rattle.std.proofs.lemmas.List.{take_rest}
 use Rattle.http_wire.proofs.ChunkNeedsLemmas.{ending_is}
