@@ -1,4 +1,4 @@
--- What is answered to the bytes of a chunked body.
+-- What is answered to the bytes of a chunked body. Our own.
 use Rattle.std.specs.Prelude.{◌≡◌, ℕ, ◌⊎◌, List, length}
 use Rattle.http_wire.specs.ChunkedBody.{IsBody, BeginsBody, IsLessBody, IsBodyFront}
 use Rattle.http_wire.specs.declared.messages.BodyRead.{BodyRead}

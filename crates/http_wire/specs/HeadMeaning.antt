@@ -1,4 +1,4 @@
--- What a head asks for.
+-- What a head asks for (RFC 9112, sections 3.2, 6 and 9.6), and what is answered to it (our own).
 use Rattle.std.specs.Prelude.{◌≡◌, ℕ, ◌⊎◌, Bool, true, false, not, ◌||◌, ◌&&◌, ◌==◌, if◌then◌else◌, List, [], ◌∷◌, length, codes, bytes_eq, Option, Some, None, map, IsUtf8}
 use Rattle.httparse.specs.Grammar.{RequestHead}
 use Rattle.httparse.specs.declared.spans.RequestSpans.{RequestSpans}

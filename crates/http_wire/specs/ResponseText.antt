@@ -1,4 +1,4 @@
--- The text of an answer.
+-- The text of an answer (RFC 9112, section 4; its fields are our own).
 use Rattle.std.specs.Prelude.{ℕ, Bool, List, [], ◌∷◌, ◌++◌, length, Option, Some, None, decimal, codes, if◌then◌else◌, ◌==◌}
 use Rattle.http.specs.StatusCode.{reason_phrase}
 use Rattle.httparse.specs.Ascii.{crlf_bytes}

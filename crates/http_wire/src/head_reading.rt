@@ -24,7 +24,11 @@ fn find_head(bytes: &[u8], room: &mut [HeaderSpan]) -> Option<RequestSpans>
     }
 }
 
-/// What the bytes begin with.
+/// What the bytes begin with, read as a request head (RFC 9112, sections 2 to 6) of at most 16,384 bytes and 64 fields.
+/// Bytes behind the shortest front that is not less than a head change nothing.
+///
+/// # Errors
+/// Only want of memory.
 pub fn read_head(alloc: Global, bytes: &[u8]) -> Result<HeadRead, OutOfMemory>
     ensures { IfOk result (ReadsHead bytes.now) }
 {

@@ -86,7 +86,10 @@ fn response_head(alloc: Global, answer: &Answered) -> Result<String, OutOfMemory
     Ok(text)
 }
 
-/// The bytes of a response.
+/// The bytes of a response (RFC 9112, section 4): its head, and the body unless the request was HEAD.
+///
+/// # Errors
+/// Only want of memory.
 #[tactic(auto, unfolding(crate::specs::ResponseText::response_text))]
 pub fn write_response(alloc: Global, answer: &Answered) -> Result<Vec<u8>, OutOfMemory>
     requires { IsStatusCode answer.now.status }
