@@ -1,0 +1,12 @@
+pub mod FieldValuesLemmas
+pub mod PiecesLemmas
+pub mod TargetPathLemmas
+pub mod CutLemmas
+pub mod InsideTargetLemmas
+pub mod ContinuationLemmas
+pub mod HeadReadingLemmas
+pub mod ChunkScanLemmas
+pub mod ChunkedBodyLemmas
+pub mod ChunkLineCut
+pub mod ChunkNeedsLemmas
+pub mod BodyReadingLemmas

@@ -1,0 +1,12 @@
+pub mod BodyReading
+pub mod ChunkContinuation
+pub mod ChunkScan
+pub mod ChunkedBody
+pub mod Continuation
+pub mod FieldValues
+pub mod HeadMeaning
+pub mod Heads
+pub mod InsideTarget
+pub mod Pieces
+pub mod ResponseText
+pub mod TargetPath

@@ -1,0 +1,22 @@
+//! Heads, chunked bodies and answers of HTTP/1.1 as bytes (RFC 9112).
+#![tactic(auto)]
+
+mod body_reading;
+mod chunk_needs;
+mod chunk_scan;
+mod continuation;
+mod field_values;
+mod head_meaning;
+mod head_reading;
+mod inside_target;
+mod messages;
+mod pieces;
+mod response_text;
+mod target_path;
+#[cfg(test)]
+mod tests;
+
+pub use body_reading::read_chunks;
+pub use head_reading::read_head;
+pub use messages::{AnswerStop, Answered, BodyRead, Framing, Head, HeadRead, Request};
+pub use response_text::write_response;
