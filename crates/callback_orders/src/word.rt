@@ -1,0 +1,84 @@
+//! The callbacks of one instance so far (OSGi Compendium 8, section 112.5 "Component Life Cycle").
+ghost use Rattle.callback_orders.specs.Sequences.{begun, ended, have_ended, is_in_order, is_outstanding};
+ghost use Rattle.std.specs.Prelude.{◌≡◌, ◌++◌, ◌∷◌, [], IfOk, IsTrue, OnOk, OnErr};
+
+use crate::{Callback, Outcome};
+use prop_map::OutOfMemory;
+use std::alloc::Global;
+use std::marker::Model;
+
+/// A callback that has begun, and its outcome once it has ended.
+#[derive(Debug, PartialEq, Eq, Drop)]
+pub struct Called {
+    /// What the instance is told.
+    pub callback: Callback,
+    /// How it ended, `None` as long as it hasn't.
+    pub outcome: Option<Outcome>,
+}
+
+/// The callbacks of one instance so far, each with its outcome once it has ended. They are the front of a whole sequence at any time.
+#[derive(Drop)]
+pub struct Word {
+    calls: Vec<Called>,
+}
+
+impl Model for Word {
+    ghost use Rattle.std.specs.Prelude.{List, IsTrue};
+    ghost use Rattle.callback_orders.specs.declared.word.Called.{Called};
+
+    ghost Value = { List Called };
+
+    ghost use Rattle.callback_orders.specs.Sequences.{is_in_order};
+
+    ghost view = { λ w. w.calls.items };
+
+    ghost invariant = { λ w. IsTrue (is_in_order w.calls.items) };
+}
+
+impl Word {
+    /// The callbacks of an instance that has none yet.
+    ///
+    /// # Errors
+    /// Only want of memory.
+    pub fn new(alloc: Global) -> Result<Word, OutOfMemory>
+        ensures { IfOk result (λ word. word ≡ []) }
+    {
+        Ok(Word {
+            calls: Vec::new(alloc),
+        })
+    }
+
+    /// The callbacks, the first one first. They are in order.
+    pub fn calls(&self) -> &[Called]
+        ensures all { result.now ≡ self.now }
+        ensures order { IsTrue (is_in_order self.now) }
+    {
+        self.calls.as_slice()
+    }
+
+    /// Adds a callback that begins. All others must have ended, and it must be one that may follow them.
+    ///
+    /// # Errors
+    /// Only want of memory. The callbacks are then as they were.
+    pub fn push(&mut self, callback: Callback) -> Result<(), OutOfMemory>
+        requires ended { IsTrue (have_ended self.old) }
+        requires order { IsTrue (is_in_order (self.old ++ begun callback ∷ [])) }
+        ensures ok { OnOk result (self.new ≡ self.old ++ begun callback ∷ []) }
+        ensures err { OnErr result (self.new ≡ self.old) }
+    {
+        self.calls.push(Called {
+            callback,
+            outcome: None,
+        })?;
+        Ok(())
+    }
+
+    /// Ends the last callback, which must not have ended yet. It takes no memory.
+    pub fn end(&mut self, outcome: Outcome)
+        requires { IsTrue (is_outstanding self.old) }
+        ensures { self.new ≡ ended outcome self.old }
+    {
+        let last = self.calls.len() - 1;
+        self.calls[last].outcome = Some(outcome);
+    }
+}
