@@ -1,13 +1,13 @@
 -- What the component code for tests means (our own).
-use Rattle.std.specs.Prelude.{ℕ, List, [], ◌∷◌, Bool, true, false, Option, Some, None, codes, if◌then◌else◌}
+use Rattle.std.specs.Prelude.{ℕ, List, [], ◌∷◌, Bool, false, Option, Some, codes, if◌then◌else◌}
 use Rattle.std.specs.Str.{bytes_eq}
 use Rattle.prop_map.specs.declared.properties.Property.{Property}
 use Rattle.prop_map.specs.declared.value.Value.{Value}
-use Rattle.prop_map.specs.declared.value.Value.TheVariants.{Text, Whole, Flag, Texts, Wholes, Flags}
+use Rattle.prop_map.specs.declared.value.Value.TheVariants.{Text}
 use Rattle.prop_map.specs.Maps.{get}
 use Rattle.kind_trait.specs.Meanings.{Told, Create, Bind, Updated, Unbind, Activate, Modified, Deactivate, Destroy, Move, Refuses, Answers, Calls, Asking}
 use Rattle.kind_trait.specs.declared.nested_reply.NestedReply.{NestedReply}
-use Rattle.kind_trait.specs.declared.nested_reply.NestedReply.TheVariants.{Text as Said, NoService, NoObject, Gone, Refused}
+use Rattle.kind_trait.specs.declared.nested_reply.NestedReply.TheVariants.{Text as Said}
 use Rattle.kind_trait.specs.declared.site.Site.{Site}
 
 abbrev pub is_text : List ℕ → Option Value → Bool
