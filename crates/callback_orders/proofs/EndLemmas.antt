@@ -2,8 +2,6 @@
 use Rattle.std.proofs.Common.{◌≡◌, ℕ, ◌-◌, suc, length, get_or, List, [], ◌∷◌, Bool, true, false, refl, ap, ◌∙◌, sym, subst, arith}
 use Rattle.std.specs.Prelude.{◌&&◌, ◌||◌, Option, Some, None, is_some, if◌then◌else◌, slice_set}
 use Rattle.std.specs.List.{list_all}
-use Rattle.callback_orders.specs.declared.callback.Callback.{Callback}
-use Rattle.callback_orders.specs.declared.callback.Callback.TheVariants.{Create, Bind, Updated, Unbind, Activate, Modified, Deactivate, Destroy}
 use Rattle.callback_orders.specs.declared.callback.Outcome.{Outcome}
 use Rattle.callback_orders.specs.declared.callback.Outcome.TheVariants.{Done, Refused, NoMemory}
 use Rattle.callback_orders.specs.declared.word.Called.{Called}
@@ -53,14 +51,16 @@ created-ended o (c ∷ d ∷ rest) =
     ap (λ b. created_by c.callback (if is_done c.outcome then b else is_over (ended o (d ∷ rest)))) (making-ended o (d ∷ rest))
     ∙ ap (λ b. created_by c.callback (if is_done c.outcome then making (d ∷ rest) else b)) (is_over-ended o (d ∷ rest))
 
-one_at_a_time-onto : (o : Outcome) (c d : Called) (rest : List Called) → one_at_a_time (c ∷ ended o (d ∷ rest)) ≡ (is_some c.outcome && one_at_a_time (ended o (d ∷ rest)))
-one_at_a_time-onto o c d [] = refl
-one_at_a_time-onto o c d (e ∷ rest) = refl
+last_may : (x : Option Outcome) → ((is_some x || true) && true) ≡ true
+last_may None = refl
+last_may (Some x) = refl
 
 one_at_a_time-ended : (o : Outcome) (calls : List Called) → one_at_a_time (ended o calls) ≡ one_at_a_time calls
 one_at_a_time-ended o [] = refl
-one_at_a_time-ended o (c ∷ []) = refl
-one_at_a_time-ended o (c ∷ d ∷ rest) = one_at_a_time-onto o c d rest ∙ ap (λ b. is_some c.outcome && b) (one_at_a_time-ended o (d ∷ rest))
+one_at_a_time-ended o (c ∷ []) = sym (last_may c.outcome)
+one_at_a_time-ended o (c ∷ d ∷ rest) =
+    ap (λ b. (is_some c.outcome || b) && one_at_a_time (ended o (d ∷ rest))) (is_over-ended o (d ∷ rest))
+    ∙ ap (λ b. (is_some c.outcome || false) && b) (one_at_a_time-ended o (d ∷ rest))
 
 alternate-ended : (o : Outcome) (bound : List Bound) (calls : List Called) → alternate bound (ended o calls) ≡ alternate bound calls
 alternate-ended o bound [] = refl

@@ -1,3 +1,4 @@
 pub mod Due
+pub mod Grammar
 pub mod References
 pub mod Sequences

@@ -97,8 +97,7 @@ created (c ∷ rest) = created_by c.callback (if is_done c.outcome then making r
 -- only the last callback may be without its outcome
 abbrev pub one_at_a_time : List Called → Bool
 one_at_a_time [] = true
-one_at_a_time (c ∷ []) = true
-one_at_a_time (c ∷ d ∷ rest) = is_some c.outcome && one_at_a_time (d ∷ rest)
+one_at_a_time (c ∷ rest) = (is_some c.outcome || is_over rest) && one_at_a_time rest
 
 -- a service that is bound for a reference
 pub record Bound : Type 0 where

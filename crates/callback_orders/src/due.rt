@@ -215,7 +215,6 @@ pub fn due_of(view: &InstanceView) -> Option<DueRef>
 
 /// The first due callback: of the views, which stand by instance, the first that has one due, else the Create of the first
 /// of the wanted keys without an instance, which stand by configuration, then by consumer bundle. It takes no memory.
-
 pub fn first_due(views: &[InstanceView], wanted: &[Key]) -> Option<DueRef>
     ensures { result ≡ first_due views.now wanted.now }
 {

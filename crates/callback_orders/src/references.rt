@@ -1,4 +1,4 @@
-//! What a reference wants next (OSGi Compendium 8, section 112.5.8 "Binding Services" and those that follow).
+//! What a reference wants next (OSGi Compendium 8, section 112.5 "Component Life Cycle").
 ghost use Rattle.callback_orders.specs.References.{is_held, is_desired, holds_all, desires_all, differs, to_bind, to_unbind, to_tell, to_let_go};
 ghost use Rattle.std.specs.Prelude.{◌≡◌};
 

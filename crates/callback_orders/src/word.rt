@@ -1,6 +1,8 @@
 //! The callbacks of one instance so far (OSGi Compendium 8, section 112.5 "Component Life Cycle").
-ghost use Rattle.callback_orders.specs.Sequences.{begun, ended, have_ended, is_in_order, is_outstanding};
-ghost use Rattle.std.specs.Prelude.{◌≡◌, ◌++◌, ◌∷◌, [], IfOk, IsTrue, OnOk, OnErr};
+ghost use Rattle.callback_orders.specs.Sequences.{begun, ended, have_ended, is_in_order, is_outstanding, is_sequence, is_whiteboard_sequence};
+ghost use Rattle.callback_orders.specs.Grammar.{IsSequence, IsWhiteboardSequence};
+ghost use Rattle.callback_orders.specs.declared.word.Called.{Called};
+ghost use Rattle.std.specs.Prelude.{◌↔◌, List, ◌≡◌, ◌++◌, ◌∷◌, [], IfOk, IsTrue, OnOk, OnErr};
 
 use crate::{Callback, Outcome};
 use prop_map::OutOfMemory;
@@ -16,7 +18,10 @@ pub struct Called {
     pub outcome: Option<Outcome>,
 }
 
-/// The callbacks of one instance so far, each with its outcome once it has ended. They are the front of a whole sequence at any time.
+/// The callbacks of one instance so far, each with its outcome once it has ended. At any time they are the front of a finished
+/// sequence: Create; Binds and Unbinds; perhaps Activate and, where that was done, Binds, Unbinds, Updateds and Modifieds up to
+/// Deactivate; Unbinds; Destroy. A Create that isn't done is the whole. For each reference and service Bind and Unbind alternate,
+/// an Updated stands between them, and at Destroy nothing is bound. The whiteboard's instance has Binds and Unbinds alone.
 #[derive(Drop)]
 pub struct Word {
     calls: Vec<Called>,
@@ -47,6 +52,12 @@ impl Word {
             calls: Vec::new(alloc),
         })
     }
+
+    /// For contracts alone: the tests of callbacks so far say what the grammar of finished callbacks says.
+    pub fn note_grammar()
+        ensures instance { (calls : List Called) → IsTrue (is_sequence calls) ↔ IsSequence calls }
+        ensures whiteboard { (calls : List Called) → IsTrue (is_whiteboard_sequence calls) ↔ IsWhiteboardSequence calls }
+    {}
 
     /// The callbacks, the first one first. They are in order.
     pub fn calls(&self) -> &[Called]
