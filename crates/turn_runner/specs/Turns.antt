@@ -1,0 +1,58 @@
+-- Turns one after the other, over a desk that is known by relations between its states alone (our own).
+use Rattle.std.specs.Prelude.{zero, suc, ℕ, ◌≤◌, ◌<◌, List, Bool, true, false, ◌≡◌, ◌⊎◌, Option, Some, None, Result, Ok, Err}
+use Rattle.prop_map.specs.declared.properties.Property.{Property}
+use Rattle.callback_orders.specs.declared.callback.Outcome.{Outcome}
+use Rattle.kind_trait.specs.Meanings.{Told}
+use Rattle.turn_runner.specs.declared.turn_work.TurnWork.{TurnWork}
+use Rattle.turn_runner.specs.declared.desk_fault.DeskFault.{DeskFault}
+use Rattle.turn_runner.specs.declared.desk_fault.DeskFault.TheVariants.{JournalFull as NoRoom, OutOfMemory as NoMemoryLeft}
+use Rattle.turn_runner.specs.declared.settle_fault.SettleFault.{SettleFault}
+use Rattle.turn_runner.specs.declared.settle_fault.SettleFault.TheVariants.{Unsettled, JournalFull, OutOfMemory}
+use Rattle.turn_runner.specs.Outcomes.{is_refused, IsOutcome, outcome_where}
+
+-- the first due turn was taken, exactly where one is due and there is room for it
+abbrev pub IsTaken : {S : Type 0} → (S → Bool) → (S → Bool) → (S → TurnWork → S → Type 0) → S → Result (Option TurnWork) DeskFault → S → Type 0
+IsTaken has_due has_room begins before (Ok None) after = (has_due before ≡ false) × (after ≡ before)
+IsTaken has_due has_room begins before (Ok (Some work)) after = (has_due before ≡ true) × (has_room before ≡ true) × begins before work after
+IsTaken has_due has_room begins before (Err NoRoom) after = (has_due before ≡ true) × (has_room before ≡ false) × (after ≡ before)
+IsTaken has_due has_room begins before (Err NoMemoryLeft) after = after ≡ before
+
+-- a turn begins, it ends with this outcome, and the drains that are due then are posted
+abbrev pub Ends : {S : Type 0} → (S → TurnWork → S → Type 0) → (S → ℕ → Outcome → S → Type 0) → (S → S → Type 0) → TurnWork → Outcome → S → S → Type 0
+Ends {S} begins ends posts work outcome before after = (begun : S) × (ended : S) × begins before work begun × ends begun work.number outcome ended × posts ended after
+
+-- a turn runs, and its outcome is Refused where the component code refuses it, else Done
+abbrev pub Turn : {S : Type 0} → (S → TurnWork → S → Type 0) → (S → ℕ → Outcome → S → Type 0) → (S → S → Type 0) → (List ℕ → List Property → Told → Bool) → S → S → Type 0
+Turn begins ends posts refuses before after = (work : TurnWork) × Ends begins ends posts work (outcome_where (is_refused refuses work)) before after
+
+-- so many turns run
+abbrev pub Turns : {S : Type 0} → (S → TurnWork → S → Type 0) → (S → ℕ → Outcome → S → Type 0) → (S → S → Type 0) → (List ℕ → List Property → Told → Bool) → ℕ → S → S → Type 0
+Turns begins ends posts refuses zero before after = before ≡ after
+Turns {S} begins ends posts refuses (suc count) before after = (between : S) × Turns begins ends posts refuses count before between × Turn begins ends posts refuses between after
+
+-- the drains that are due are posted, and then so many turns run
+abbrev pub Settles : {S : Type 0} → (S → TurnWork → S → Type 0) → (S → ℕ → Outcome → S → Type 0) → (S → S → Type 0) → (List ℕ → List Property → Told → Bool) → ℕ → S → S → Type 0
+Settles {S} begins ends posts refuses count before after = (start : S) × posts before start × Turns begins ends posts refuses count start after
+
+-- a turn is cut off by want of memory: it has begun alone, or it has ended, and some of the drains are posted
+abbrev pub IsCutOff : {S : Type 0} → (S → TurnWork → S → Type 0) → (S → ℕ → Outcome → S → Type 0) → (S → S → Type 0) → (List ℕ → List Property → Told → Bool) → S → S → Type 0
+IsCutOff begins ends posts refuses before after = ((work : TurnWork) × begins before work after) ⊎ ((work : TurnWork) × (outcome : Outcome) × IsOutcome (is_refused refuses work) outcome × Ends begins ends posts work outcome before after)
+
+-- a turn that has begun ends, and the drains that are due then are posted; want of memory leaves it begun, or it has ended and some of the drains are posted
+abbrev pub IsEndRun : {S T E : Type 0} → (S → Bool) → (S → ℕ → Outcome → S → Type 0) → (S → S → Type 0) → Bool → ℕ → S → Result T E → S → Type 0
+IsEndRun {S} has_drain ends posts refused number begun (Ok _) after = (ended : S) × ends begun number (outcome_where refused) ended × posts ended after × (has_drain after ≡ false)
+IsEndRun {S} has_drain ends posts refused number begun (Err _) after = (after ≡ begun) ⊎ ((outcome : Outcome) × (ended : S) × IsOutcome refused outcome × ends begun number outcome ended × posts ended after)
+
+-- one due turn, if there is any
+abbrev pub IsDueRun : {S : Type 0} → (S → Bool) → (S → Bool) → (S → Bool) → (S → TurnWork → S → Type 0) → (S → ℕ → Outcome → S → Type 0) → (S → S → Type 0) → (List ℕ → List Property → Told → Bool) → S → Result Bool DeskFault → S → Type 0
+IsDueRun has_due has_room has_drain begins ends posts refuses before (Ok true) after = (has_due before ≡ true) × Turn begins ends posts refuses before after × (has_drain after ≡ false)
+IsDueRun has_due has_room has_drain begins ends posts refuses before (Ok false) after = (has_due before ≡ false) × (after ≡ before)
+IsDueRun has_due has_room has_drain begins ends posts refuses before (Err NoRoom) after = (has_due before ≡ true) × (has_room before ≡ false) × (after ≡ before)
+IsDueRun has_due has_room has_drain begins ends posts refuses before (Err NoMemoryLeft) after = (before ≡ after) ⊎ IsCutOff begins ends posts refuses before after
+
+-- a settling: turns run until nothing is due, as many as the budget at most
+abbrev pub IsSettled : {S : Type 0} → (S → Bool) → (S → Bool) → (S → Bool) → (S → TurnWork → S → Type 0) → (S → ℕ → Outcome → S → Type 0) → (S → S → Type 0) → (List ℕ → List Property → Told → Bool) → ℕ → S → Result ℕ SettleFault → S → Type 0
+IsSettled has_due has_room has_drain begins ends posts refuses budget before (Ok count) after = (count ≤ budget) × Settles begins ends posts refuses count before after × (has_due after ≡ false) × (has_drain after ≡ false)
+IsSettled has_due has_room has_drain begins ends posts refuses budget before (Err Unsettled) after = Settles begins ends posts refuses budget before after × (has_due after ≡ true)
+IsSettled has_due has_room has_drain begins ends posts refuses budget before (Err JournalFull) after = (count : ℕ) × (count < budget) × Settles begins ends posts refuses count before after × (has_due after ≡ true) × (has_room after ≡ false)
+IsSettled {S} has_due has_room has_drain begins ends posts refuses budget before (Err OutOfMemory) after = (after ≡ before) ⊎ posts before after ⊎ ((count : ℕ) × (count ≤ budget) × Settles begins ends posts refuses count before after) ⊎ ((count : ℕ) × (between : S) × (count < budget) × Settles begins ends posts refuses count before between × IsCutOff begins ends posts refuses between after)

@@ -1,0 +1,95 @@
+//! Where turns come from and go back to.
+ghost use Rattle.callback_orders.specs.declared.callback.Outcome.{Outcome};
+ghost use Rattle.std.specs.Prelude.{◌≡◌, ℕ, Bool, false, Option, Some, None, IfOk, IfErr, OnOk, OnErr, MatchOption, is_some};
+ghost use Rattle.turn_runner.specs.Outcomes.{IsRunOf, has_object_after, is_destroy_of, needs_object};
+ghost use Rattle.turn_runner.specs.Turns.{IsTaken};
+ghost use Rattle.turn_runner.specs.declared.turn_work.TurnWork.{TurnWork};
+
+use crate::{DeskFault, Ran, TurnWork};
+use prop_map::OutOfMemory;
+use std::alloc::Global;
+use std::sync::Arc;
+
+/// Where turns come from and go back to, and where the objects of the instances are kept.
+///
+/// Its meaning says at each moment whether a turn is due, whether the journal has room for it, whether a drain is due, which turn
+/// of a number has begun and not ended, and which instances have an object. Three relations between the desk before and after
+/// say what it means that a turn begins, that it ends with an outcome, and that drains are posted.
+pub trait Desk<O> {
+    /// Whether a turn is due.
+    ghost has_due: { Self → Bool };
+
+    /// Whether the journal has room for the turn that is due.
+    ghost has_room: { Self → Bool };
+
+    /// Whether a drain is due that isn't posted yet.
+    ghost has_drain: { Self → Bool };
+
+    /// The turn of a number that has begun and not ended.
+    ghost running: { Self → ℕ → Option TurnWork };
+
+    /// Whether an object was put back for an instance.
+    ghost has_object: { Self → ℕ → Bool };
+
+    /// The first due turn begins.
+    ghost begins: { Self → TurnWork → Self → Type 0 };
+
+    /// The turn of a number ends with an outcome.
+    ghost ends: { Self → ℕ → Outcome → Self → Type 0 };
+
+    /// Drains that are due are posted.
+    ghost posts: { Self → Self → Type 0 };
+
+    /// Begins the first due turn: `None` exactly where nothing is due. The desk has an object for its instance exactly where the
+    /// instance isn't 0 and the callback is no Create.
+    ///
+    /// # Errors
+    /// JournalFull exactly where a turn is due and the journal has no room for it; OutOfMemory. Nothing has begun then.
+    fn take(&mut self, alloc: Global) -> Result<Option<TurnWork>, DeskFault>
+        ensures step { IsTaken has_due has_room begins self.old result self.new }
+        ensures running { IfOk result (λ taken. MatchOption taken (Unit {0}) (λ work. running self.new work.number ≡ Some work)) }
+        ensures fits { IfOk result (λ taken. MatchOption taken (Unit {0}) (λ work. has_object self.new work.instance ≡ needs_object work)) }
+        ensures objects { (instance : ℕ) → has_object self.new instance ≡ has_object self.old instance };
+
+    /// Whether a turn is due.
+    ///
+    /// # Errors
+    /// Only want of memory.
+    fn due(&self, alloc: Global) -> Result<bool, OutOfMemory>
+        ensures { IfOk result (λ due. due ≡ has_due self.now) };
+
+    /// The object of an instance: `None` exactly where none was put back for it. Once the instance's Destroy has ended, the desk
+    /// may have let the object go.
+    ///
+    /// # Errors
+    /// Only want of memory.
+    fn object(&self, alloc: Global, instance: u64) -> Result<Option<Arc<O>>, OutOfMemory>
+        ensures { IfOk result (λ object. is_some object ≡ has_object self.now instance) };
+
+    /// Ends the turn of that number, which must have begun and not ended, with what it came to: an object must be there exactly
+    /// where the turn made one.
+    ///
+    /// # Errors
+    /// Only want of memory. What it came to is given back, and the turn goes on.
+    fn put_back(
+        &mut self,
+        alloc: Global,
+        number: u64,
+        ran: Ran<O>,
+    ) -> Result<(), (Ran<O>, OutOfMemory)>
+        requires { IsRunOf (running self.old number) ran.outcome (is_some ran.made) }
+        ensures ok { OnOk result (ends self.old number ran.outcome self.new) }
+        ensures ended { OnOk result (running self.new number ≡ None) }
+        ensures objects { OnOk result ((instance : ℕ) → is_destroy_of (running self.old number) instance ≡ false → has_object self.new instance ≡ has_object_after (running self.old number) (is_some ran.made) (has_object self.old) instance) }
+        ensures err { OnErr result (self.new ≡ self.old) }
+        ensures back { IfErr result (λ e. e.0 ≡ ran) };
+
+    /// Posts the drains that are due.
+    ///
+    /// # Errors
+    /// Only want of memory. Some of them may be posted then.
+    fn post(&mut self, alloc: Global) -> Result<(), OutOfMemory>
+        ensures step { posts self.old self.new }
+        ensures ok { OnOk result (has_drain self.new ≡ false) }
+        ensures objects { (instance : ℕ) → has_object self.new instance ≡ has_object self.old instance };
+}

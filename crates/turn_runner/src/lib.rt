@@ -1,0 +1,20 @@
+//! Turns: how a due callback is run, and how all that are due are run one after the other.
+#![tactic(auto)]
+
+mod desk;
+mod desk_fault;
+mod memory_desk;
+mod settle_fault;
+mod settling;
+#[cfg(test)]
+mod tests;
+mod turn;
+mod turn_work;
+
+pub use desk::Desk;
+pub use desk_fault::DeskFault;
+pub use memory_desk::{Ended, Held, MemoryDesk};
+pub use settle_fault::SettleFault;
+pub use settling::settle;
+pub use turn::{Ran, run_turn};
+pub use turn_work::TurnWork;

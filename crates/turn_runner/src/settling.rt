@@ -1,0 +1,94 @@
+//! How all turns that are due are run.
+ghost use Rattle.std.specs.Prelude.{◌≡◌, Some, is_some};
+ghost use Rattle.turn_runner.specs.Outcomes.{needs_object, makes_object, IsOutcome, is_refused};
+ghost use Rattle.turn_runner.specs.Turns.{IsEndRun, IsDueRun, IsSettled};
+
+use crate::turn::{run_alone, run_told};
+use crate::{Desk, DeskFault, Ran, SettleFault, TurnWork};
+use callback_orders::Outcome;
+use kind_trait::Kinds;
+use prop_map::OutOfMemory;
+use std::alloc::{AllocError, Global};
+use std::sync::Arc;
+
+fn run_with<K: Kinds>(
+    alloc: Global,
+    kinds: &K,
+    object: Option<Arc<K::Object>>,
+    work: &TurnWork,
+) -> Ran<K::Object>
+    requires { is_some object ≡ needs_object work.now }
+    ensures refused { IsOutcome (is_refused K.refuses work.now) result.outcome }
+    ensures made { is_some result.made ≡ makes_object work.now result.outcome }
+{
+    match object {
+        Some(object) => run_told(alloc, kinds, &object, work),
+        None => run_alone(alloc, kinds, work),
+    }
+}
+
+// Runs a turn that has begun, ends it and posts the drains that are due then.
+fn run_begun<K: Kinds, D: Desk<K::Object>>(
+    alloc: Global,
+    desk: &mut D,
+    kinds: &K,
+    work: &TurnWork,
+) -> Result<(), OutOfMemory>
+    requires running { D.running desk.old work.now.number ≡ Some work.now }
+    requires fits { D.has_object desk.old work.now.instance ≡ needs_object work.now }
+    ensures { IsEndRun D.has_drain D.ends D.posts (is_refused K.refuses work.now) work.now.number desk.old result desk.new }
+{
+    let object = desk.object(alloc, work.instance)?;
+    let ran = run_with(alloc, kinds, object, work);
+    let outcome = ran.outcome;
+    if let Err((_, fault)) = desk.put_back(alloc, work.number, ran) {
+        return Err(fault);
+    }
+    desk.post(alloc)?;
+    match outcome {
+        Outcome::Done | Outcome::Refused => Ok(()),
+        Outcome::NoMemory => Err(AllocError),
+    }
+}
+
+// Runs the first due turn, if one is due. It answers whether one was.
+fn run_due<K: Kinds, D: Desk<K::Object>>(
+    alloc: Global,
+    desk: &mut D,
+    kinds: &K,
+) -> Result<bool, DeskFault>
+    ensures { IsDueRun D.has_due D.has_room D.has_drain D.begins D.ends D.posts K.refuses desk.old result desk.new }
+{
+    let Some(work) = desk.take(alloc)? else {
+        return Ok(false);
+    };
+    run_begun(alloc, desk, kinds, &work)?;
+    Ok(true)
+}
+
+/// Posts the drains that are due, and then runs the turns that are due, one after the other, until nothing is due. It answers
+/// how many ran. After each turn the drains that are due then are posted.
+///
+/// # Errors
+/// Unsettled exactly where `budget` turns ran and one is still due. JournalFull exactly where a turn was due and the journal had
+/// no room for it. OutOfMemory comes also where a turn's outcome is NoMemory. The turns that ran stand.
+pub fn settle<K: Kinds, D: Desk<K::Object>>(
+    alloc: Global,
+    desk: &mut D,
+    kinds: &K,
+    budget: u64,
+) -> Result<u64, SettleFault>
+    ensures { IsSettled D.has_due D.has_room D.has_drain D.begins D.ends D.posts K.refuses budget desk.old result desk.new }
+{
+    desk.post(alloc)?;
+    for ran in 0..budget {
+        if !run_due(alloc, desk, kinds)? {
+            return Ok(ran);
+        }
+    }
+    if desk.due(alloc)? {
+        Err(SettleFault::Unsettled)
+    } else {
+        Ok(budget)
+    }
+}
