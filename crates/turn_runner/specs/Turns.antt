@@ -55,4 +55,4 @@ abbrev pub IsSettled : {S : Type 0} → (S → Bool) → (S → Bool) → (S →
 IsSettled has_due has_room has_drain begins ends posts refuses budget before (Ok count) after = (count ≤ budget) × Settles begins ends posts refuses count before after × (has_due after ≡ false) × (has_drain after ≡ false)
 IsSettled has_due has_room has_drain begins ends posts refuses budget before (Err Unsettled) after = Settles begins ends posts refuses budget before after × (has_due after ≡ true)
 IsSettled has_due has_room has_drain begins ends posts refuses budget before (Err JournalFull) after = (count : ℕ) × (count < budget) × Settles begins ends posts refuses count before after × (has_due after ≡ true) × (has_room after ≡ false)
-IsSettled {S} has_due has_room has_drain begins ends posts refuses budget before (Err OutOfMemory) after = (after ≡ before) ⊎ posts before after ⊎ ((count : ℕ) × (count ≤ budget) × Settles begins ends posts refuses count before after) ⊎ ((count : ℕ) × (between : S) × (count < budget) × Settles begins ends posts refuses count before between × IsCutOff begins ends posts refuses between after)
+IsSettled {S} has_due has_room has_drain begins ends posts refuses budget before (Err OutOfMemory) after = ((count : ℕ) × (count ≤ budget) × Settles begins ends posts refuses count before after) ⊎ ((count : ℕ) × (between : S) × (count < budget) × Settles begins ends posts refuses count before between × IsCutOff begins ends posts refuses between after)
