@@ -1,0 +1,261 @@
+//! The gates: one word for each slot.
+ghost use Rattle.std.specs.Prelude.{◌≡◌, ◌≢◌, ◌+◌, ◌-◌, ◌*◌, ◌/◌, ◌%◌, ◌^◌, ◌<◌, ◌≤◌, ◌↔◌, true, false, if◌then◌else◌, replicate, [], ◌∷◌, length, slice_index, slice_set, IsTrue, IfOk, IfErr, IfSome, IfNone, MatchOption, MatchResult};
+ghost use Rattle.call_gate.specs.Gates.{SeatView, level_in, generation_in, stage_in, callers_in, with_inside, with_levels, without, HasKey, LeavesLast};
+ghost use Rattle.call_gate.specs.Starts.{first_view, seat_view, both_of};
+ghost use Rattle.call_gate.specs.Calls.{LastIs, EntersAs, ClaimsAs, ShutIs};
+
+use crate::rule::{
+    Beginning, Claim, Deal, Enter, GateView, Gates, Hear, Leave, Look, Mark, Pass, Raise, Together,
+};
+use crate::seat::{Drain, Entered, GateSeat, Inside, Last, Worn};
+use atomic_table::{Seat, Table};
+use journal_core::GateKey;
+use std::alloc::{AllocError, Global};
+use std::marker::Model;
+
+const CALLERS: u64 = 16_777_216;
+
+/// The greatest generation.
+const LAST_GENERATION: u64 = 274_877_906_943;
+
+/// Gates in a row. To a contract they are the name of their table.
+#[derive(Drop)]
+pub struct CallGate {
+    table: Table<(), GateView, Beginning, Gates, Global>,
+}
+
+impl Model for CallGate {
+    ghost use Rattle.std.specs.Prelude.{◌≡◌, ◌<◌};
+    ghost use Rattle.atomic_table.specs.Seated.{TableId};
+
+    ghost Value = { TableId };
+
+    ghost view = { λ g. g.table.shared.table_id };
+
+    ghost invariant = { λ g. (g.table.shared.key.count ≡ g.table.shared.table_id.words) × (0 < g.table.shared.table_id.words) };
+}
+
+impl CallGate {
+    /// The word of a slot.
+    pub fn look(&self, seat: &mut GateSeat, slot: u32) -> u64
+        requires { (seat.old.gate ≡ self.now) × (slot < self.now.words) }
+        ensures seat { seat.new ≡ record seat.old { knows = record seat.old.knows { saw = result } } }
+        ensures level { seat.old.knows.keeps ≡ true → level_in result ≡ slice_index seat.old.knows.levels slot }
+    {
+        self.table
+            .shared
+            .load::<Look>(&mut seat.seat, slot as usize)
+    }
+
+    /// Enters a gate that is open under the key. Where it isn't, the caller has stepped out again.
+    pub fn enter(&self, seat: &mut GateSeat, key: GateKey) -> Entered
+        requires own { (seat.old.gate ≡ self.now) × (key.slot < self.now.words) }
+        requires room { length seat.old.knows.inside < seat.old.knows.places }
+        ensures same { seat.new.gate ≡ seat.old.gate }
+        ensures answer { EntersAs key seat.old.knows seat.new.knows result }
+    {
+        let slot = key.slot as usize;
+        let found = self
+            .table
+            .shared
+            .fetch_add::<Enter>(&mut seat.seat, slot, 1);
+        let level = found / CALLERS;
+        if level % 4 != 0 {
+            let left = self.table.shared.fetch_sub::<Pass>(&mut seat.seat, slot, 1);
+            return Entered::Gone {
+                generation: level / 4,
+                shut: true,
+                last: last_of(key.slot, left),
+            };
+        }
+        if level / 4 != key.generation {
+            let left = self
+                .table
+                .shared
+                .fetch_sub::<Leave>(&mut seat.seat, slot, 1);
+            return Entered::Gone {
+                generation: level / 4,
+                shut: false,
+                last: last_of(key.slot, left),
+            };
+        }
+        seat.free -= 1;
+        Entered::Inside(Inside { key })
+    }
+
+    /// Leaves. The last of a shut gate is told.
+    pub fn leave(&self, seat: &mut GateSeat, inside: Inside) -> Option<Last>
+        requires own { (seat.old.gate ≡ self.now) × (inside.key.slot < self.now.words) }
+        requires inside { HasKey inside.key.slot inside.key.generation seat.old.knows.inside }
+        ensures seat { seat.new ≡ record seat.old { knows = with_inside seat.old.knows (without inside.key.slot seat.old.knows.inside) seat.new.knows.saw } }
+        ensures last { LastIs inside.key.slot seat.new.knows.saw result }
+    {
+        let Inside { key } = inside;
+        let left = self
+            .table
+            .shared
+            .fetch_sub::<Leave>(&mut seat.seat, key.slot as usize, 1);
+        seat.free += 1;
+        last_of(key.slot, left)
+    }
+
+    /// Opens a closed gate under the next generation.
+    pub fn reopen(&self, seat: &mut GateSeat, slot: u32) -> Result<GateKey, Worn>
+        requires own { (seat.old.gate ≡ self.now) × (slot < self.now.words) }
+        requires closed { (seat.old.knows.keeps ≡ true) × (slice_index seat.old.knows.levels slot % 4 ≡ 3) }
+        ensures same { seat.new.gate ≡ seat.old.gate }
+        ensures ok { IfOk result (λ key. (key.slot ≡ slot) × (key.generation ≡ slice_index seat.old.knows.levels slot / 4 + 1) × (seat.new.knows ≡ with_levels seat.old.knows (slice_set seat.old.knows.levels slot (4 * key.generation)) seat.new.knows.saw)) }
+        ensures worn { IfErr result (λ _. (slice_index seat.old.knows.levels slot / 4 ≡ 2 ^ 38 - 1) × (seat.new.knows ≡ with_levels seat.old.knows seat.old.knows.levels seat.new.knows.saw)) }
+        ensures room { IfOk result (λ _. slice_index seat.old.knows.levels slot / 4 < 2 ^ 38 - 1) }
+    {
+        let generation = self.look(seat, slot) / CALLERS / 4;
+        if generation >= LAST_GENERATION {
+            return Err(Worn);
+        }
+        self.table
+            .shared
+            .fetch_add::<Raise>(&mut seat.seat, slot as usize, CALLERS);
+        Ok(GateKey {
+            slot,
+            generation: generation + 1,
+        })
+    }
+
+    /// Shuts an open gate. Where nobody is inside, the key is told as last.
+    pub fn shut(&self, seat: &mut GateSeat, key: GateKey) -> Option<Last>
+        requires own { (seat.old.gate ≡ self.now) × (key.slot < self.now.words) }
+        requires open { (seat.old.knows.keeps ≡ true) × (slice_index seat.old.knows.levels key.slot ≡ 4 * key.generation) }
+        ensures seat { seat.new ≡ record seat.old { knows = with_levels seat.old.knows (slice_set seat.old.knows.levels key.slot (4 * key.generation + 1)) seat.new.knows.saw } }
+        ensures last { ShutIs key seat.new.knows.saw result }
+    {
+        let found = self
+            .table
+            .shared
+            .fetch_or::<Raise>(&mut seat.seat, key.slot as usize, CALLERS);
+        if found % CALLERS == 0 {
+            Some(Last { key })
+        } else {
+            None
+        }
+    }
+
+    /// Claims the drain of a key that was told as last, unless a caller came, or it was claimed before.
+    pub fn claim(&self, seat: &mut GateSeat, last: Last) -> Option<Drain>
+        requires own { (seat.old.gate ≡ self.now) × (last.key.slot < self.now.words) }
+        requires keeper { seat.old.knows.keeps ≡ true }
+        ensures same { seat.new.gate ≡ seat.old.gate }
+        ensures answer { ClaimsAs last.key seat.old.knows seat.new.knows result }
+    {
+        let Last { key } = last;
+        let level = 4 * key.generation + 1;
+        let shut = level * CALLERS;
+        let found = self.table.shared.compare_exchange::<Claim>(
+            &mut seat.seat,
+            key.slot as usize,
+            shut,
+            (level + 2) * CALLERS,
+        );
+        if found == shut {
+            Some(Drain { key })
+        } else {
+            None
+        }
+    }
+
+    /// Gates that are shut and claimed, and the keeper's seat.
+    pub fn new(
+        alloc: Global,
+        words: u32,
+        generation: u64,
+    ) -> Result<(CallGate, GateSeat), AllocError>
+        requires { (0 < words) × (words ≤ 70000) × (generation < 2 ^ 38) }
+        ensures { IfOk result (λ r. (r.0.words ≡ words) × (r.1 ≡ record { gate = r.0; knows = first_view (replicate words (4 * generation + 3)) })) }
+    {
+        let level = 4 * generation + 3;
+        let row = Vec::from_elem(alloc, level * CALLERS, words as usize)?;
+        let about = Beginning {
+            count: u64::from(words),
+            level,
+        };
+        let (table, seat) = Table::of_words(alloc, row.as_slice(), &about)?;
+        let seat = GateSeat {
+            seat,
+            free: 16_777_215,
+        };
+        Ok((CallGate { table }, seat))
+    }
+
+    /// Gives some of the free places to a second seat.
+    pub fn split(&self, seat: GateSeat, places: u32) -> (GateSeat, GateSeat)
+        requires own { seat.gate ≡ self.now }
+        requires room { (0 < places) × (places < seat.knows.places - length seat.knows.inside) }
+        ensures first { result.0 ≡ record seat { knows = record seat.knows { places = seat.knows.places - places } } }
+        ensures second { result.1 ≡ record { gate = seat.gate; knows = seat_view places [] (if seat.knows.keeps then seat.knows.levels else seat.knows.heard) } }
+    {
+        let GateSeat { mut seat, free } = seat;
+        let count = u64::from(places);
+        self.table
+            .shared
+            .compare_exchange::<Mark>(&mut seat, 0, count, count);
+        let other = self.table.shared.split_seat::<Deal>(&mut seat);
+        (
+            GateSeat {
+                seat,
+                free: free - places,
+            },
+            GateSeat {
+                seat: other,
+                free: places,
+            },
+        )
+    }
+
+    /// One seat of two. The second isn't the keeper's.
+    pub fn join(&self, seat: GateSeat, other: GateSeat) -> GateSeat
+        requires { (seat.gate ≡ self.now) × (other.gate ≡ self.now) × (other.knows.keeps ≡ false) }
+        ensures { result ≡ record seat { knows = record (both_of seat.knows other.knows) { saw = result.knows.saw } } }
+    {
+        let GateSeat { mut seat, free } = seat;
+        let GateSeat {
+            seat: other,
+            free: other_free,
+        } = other;
+        self.table.shared.join_seat::<Together>(&mut seat, other);
+        self.table.shared.load::<Look>(&mut seat, 0);
+        GateSeat {
+            seat,
+            free: free + other_free,
+        }
+    }
+
+    /// While there is an `Inside` of a key, the keeper doesn't know it as claimed.
+    pub fn not_claimed(&self, keeper: &mut GateSeat, seat: &mut GateSeat, inside: &Inside)
+        requires own { (keeper.old.gate ≡ self.now) × (seat.old.gate ≡ self.now) }
+        requires keeper { keeper.old.knows.keeps ≡ true }
+        requires inside { HasKey inside.now.key.slot inside.now.key.generation seat.old.knows.inside }
+        ensures kept { keeper.new ≡ keeper.old }
+        ensures heard { seat.new ≡ record seat.old { knows = record seat.old.knows { heard = keeper.old.knows.levels; saw = seat.new.knows.saw } } }
+        ensures unclaimed { slice_index keeper.old.knows.levels inside.now.key.slot ≤ 4 * inside.now.key.generation + 1 }
+    {
+        let note = self.table.shared.split_seat::<Deal>(&mut keeper.seat);
+        self.table.shared.join_seat::<Hear>(&mut seat.seat, note);
+        self.table.shared.load::<Look>(&mut seat.seat, 0);
+    }
+}
+
+// The key of the word that a caller stepped out of, if that left it shut, unclaimed and empty.
+fn last_of(slot: u32, left: u64) -> Option<Last>
+    ensures { LastIs slot left result }
+{
+    let level = left / CALLERS;
+    if level % 4 == 1 && left % CALLERS == 1 {
+        Some(Last {
+            key: GateKey {
+                slot,
+                generation: level / 4,
+            },
+        })
+    } else {
+        None
+    }
+}
