@@ -2,15 +2,17 @@
 ghost use Rattle.std.specs.Prelude.{◌≡◌, ◌≢◌, ◌+◌, ◌-◌, ◌*◌, ◌/◌, ◌%◌, ◌^◌, ◌<◌, ◌≤◌, ◌↔◌, true, false, if◌then◌else◌, replicate, [], ◌∷◌, length, slice_index, slice_set, IsTrue, IfOk, IfErr, IfSome, IfNone, MatchOption, MatchResult};
 ghost use Rattle.call_gate.specs.Gates.{SeatView, level_in, generation_in, stage_in, callers_in, with_inside, with_levels, without, HasKey, LeavesLast};
 ghost use Rattle.call_gate.specs.Starts.{first_view, seat_view, both_of};
-ghost use Rattle.call_gate.specs.Calls.{LastIs, EntersAs, ClaimsAs, ShutIs};
+ghost use Rattle.call_gate.specs.Calls.{slots_in, KnownOpen, KnownClosed, KnownClaimed, NoneClaimed, opened_in, shut_in, LastIs, EntersAs, ClaimsAs, ShutIs};
 
 use crate::rule::{
     Beginning, Claim, Deal, Enter, GateView, Gates, Hear, Leave, Look, Mark, Pass, Raise, Together,
 };
-use crate::seat::{Drain, Entered, GateSeat, Inside, Last, Worn};
-use atomic_table::{Seat, Table};
+use crate::seat::GateSeat;
+use crate::tokens::{Drain, Entered, Inside, Last, Worn};
+use atomic_table::Table;
 use journal_core::GateKey;
-use std::alloc::{AllocError, Global};
+use prop_map::OutOfMemory;
+use std::alloc::Global;
 use std::marker::Model;
 
 const CALLERS: u64 = 16_777_216;
@@ -38,9 +40,10 @@ impl Model for CallGate {
 impl CallGate {
     /// The word of a slot.
     pub fn look(&self, seat: &mut GateSeat, slot: u32) -> u64
-        requires { (seat.old.gate ≡ self.now) × (slot < self.now.words) }
+        requires { (seat.old.gate ≡ self.now) × (slot < slots_in self.now) }
         ensures seat { seat.new ≡ record seat.old { knows = record seat.old.knows { saw = result } } }
         ensures level { seat.old.knows.keeps ≡ true → level_in result ≡ slice_index seat.old.knows.levels slot }
+        ensures unclaimed { seat.old.knows.keeps ≡ true → NoneClaimed seat.old.knows.inside seat.old.knows.levels }
     {
         self.table
             .shared
@@ -49,7 +52,7 @@ impl CallGate {
 
     /// Enters a gate that is open under the key. Where it isn't, the caller has stepped out again.
     pub fn enter(&self, seat: &mut GateSeat, key: GateKey) -> Entered
-        requires own { (seat.old.gate ≡ self.now) × (key.slot < self.now.words) }
+        requires own { (seat.old.gate ≡ self.now) × (key.slot < slots_in self.now) }
         requires room { length seat.old.knows.inside < seat.old.knows.places }
         ensures same { seat.new.gate ≡ seat.old.gate }
         ensures answer { EntersAs key seat.old.knows seat.new.knows result }
@@ -85,10 +88,10 @@ impl CallGate {
 
     /// Leaves. The last of a shut gate is told.
     pub fn leave(&self, seat: &mut GateSeat, inside: Inside) -> Option<Last>
-        requires own { (seat.old.gate ≡ self.now) × (inside.key.slot < self.now.words) }
-        requires inside { HasKey inside.key.slot inside.key.generation seat.old.knows.inside }
-        ensures seat { seat.new ≡ record seat.old { knows = with_inside seat.old.knows (without inside.key.slot seat.old.knows.inside) seat.new.knows.saw } }
-        ensures last { LastIs inside.key.slot seat.new.knows.saw result }
+        requires own { (seat.old.gate ≡ self.now) × (inside.slot < slots_in self.now) }
+        requires inside { HasKey inside.slot inside.generation seat.old.knows.inside }
+        ensures seat { seat.new ≡ record seat.old { knows = with_inside seat.old.knows (without inside.slot seat.old.knows.inside) seat.new.knows.saw } }
+        ensures last { LastIs inside.slot seat.new.knows.saw result }
     {
         let Inside { key } = inside;
         let left = self
@@ -101,10 +104,10 @@ impl CallGate {
 
     /// Opens a closed gate under the next generation.
     pub fn reopen(&self, seat: &mut GateSeat, slot: u32) -> Result<GateKey, Worn>
-        requires own { (seat.old.gate ≡ self.now) × (slot < self.now.words) }
-        requires closed { (seat.old.knows.keeps ≡ true) × (slice_index seat.old.knows.levels slot % 4 ≡ 3) }
+        requires own { (seat.old.gate ≡ self.now) × (slot < slots_in self.now) }
+        requires closed { (seat.old.knows.keeps ≡ true) × KnownClosed slot seat.old.knows.levels }
         ensures same { seat.new.gate ≡ seat.old.gate }
-        ensures ok { IfOk result (λ key. (key.slot ≡ slot) × (key.generation ≡ slice_index seat.old.knows.levels slot / 4 + 1) × (seat.new.knows ≡ with_levels seat.old.knows (slice_set seat.old.knows.levels slot (4 * key.generation)) seat.new.knows.saw)) }
+        ensures ok { IfOk result (λ key. (key.slot ≡ slot) × (key.generation ≡ slice_index seat.old.knows.levels slot / 4 + 1) × (seat.new.knows ≡ with_levels seat.old.knows (opened_in key seat.old.knows.levels) seat.new.knows.saw)) }
         ensures worn { IfErr result (λ _. (slice_index seat.old.knows.levels slot / 4 ≡ 2 ^ 38 - 1) × (seat.new.knows ≡ with_levels seat.old.knows seat.old.knows.levels seat.new.knows.saw)) }
         ensures room { IfOk result (λ _. slice_index seat.old.knows.levels slot / 4 < 2 ^ 38 - 1) }
     {
@@ -123,9 +126,9 @@ impl CallGate {
 
     /// Shuts an open gate. Where nobody is inside, the key is told as last.
     pub fn shut(&self, seat: &mut GateSeat, key: GateKey) -> Option<Last>
-        requires own { (seat.old.gate ≡ self.now) × (key.slot < self.now.words) }
-        requires open { (seat.old.knows.keeps ≡ true) × (slice_index seat.old.knows.levels key.slot ≡ 4 * key.generation) }
-        ensures seat { seat.new ≡ record seat.old { knows = with_levels seat.old.knows (slice_set seat.old.knows.levels key.slot (4 * key.generation + 1)) seat.new.knows.saw } }
+        requires own { (seat.old.gate ≡ self.now) × (key.slot < slots_in self.now) }
+        requires open { (seat.old.knows.keeps ≡ true) × KnownOpen key seat.old.knows.levels }
+        ensures seat { seat.new ≡ record seat.old { knows = with_levels seat.old.knows (shut_in key seat.old.knows.levels) seat.new.knows.saw } }
         ensures last { ShutIs key seat.new.knows.saw result }
     {
         let found = self
@@ -141,10 +144,10 @@ impl CallGate {
 
     /// Claims the drain of a key that was told as last, unless a caller came, or it was claimed before.
     pub fn claim(&self, seat: &mut GateSeat, last: Last) -> Option<Drain>
-        requires own { (seat.old.gate ≡ self.now) × (last.key.slot < self.now.words) }
+        requires own { (seat.old.gate ≡ self.now) × (last.slot < slots_in self.now) }
         requires keeper { seat.old.knows.keeps ≡ true }
         ensures same { seat.new.gate ≡ seat.old.gate }
-        ensures answer { ClaimsAs last.key seat.old.knows seat.new.knows result }
+        ensures answer { ClaimsAs last seat.old.knows seat.new.knows result }
     {
         let Last { key } = last;
         let level = 4 * key.generation + 1;
@@ -162,19 +165,21 @@ impl CallGate {
         }
     }
 
-    /// Gates that are shut and claimed, and the keeper's seat.
+    /// Gates that are all closed under a generation of 2^38 - 1 at most, and the keeper's seat, which has all of the
+    /// 2^24 - 1 places. There may be 70,000 slots at most.
     pub fn new(
         alloc: Global,
         words: u32,
         generation: u64,
-    ) -> Result<(CallGate, GateSeat), AllocError>
-        requires { (0 < words) × (words ≤ 70000) × (generation < 2 ^ 38) }
-        ensures { IfOk result (λ r. (r.0.words ≡ words) × (r.1 ≡ record { gate = r.0; knows = first_view (replicate words (4 * generation + 3)) })) }
+    ) -> Result<(CallGate, GateSeat), OutOfMemory>
+        requires { (words ≤ 70000) × (generation < 2 ^ 38) }
+        ensures { IfOk result (λ r. (slots_in r.0 ≡ words) × (r.1 ≡ record { gate = r.0; knows = first_view (replicate (words + 1) (4 * generation + 3)) })) }
     {
         let level = 4 * generation + 3;
-        let row = Vec::from_elem(alloc, level * CALLERS, words as usize)?;
+        let count = words as usize + 1;
+        let row = Vec::from_elem(alloc, level * CALLERS, count)?;
         let about = Beginning {
-            count: u64::from(words),
+            count: u64::from(words) + 1,
             level,
         };
         let (table, seat) = Table::of_words(alloc, row.as_slice(), &about)?;
@@ -185,12 +190,18 @@ impl CallGate {
         Ok((CallGate { table }, seat))
     }
 
-    /// Gives some of the free places to a second seat.
-    pub fn split(&self, seat: GateSeat, places: u32) -> (GateSeat, GateSeat)
+    /// Gives some of a seat's free places, one at least but not all, to a second seat. Where the first is the keeper's,
+    /// it stays so. It takes no memory today, so it has no refusal.
+    pub fn split(
+        &self,
+        seat: GateSeat,
+        places: u32,
+    ) -> Result<(GateSeat, GateSeat), (GateSeat, OutOfMemory)>
         requires own { seat.gate ≡ self.now }
         requires room { (0 < places) × (places < seat.knows.places - length seat.knows.inside) }
-        ensures first { result.0 ≡ record seat { knows = record seat.knows { places = seat.knows.places - places } } }
-        ensures second { result.1 ≡ record { gate = seat.gate; knows = seat_view places [] (if seat.knows.keeps then seat.knows.levels else seat.knows.heard) } }
+        ensures first { IfOk result (λ r. r.0 ≡ record seat { knows = record seat.knows { places = seat.knows.places - places } }) }
+        ensures second { IfOk result (λ r. r.1 ≡ record { gate = seat.gate; knows = seat_view places [] (if seat.knows.keeps then seat.knows.levels else seat.knows.heard) }) }
+        ensures never { IfErr result (λ _. ⊥) }
     {
         let GateSeat { mut seat, free } = seat;
         let count = u64::from(places);
@@ -198,7 +209,7 @@ impl CallGate {
             .shared
             .compare_exchange::<Mark>(&mut seat, 0, count, count);
         let other = self.table.shared.split_seat::<Deal>(&mut seat);
-        (
+        Ok((
             GateSeat {
                 seat,
                 free: free - places,
@@ -207,7 +218,7 @@ impl CallGate {
                 seat: other,
                 free: places,
             },
-        )
+        ))
     }
 
     /// One seat of two. The second isn't the keeper's.
@@ -232,10 +243,10 @@ impl CallGate {
     pub fn not_claimed(&self, keeper: &mut GateSeat, seat: &mut GateSeat, inside: &Inside)
         requires own { (keeper.old.gate ≡ self.now) × (seat.old.gate ≡ self.now) }
         requires keeper { keeper.old.knows.keeps ≡ true }
-        requires inside { HasKey inside.now.key.slot inside.now.key.generation seat.old.knows.inside }
+        requires inside { HasKey inside.now.slot inside.now.generation seat.old.knows.inside }
         ensures kept { keeper.new ≡ keeper.old }
         ensures heard { seat.new ≡ record seat.old { knows = record seat.old.knows { heard = keeper.old.knows.levels; saw = seat.new.knows.saw } } }
-        ensures unclaimed { slice_index keeper.old.knows.levels inside.now.key.slot ≤ 4 * inside.now.key.generation + 1 }
+        ensures unclaimed { ¬ KnownClaimed inside.now keeper.old.knows.levels }
     {
         let note = self.table.shared.split_seat::<Deal>(&mut keeper.seat);
         self.table.shared.join_seat::<Hear>(&mut seat.seat, note);

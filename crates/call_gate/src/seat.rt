@@ -1,13 +1,12 @@
-//! Seats at the gates, and the tokens of callers.
-ghost use Rattle.std.specs.Prelude.{◌≡◌, ◌-◌, ◌<◌, ◌^◌, length};
-ghost use Rattle.call_gate.specs.Gates.{SeatView};
+//! Seats, from which callers and the keeper step at the gates.
+ghost use Rattle.std.specs.Prelude.{◌≡◌, ◌-◌, length};
 
 use crate::rule::GateView;
 use atomic_table::Seat;
-use journal_core::GateKey;
 use std::marker::Model;
 
-/// A seat: it enters and leaves. The keeper also opens and shuts.
+/// A seat at the gates: callers enter and leave from it, as many at once as it has places. The keeper's seat also
+/// opens, shuts and claims. To a contract it is the table of its gates and what it knows of them.
 #[derive(Drop)]
 pub struct GateSeat {
     pub(crate) seat: Seat<(), GateView>,
@@ -26,60 +25,10 @@ impl Model for GateSeat {
 }
 
 impl GateSeat {
-    /// The places that no caller takes.
+    /// The places that no caller inside takes, 2^24 - 1 at most.
     pub fn free(&self) -> u32
         ensures { result ≡ self.now.knows.places - length self.now.knows.inside }
     {
         self.free
     }
-}
-
-/// The generations of a slot are used up.
-#[derive(Drop)]
-pub struct Worn;
-
-/// A caller that is inside. It is to be spent by `leave`.
-pub struct Inside {
-    pub(crate) key: GateKey,
-}
-
-/// Nobody was inside any more when this was told. It is to be spent by `claim`.
-pub struct Last {
-    pub(crate) key: GateKey,
-    ghost small: { key.generation < 2 ^ 38 },
-}
-
-impl Last {
-    /// The key, where nobody can claim it now.
-    pub fn give_up(self) -> GateKey
-        ensures { result ≡ self.key }
-    {
-        let Last { key } = self;
-        key
-    }
-}
-
-/// The right to post that the key is drained.
-pub struct Drain {
-    pub(crate) key: GateKey,
-}
-
-impl Drain {
-    /// The key, and the end of the token.
-    pub fn spend(self) -> GateKey
-        ensures { result ≡ self.key }
-    {
-        let Drain { key } = self;
-        key
-    }
-}
-
-/// What `enter` answers.
-pub enum Entered {
-    Inside(Inside),
-    Gone {
-        generation: u64,
-        shut: bool,
-        last: Option<Last>,
-    },
 }
