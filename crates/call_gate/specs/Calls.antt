@@ -1,7 +1,7 @@
 -- What the calls of the gates answer, by the word that their step found. Our own.
 use Rattle.std.specs.Prelude.{◌≡◌, ◌≢◌, ℕ, ◌+◌, ◌-◌, ◌*◌, ◌/◌, ◌%◌, ◌<◌, slice_index, slice_set, ◌⊎◌, List, ◌∷◌, Bool, Option, Some, None, IsTrue, ◌↔◌}
 use Rattle.atomic_table.specs.Seated.{TableId}
-use Rattle.call_gate.specs.Gates.{level_in, generation_in, stage_in, callers_in, LeavesLast, HasKey, with_caller, with_levels}
+use Rattle.call_gate.specs.Gates.{generation_in, stage_in, callers_in, LeavesLast, HasKey, with_caller, with_levels}
 use Rattle.call_gate.specs.declared.rule.GateView.{GateView}
 use Rattle.journal_core.specs.declared.entry.GateKey.{GateKey}
 use Rattle.call_gate.specs.declared.tokens.Entered.{Entered}

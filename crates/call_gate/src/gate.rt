@@ -1,11 +1,12 @@
-//! The gates: one word for each slot.
+//! The gates: one word for each slot, changed by single steps.
 ghost use Rattle.std.specs.Prelude.{◌≡◌, ◌≢◌, ◌+◌, ◌-◌, ◌*◌, ◌/◌, ◌%◌, ◌^◌, ◌<◌, ◌≤◌, ◌↔◌, true, false, if◌then◌else◌, replicate, [], ◌∷◌, length, slice_index, slice_set, IsTrue, IfOk, IfErr, IfSome, IfNone, MatchOption, MatchResult};
 ghost use Rattle.call_gate.specs.Gates.{SeatView, level_in, generation_in, stage_in, callers_in, with_inside, with_levels, without, HasKey, LeavesLast};
 ghost use Rattle.call_gate.specs.Starts.{first_view, seat_view, both_of};
 ghost use Rattle.call_gate.specs.Calls.{slots_in, KnownOpen, KnownClosed, KnownClaimed, NoneClaimed, opened_in, shut_in, LastIs, EntersAs, ClaimsAs, ShutIs};
 
 use crate::rule::{
-    Beginning, Claim, Deal, Enter, GateView, Gates, Hear, Leave, Look, Mark, Pass, Raise, Together,
+    Beginning, Claim, Deal, Enter, GateView, Gates, Hear, Leave, Look, Mark, Raise, StepOut,
+    Together,
 };
 use crate::seat::GateSeat;
 use crate::tokens::{Drain, Entered, Inside, Last, Worn};
@@ -15,12 +16,16 @@ use prop_map::OutOfMemory;
 use std::alloc::Global;
 use std::marker::Model;
 
+// The callers of a word are counted below this.
 const CALLERS: u64 = 16_777_216;
 
-/// The greatest generation.
+// The greatest generation, 2^38 - 1.
 const LAST_GENERATION: u64 = 274_877_906_943;
 
-/// Gates in a row. To a contract they are the name of their table.
+/// Gates in a row, at slots from 0 on. The word of a slot has the count of its callers in bits 0 to 23, whether it is
+/// shut in bit 24, whether its drain is claimed in bit 25, and its generation above. No call waits for another, and all
+/// but `new` and `split` do without memory. To a contract the gates are the name of their table, which has one word more
+/// than there are slots.
 #[derive(Drop)]
 pub struct CallGate {
     table: Table<(), GateView, Beginning, Gates, Global>,
@@ -38,7 +43,8 @@ impl Model for CallGate {
 }
 
 impl CallGate {
-    /// The word of a slot.
+    /// The word of a slot. The keeper thereby learns nothing new of the slot's generation and of whether it is open,
+    /// shut or closed: it knew. None of the keys that it has callers inside of is known to it as claimed.
     pub fn look(&self, seat: &mut GateSeat, slot: u32) -> u64
         requires { (seat.old.gate ≡ self.now) × (slot < slots_in self.now) }
         ensures seat { seat.new ≡ record seat.old { knows = record seat.old.knows { saw = result } } }
@@ -50,7 +56,8 @@ impl CallGate {
             .load::<Look>(&mut seat.seat, slot as usize)
     }
 
-    /// Enters a gate that is open under the key. Where it isn't, the caller has stepped out again.
+    /// Enters a gate by one step on its word, and is inside exactly where that word was open under the key's generation.
+    /// Else the caller steps out again, and is told what the word was. The seat needs a free place.
     pub fn enter(&self, seat: &mut GateSeat, key: GateKey) -> Entered
         requires own { (seat.old.gate ≡ self.now) × (key.slot < slots_in self.now) }
         requires room { length seat.old.knows.inside < seat.old.knows.places }
@@ -64,7 +71,10 @@ impl CallGate {
             .fetch_add::<Enter>(&mut seat.seat, slot, 1);
         let level = found / CALLERS;
         if level % 4 != 0 {
-            let left = self.table.shared.fetch_sub::<Pass>(&mut seat.seat, slot, 1);
+            let left = self
+                .table
+                .shared
+                .fetch_sub::<StepOut>(&mut seat.seat, slot, 1);
             return Entered::Gone {
                 generation: level / 4,
                 shut: true,
@@ -86,7 +96,8 @@ impl CallGate {
         Entered::Inside(Inside { key })
     }
 
-    /// Leaves. The last of a shut gate is told.
+    /// Leaves, by one step on the word. Tells the key as last exactly where that step leaves the gate shut, unclaimed and
+    /// empty. The caller entered from this seat, or from one that was joined into it.
     pub fn leave(&self, seat: &mut GateSeat, inside: Inside) -> Option<Last>
         requires own { (seat.old.gate ≡ self.now) × (inside.slot < slots_in self.now) }
         requires inside { HasKey inside.slot inside.generation seat.old.knows.inside }
@@ -102,7 +113,8 @@ impl CallGate {
         last_of(key.slot, left)
     }
 
-    /// Opens a closed gate under the next generation.
+    /// Opens a closed slot under its next generation, from the keeper's seat. `Worn` exactly where its last generation
+    /// was 2^38 - 1, and then the slot stays closed.
     pub fn reopen(&self, seat: &mut GateSeat, slot: u32) -> Result<GateKey, Worn>
         requires own { (seat.old.gate ≡ self.now) × (slot < slots_in self.now) }
         requires closed { (seat.old.knows.keeps ≡ true) × KnownClosed slot seat.old.knows.levels }
@@ -124,7 +136,8 @@ impl CallGate {
         })
     }
 
-    /// Shuts an open gate. Where nobody is inside, the key is told as last.
+    /// Shuts a gate that is open under the key, by one step from the keeper's seat. Tells the key as last exactly where
+    /// that step leaves the gate empty.
     pub fn shut(&self, seat: &mut GateSeat, key: GateKey) -> Option<Last>
         requires own { (seat.old.gate ≡ self.now) × (key.slot < slots_in self.now) }
         requires open { (seat.old.knows.keeps ≡ true) × KnownOpen key seat.old.knows.levels }
@@ -142,7 +155,9 @@ impl CallGate {
         }
     }
 
-    /// Claims the drain of a key that was told as last, unless a caller came, or it was claimed before.
+    /// Claims the drain of a key that was told as last, by one try from the keeper's seat, which then knows the slot as
+    /// closed. None exactly where the word isn't shut, unclaimed, empty and of the key's generation: it was claimed
+    /// before, or a caller is there, whose own step out tells the key again.
     pub fn claim(&self, seat: &mut GateSeat, last: Last) -> Option<Drain>
         requires own { (seat.old.gate ≡ self.now) × (last.slot < slots_in self.now) }
         requires keeper { seat.old.knows.keeps ≡ true }
@@ -221,7 +236,8 @@ impl CallGate {
         ))
     }
 
-    /// One seat of two. The second isn't the keeper's.
+    /// Joins two seats: the first has then the places and the callers inside of both, and is the keeper's where it was.
+    /// The second isn't the keeper's.
     pub fn join(&self, seat: GateSeat, other: GateSeat) -> GateSeat
         requires { (seat.gate ≡ self.now) × (other.gate ≡ self.now) × (other.knows.keeps ≡ false) }
         ensures { result ≡ record seat { knows = record (both_of seat.knows other.knows) { saw = result.knows.saw } } }
@@ -239,7 +255,8 @@ impl CallGate {
         }
     }
 
-    /// While there is an `Inside` of a key, the keeper doesn't know it as claimed.
+    /// Shows that a key with a caller inside is not known to the keeper as claimed, wherever the caller's seat is. It
+    /// changes no gate: the caller's seat hears what the keeper knows.
     pub fn not_claimed(&self, keeper: &mut GateSeat, seat: &mut GateSeat, inside: &Inside)
         requires own { (keeper.old.gate ≡ self.now) × (seat.old.gate ≡ self.now) }
         requires keeper { keeper.old.knows.keeps ≡ true }
