@@ -1,12 +1,17 @@
 -- A description as JSON data: ComponentDescriptionDTO and ReferenceDTO of OSGi Compendium 8, chapter 112. The defaults of
 -- the name, of a reference's name and of the lists are our own.
-use Rattle.std.specs.Prelude.{ℕ, List, [], ◌∷◌, codes, Bool, true, not, ◌&&◌, Option, Some, None, option_and_then, option_map, if◌then◌else◌}
+use Rattle.std.specs.Prelude.{ℕ, ◌==◌, length, List, [], ◌∷◌, codes, Bool, true, not, ◌&&◌, Option, Some, None, option_and_then, option_map, if◌then◌else◌}
 use Rattle.std.specs.List.{list_any}
 use Rattle.std.specs.Str.{bytes_eq}
 use Rattle.serde_json.specs.Data.{Data}
 use Rattle.serde_json.specs.Find.{as_str, as_array}
 use Rattle.component_dto.specs.declared.description.Description.{Description}
 use Rattle.component_dto.specs.declared.description.Reference.{Reference}
+use Rattle.component_dto.specs.declared.description.Scope.TheVariants.{Singleton}
+use Rattle.component_dto.specs.declared.description.ConfigurationPolicy.TheVariants.{Optional}
+use Rattle.prop_map.specs.declared.reference_words.Cardinality.TheVariants.{One}
+use Rattle.prop_map.specs.declared.reference_words.Policy.TheVariants.{Static}
+use Rattle.prop_map.specs.declared.reference_words.PolicyOption.TheVariants.{Reluctant}
 use Rattle.component_dto.specs.Fields.{given, needed_text, text_or, has_only, each}
 use Rattle.component_dto.specs.TextLists.{each_once}
 
@@ -21,7 +26,7 @@ interfaces_of d = option_map each_once (texts_of d)
 
 -- a reference with this interface; its name is by default that of the interface
 abbrev pub reference_to : Data → List ℕ → Option Reference
-reference_to d interface = option_map (λ name. record { name = name; interface_name = interface }) (text_or interface (given (codes "name") d))
+reference_to d interface = option_map (λ name. record { name = name; interface_name = interface; cardinality = One; policy = Static; policy_option = Reluctant; target = None; updated = None }) (text_or interface (given (codes "name") d))
 
 abbrev pub referenced : Data → Option Reference
 referenced d = option_and_then (reference_to d) (needed_text (codes "interfaceName") d)
@@ -49,7 +54,19 @@ references_of (Some d) = option_and_then told_apart (option_and_then (each refer
 -- a description of this class; its name is by default that of the class
 abbrev pub description_with : Data → List ℕ → Option Description
 description_with d class =
-    option_and_then (λ name. option_and_then (λ interfaces. option_map (λ refs. record { name = name; implementation_class = class; service_interfaces = interfaces; references = refs })
+    option_and_then (λ name. option_and_then (λ interfaces. option_map (λ refs. record {
+      name = name;
+      scope = Singleton;
+      implementation_class = class;
+      default_enabled = true;
+      immediate = length interfaces == 0;
+      service_interfaces = interfaces;
+      properties = [];
+      references = refs;
+      modified = None;
+      configuration_policy = Optional;
+      configuration_pids = name ∷ [];
+    })
     (references_of (given (codes "references") d))) (interfaces_of (given (codes "serviceInterfaces") d))) (text_or class (given (codes "name") d))
 
 abbrev pub described : Data → Option Description

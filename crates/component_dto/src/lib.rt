@@ -12,7 +12,7 @@ mod reading;
 mod tests;
 mod text_lists;
 
-pub use description::{Description, Reference};
+pub use description::{ConfigurationPolicy, Description, Reference, Scope};
 pub use fault::DescriptionFault;
 pub use fields::{given, has_only, needed_text};
 pub use reading::read_description;

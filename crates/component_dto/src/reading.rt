@@ -1,5 +1,5 @@
 //! A description read from JSON.
-ghost use Rattle.std.specs.Prelude.{◌≡◌, option_map};
+ghost use Rattle.std.specs.Prelude.{◌≡◌, ◌∷◌, [], IfOk, option_map};
 ghost use Rattle.std.specs.List.{list_any};
 ghost use Rattle.std.specs.Str.{bytes_eq};
 ghost use Rattle.serde_json.specs.Find.{as_str};
@@ -10,8 +10,8 @@ ghost use Rattle.component_dto.specs.Fields.{each};
 
 use crate::fields::{given, has_only, needed_text, text_or};
 use crate::text_lists::each_once;
-use crate::{Description, DescriptionFault, Reference};
-use prop_map::{List, Str};
+use crate::{ConfigurationPolicy, Description, DescriptionFault, Reference, Scope};
+use prop_map::{Cardinality, Copies, List, OutOfMemory, Policy, PolicyOption, Properties, Str};
 use serde_json::Value;
 use std::alloc::Global;
 
@@ -41,12 +41,28 @@ fn described(alloc: Global, json: &Value) -> Result<Description, DescriptionFaul
     let name = text_or(alloc, given(json, "name"), &implementation_class)?;
     let service_interfaces = interfaces(alloc, given(json, "serviceInterfaces"))?;
     let references = references(alloc, given(json, "references"))?;
+    let configuration_pids = just(alloc, name.copy(alloc)?)?;
     Ok(Description {
         name,
+        scope: Scope::Singleton,
         implementation_class,
+        default_enabled: true,
+        immediate: service_interfaces.as_slice().is_empty(),
         service_interfaces,
+        properties: Properties::new(alloc),
         references,
+        modified: None,
+        configuration_policy: ConfigurationPolicy::Optional,
+        configuration_pids,
     })
+}
+
+fn just(alloc: Global, text: Str) -> Result<List<Str>, OutOfMemory>
+    ensures { IfOk result (λ texts. texts ≡ text ∷ []) }
+{
+    let mut texts = List::of(Vec::new(alloc));
+    texts.push(text).map_err(|refused| refused.1)?;
+    Ok(texts)
 }
 
 fn interfaces(alloc: Global, json: Option<&Value>) -> Result<List<Str>, DescriptionFault>
@@ -148,5 +164,10 @@ fn referenced(alloc: Global, json: &Value) -> Result<Reference, DescriptionFault
     Ok(Reference {
         name,
         interface_name,
+        cardinality: Cardinality::One,
+        policy: Policy::Static,
+        policy_option: PolicyOption::Reluctant,
+        target: None,
+        updated: None,
     })
 }

@@ -21,8 +21,11 @@ fn a_description_is_read_with_its_defaults(rt: HostRuntime) -> Result<(), Fail> 
         .copy(rt.alloc())?;
     let shown = format!(in rt.alloc(); "{description:?}")?;
     let expected =
-        "Description { name: \"C\", implementation_class: \"C\", service_interfaces: [\"B\", \"A\"], references: [\
-        Reference { name: \"P\", interface_name: \"P\" }, Reference { name: \"q\", interface_name: \"Q\" }] }";
+        "Description { name: \"C\", scope: Singleton, implementation_class: \"C\", default_enabled: true, immediate: false, \
+        service_interfaces: [\"B\", \"A\"], properties: [], references: [\
+        Reference { name: \"P\", interface_name: \"P\", cardinality: One, policy: Static, policy_option: Reluctant, target: None, updated: None }, \
+        Reference { name: \"q\", interface_name: \"Q\", cardinality: One, policy: Static, policy_option: Reluctant, target: None, updated: None }], \
+        modified: None, configuration_policy: Optional, configuration_pids: [\"C\"] }";
     assert_eq!(rt; shown.as_str(), expected);
     Ok(())
 }

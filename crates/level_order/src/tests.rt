@@ -1,6 +1,6 @@
 use crate::{LevelFault, levels};
-use component_dto::{Description, Reference};
-use prop_map::{List, Str};
+use component_dto::{ConfigurationPolicy, Description, Reference, Scope};
+use prop_map::{Cardinality, List, Policy, PolicyOption, Properties, Str};
 use std::alloc::AllocError;
 use std::test::Fail;
 
@@ -16,15 +16,27 @@ fn described(rt: HostRuntime, name: &str, needs: &[&str]) -> Result<Description,
         references.push(Reference {
             name: text(rt, need)?,
             interface_name: text(rt, need)?,
+            cardinality: Cardinality::One,
+            policy: Policy::Static,
+            policy_option: PolicyOption::Reluctant,
+            target: None,
+            updated: None,
         })?;
     }
     let mut interfaces = Vec::new(alloc);
     interfaces.push(text(rt, name)?)?;
     Ok(Description {
         name: text(rt, name)?,
+        scope: Scope::Singleton,
         implementation_class: text(rt, name)?,
+        default_enabled: true,
+        immediate: false,
         service_interfaces: List::of(interfaces),
+        properties: Properties::new(alloc),
         references: List::of(references),
+        modified: None,
+        configuration_policy: ConfigurationPolicy::Optional,
+        configuration_pids: List::of(Vec::new(alloc)),
     })
 }
 
