@@ -1,41 +1,65 @@
--- What follows from an entry's step: the component configurations that close and those that open. OSGi Compendium 8, chapter 112; the order is our own.
-use Rattle.std.specs.Prelude.{ℕ, ◌+◌, ◌&&◌, List, [], ◌∷◌, Bool, true, false, not, filter, if◌then◌else◌}
-use Rattle.journal_core.specs.declared.entry.Opened.{Opened}
-use Rattle.scr_core.specs.declared.components.Component.{Component}
-use Rattle.scr_core.specs.Scratch.{has, numbers_of}
+-- What follows from an entry's step: what its pass stands on, the bundles that have stopped, and the gates that are shut and reopened. OSGi Core 8, life
+-- cycle layer; OSGi Compendium 8, chapter 112; gates are our own.
+use Rattle.std.specs.Prelude.{ℕ, ◌+◌, ◌==◌, ◌&&◌, ◌||◌, List, map, Bool, not, filter, find, Option, option_map}
+use Rattle.std.specs.List.{list_any}
+use Rattle.std.specs.Option.{option_map_or}
+use Rattle.callback_orders.specs.declared.callback.Outcome.{Outcome}
+use Rattle.component_state.specs.declared.component.Component.{Component}
+use Rattle.component_state.specs.Passes.{Stage}
+use Rattle.journal_core.specs.declared.entry.GateKey.{GateKey}
+use Rattle.scr_core.specs.declared.bundles.Bundle.{Bundle}
+use Rattle.scr_core.specs.declared.command.Step.{Step}
+use Rattle.scr_core.specs.declared.instance.Instance.{Instance}
+use Rattle.scr_core.specs.Bundles.{bundles_by, descriptions_of, is_stopping}
+use Rattle.scr_core.specs.Instances.{is_active, has_turn, becomes_active, next_generation}
+use Rattle.scr_core.specs.Levels.{levels_of}
+use Rattle.scr_core.specs.Views.{is_ending}
+use Rattle.scr_core.specs.Worlds.{World, lives_of, components_by, instances_by, failing, failed_by}
 
-abbrev pub is_empty : {X : Type 0} → List X → Bool
-is_empty [] = true
-is_empty (x ∷ xs) = false
+-- what the pass of a step stands on
+abbrev pub stage_of : Step → World → Stage
+stage_of step w = let ds = descriptions_of (bundles_by step w.bundles) in record {
+  place = w.length_is;
+  next = w.services + 1;
+  descriptions = ds;
+  levels = levels_of ds;
+  components = components_by step w;
+  before = w.open_ones;
+  all = lives_of (instances_by step w);
+  failed = failed_by step w;
+  failing = failing step w;
+}
 
--- a component configuration without interfaces registers no service
-abbrev pub is_silent : Component → Bool
-is_silent c = is_empty c.description.service_interfaces
+-- the bundle whose component an instance is of
+abbrev pub home_of : List Component → Instance → ℕ
+home_of cs i = option_map_or (λ (c : Component). c.bundle) (find (λ (c : Component). c.number == i.life.configuration) cs) 0
 
--- what closes: what was open and isn't satisfied any more
-abbrev pub closing : List ℕ → List Component → List Component → List ℕ
-closing open_ones ordered satisfied = numbers_of (filter (λ c. has open_ones c.number && not (has (numbers_of satisfied) c.number)) ordered)
+-- an instance keeps a bundle from having stopped: it is of one of its components, or was made for it
+abbrev pub keeps_bundle : List Component → ℕ → Instance → Bool
+keeps_bundle cs bundle i = (home_of cs i == bundle) || (i.consumer == bundle)
 
--- what opens with the next service number: its service has that number, or 0 where it registers none
-abbrev pub opened_one : ℕ → Component → Opened
-opened_one next c = record { configuration = c.number; service = if is_silent c then 0 else next }
+-- the bundles that have stopped: stopping ones for which no instance is left
+abbrev pub has_stopped : List Component → List Instance → Bundle → Bool
+has_stopped cs is b = is_stopping b.state && not (list_any (keeps_bundle cs b.number) is)
 
-abbrev pub next_after : ℕ → Component → ℕ
-next_after next c = if is_silent c then next else next + 1
+abbrev pub stopping : Step → World → List ℕ
+stopping step w = map (λ (b : Bundle). b.number) (filter (has_stopped (components_by step w) (instances_by step w)) (bundles_by step w.bundles))
 
--- new services are numbered on
-abbrev pub opened_from : ℕ → List Component → List Opened
-opened_from next [] = []
-opened_from next (c ∷ cs) = opened_one next c ∷ opened_from (next_after next c) cs
+-- an instance whose gate is to be drained: active, and ending
+abbrev pub is_draining : World → Instance → Bool
+is_draining w i = is_active i && is_ending w i
 
--- the number of the next service after these opened
-abbrev pub next_from : ℕ → List Component → ℕ
-next_from next [] = next
-next_from next (c ∷ cs) = next_from (next_after next c) cs
+abbrev pub gate_of : Instance → GateKey
+gate_of i = record { slot = i.slot; generation = i.generation }
 
--- what opens: what is satisfied and wasn't open
-abbrev pub opening_ones : List ℕ → List Component → List Component
-opening_ones open_ones satisfied = filter (λ c. not (has open_ones c.number)) satisfied
+-- an instance begins to be drained between two worlds
+abbrev pub begins_draining : World → World → Instance → Bool
+begins_draining before now i = is_draining now i && not (list_any (λ (j : Instance). (j.number == i.number) && is_draining before j) before.instances)
 
-abbrev pub opening : List ℕ → List Component → ℕ → List Opened
-opening open_ones satisfied next = opened_from next (opening_ones open_ones satisfied)
+-- the gates that are shut between two worlds, by instance
+abbrev pub shut_between : World → World → List GateKey
+shut_between before now = map gate_of (filter (begins_draining before now) now.instances)
+
+-- the gate that the end of a turn reopens: that of the instance whose Activate is done
+abbrev pub reopened_by : ℕ → Outcome → World → Option GateKey
+reopened_by turn outcome w = option_map (λ (i : Instance). record { slot = i.slot; generation = next_generation w.generations i }) (find (λ (i : Instance). has_turn turn i && becomes_active outcome i) w.instances)

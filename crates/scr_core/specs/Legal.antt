@@ -1,28 +1,56 @@
 -- A legal journal: each entry is what may come after those before it. Our own.
-use Rattle.std.specs.Prelude.{◌≡◌, ℕ, ◌+◌, [], ◌∷◌, true, ⊤}
+use Rattle.std.specs.Prelude.{◌≡◌, ℕ, ◌+◌, ◌==◌, ◌&&◌, [], ◌∷◌, Bool, true, not, Some, ⊤}
+use Rattle.std.specs.List.{list_any, list_all}
+use Rattle.callback_orders.specs.Sequences.{is_sequence}
+use Rattle.component_state.specs.Passes.{closing, opening_ones, opened_from}
+use Rattle.component_state.specs.Periods.{is_open}
+use Rattle.component_state.specs.Marks.{held_back}
+use Rattle.component_state.specs.Words.{has}
 use Rattle.journal_core.specs.declared.entry.Entry.{Entry}
 use Rattle.scr_core.specs.declared.command.Step.{Step}
-use Rattle.scr_core.specs.declared.command.Step.TheVariants.{Command as Commanded}
-use Rattle.scr_core.specs.Steps.{History}
-use Rattle.scr_core.specs.Scratch.{has, numbers_of}
-use Rattle.scr_core.specs.Periods.{open_in, periods, services_so_far}
-use Rattle.scr_core.specs.Worlds.{world_of, satisfied, pass_order}
-use Rattle.scr_core.specs.Consequences.{closing, opening}
+use Rattle.scr_core.specs.declared.command.Step.TheVariants.{Command as Commanded, Begin, End, Drained}
+use Rattle.scr_core.specs.declared.instance.Instance.{Instance}
+use Rattle.scr_core.specs.Consequences.{stage_of, stopping, is_draining}
+use Rattle.scr_core.specs.Dues.{next_begin}
+use Rattle.scr_core.specs.Instances.{has_turn}
 use Rattle.scr_core.specs.Replies.{changes}
+use Rattle.scr_core.specs.Room.{has_room, needed_by}
+use Rattle.scr_core.specs.Steps.{History}
+use Rattle.scr_core.specs.Worlds.{World, lives_of, instances_told, satisfied_in, world_of}
 
--- a step may come: a command that changes something
-abbrev pub MayCome : History → Step → Type 0
-MayCome past (Commanded command) = changes past command ≡ true
+-- a turn is under way
+abbrev pub is_under_way : World → ℕ → Bool
+is_under_way w turn = list_any (has_turn turn) w.instances
 
--- an entry may follow a history: its step may come, its lists are what follows from it, and afterwards just the satisfied component configurations are open
-pub record Follows (entry : Entry Step) (past : History) : Type 0 where
-  pub step : MayCome past entry.step
-  pub closed : entry.closed ≡ closing (open_in (periods past)) (pass_order (world_of (entry ∷ past))) (satisfied (world_of (entry ∷ past)))
-  pub opened : entry.opened ≡ opening (open_in (periods past)) (satisfied (world_of (entry ∷ past))) (services_so_far past + 1)
-  pub stopped : entry.stopped ≡ []
-  pub satisfied : (number : ℕ) → has (open_in (periods (entry ∷ past))) number ≡ has (numbers_of (satisfied (world_of (entry ∷ past)))) number
+-- the gate of an instance is shut and its drain isn't posted
+abbrev pub awaits_drain : World → Instance → Bool
+awaits_drain w i = is_draining w i && not i.drained
+
+-- a step may come: a command that changes something, the beginning of the first due callback, the end of a turn that is under way, the
+-- drain of an instance that awaits it
+abbrev pub MayCome : ℕ → World → Step → Type 0
+MayCome limit w (Commanded command) = changes limit w command ≡ true
+MayCome limit w (Begin turn instance configuration consumer callback chosen) = next_begin w ≡ Some (Begin turn instance configuration consumer callback chosen)
+MayCome limit w (End turn outcome) = is_under_way w turn ≡ true
+MayCome limit w (Drained instance) = list_any (λ (i : Instance). (i.number == instance) && awaits_drain w i) w.instances ≡ true
+
+-- just the satisfied component configurations that aren't held back are open
+abbrev pub IsScratch : World → Type 0
+IsScratch w = (number : ℕ) → is_open w.open_ones number ≡ (has (satisfied_in w) number && not (has (held_back w.failed w.open_ones (lives_of w.instances)) number))
+
+-- an entry may follow a history: its step may come and has room, its lists are what follows from it, afterwards just the satisfied component
+-- configurations that aren't held back are open, the callbacks of each instance are in order, and what is reserved has room
+pub record Follows (limit : ℕ) (entry : Entry Step) (past : History) : Type 0 where
+  pub step : MayCome limit (world_of past) entry.step
+  pub room : has_room limit (world_of past) (needed_by entry.step) ≡ true
+  pub closed : entry.closed ≡ closing (stage_of entry.step (world_of past)) (world_of (entry ∷ past)).open_ones
+  pub opened : entry.opened ≡ opened_from ((world_of past).services + 1) (opening_ones (stage_of entry.step (world_of past)) (world_of (entry ∷ past)).open_ones)
+  pub stopped : entry.stopped ≡ stopping entry.step (world_of past)
+  pub scratch : IsScratch (world_of (entry ∷ past))
+  pub order : list_all (λ (i : Instance). is_sequence i.word) (instances_told entry.step (world_of past)) ≡ true
+  pub left : has_room limit (world_of (entry ∷ past)) 0 ≡ true
 
 -- each entry may follow those before it
-abbrev pub IsLegal : History → Type 0
-IsLegal [] = ⊤
-IsLegal (entry ∷ past) = Follows entry past × IsLegal past
+abbrev pub IsLegal : ℕ → History → Type 0
+IsLegal limit [] = ⊤
+IsLegal limit (entry ∷ past) = Follows limit entry past × IsLegal limit past

@@ -1,18 +1,27 @@
 -- What readers tell. OSGi Compendium 8, chapter 112, ComponentConfigurationDTO.
-use Rattle.std.specs.Prelude.{ℕ, List, map, if◌then◌else◌}
-use Rattle.scr_core.specs.declared.components.Component.{Component}
-use Rattle.scr_core.specs.declared.components.ComponentLine.{ComponentLine}
-use Rattle.scr_core.specs.Steps.{History}
-use Rattle.scr_core.specs.Scratch.{has, numbers_of}
-use Rattle.scr_core.specs.Worlds.{world_of, satisfied}
+use Rattle.std.specs.Prelude.{ℕ, ◌==◌, ◌&&◌, List, map, Bool, not, if◌then◌else◌}
+use Rattle.std.specs.List.{list_any}
+use Rattle.component_state.specs.declared.component.Component.{Component}
+use Rattle.component_state.specs.Components.{living}
+use Rattle.component_state.specs.Periods.{is_open}
+use Rattle.component_state.specs.Words.{has}
+use Rattle.scr_core.specs.declared.component_rows.ComponentLine.{ComponentLine}
+use Rattle.scr_core.specs.declared.instance.Instance.{Instance}
+use Rattle.scr_core.specs.Instances.{is_active}
+use Rattle.scr_core.specs.Worlds.{World, satisfied_in}
 
--- the state of a component configuration: 2 where it isn't satisfied, 4 where it is
-abbrev pub state_by : List ℕ → Component → ℕ
-state_by satisfied c = if has satisfied c.number then 4 else 2
+-- an instance of the component configuration is active
+abbrev pub has_active : List Instance → ℕ → Bool
+has_active is number = list_any (λ (i : Instance). (i.life.configuration == number) && is_active i) is
 
-abbrev pub line_by : List ℕ → Component → ComponentLine
-line_by satisfied c = record { configuration = c.number; name = c.description.name; state = state_by satisfied c }
+-- the state of a component configuration, the first that holds: 2 where it isn't satisfied, 16 where it failed, 8 where it is open with an
+-- active instance, 4
+abbrev pub state_by : World → List ℕ → Component → ℕ
+state_by w satisfied c = if not (has satisfied c.number) then 2 else (if has w.failed c.number then 16 else (if is_open w.open_ones c.number && has_active w.instances c.number then 8 else 4))
 
--- the component configurations with their states, by number
-abbrev pub component_lines : History → List ComponentLine
-component_lines history = let w = world_of history in map (line_by (numbers_of (satisfied w))) w.components
+abbrev pub line_by : World → List ℕ → Component → ComponentLine
+line_by w satisfied c = record { configuration = c.number; name = c.description.name; state = state_by w satisfied c }
+
+-- the component configurations that haven't ceased with their states, by number
+abbrev pub component_lines : World → List ComponentLine
+component_lines w = map (line_by w (satisfied_in w)) (living w.components)

@@ -1,50 +1,74 @@
--- What a command changes, and what it answers: OSGi Core 8, life cycle layer. The refusals, their order and the limit are our own.
-use Rattle.std.specs.Prelude.{◌+◌, ◌&&◌, List, ◌++◌, Bool, false, not, nat_le, length, is_none, is_some, Option, Some, None, Result, Ok, Err, if◌then◌else◌}
-use Rattle.std.specs.Option.{option_map_or}
+-- What a command changes, and what it answers: OSGi Core 8, life cycle layer. The refusals, their order and the limits are our own.
+use Rattle.std.specs.Prelude.{ℕ, ◌+◌, ◌&&◌, ◌++◌, Bool, false, not, nat_le, nat_lt, length, find, is_none, is_some, Option, Some, None, option_map, Result, Ok, Err, if◌then◌else◌}
+use Rattle.std.specs.Option.{option_or, option_map_or}
 use Rattle.bundle_doc.specs.declared.document.BundleDoc.{BundleDoc}
+use Rattle.component_state.specs.Words.{is_empty}
 use Rattle.scr_core.specs.declared.bundles.Bundle.{Bundle}
 use Rattle.scr_core.specs.declared.command.Command.{Command}
-use Rattle.scr_core.specs.declared.command.Command.TheVariants.{Install, Start}
+use Rattle.scr_core.specs.declared.command.Command.TheVariants.{Install, Start, Stop}
 use Rattle.scr_core.specs.declared.command.Reply.{Reply}
 use Rattle.scr_core.specs.declared.command.Reply.TheVariants.{Done, Bundle as InBundle}
 use Rattle.scr_core.specs.declared.command.CoreFault.{CoreFault}
-use Rattle.scr_core.specs.declared.command.CoreFault.TheVariants.{NoBundle, Cycle, BundlesFull}
-use Rattle.scr_core.specs.Steps.{History}
-use Rattle.scr_core.specs.Bundles.{bundles, bundle_of, bundle_at, is_active, descriptions_of}
-use Rattle.scr_core.specs.Scratch.{has_levels}
+use Rattle.scr_core.specs.declared.command.CoreFault.TheVariants.{NoBundle, Stopping, Cycle, BundlesFull, ComponentsFull, JournalFull}
+use Rattle.scr_core.specs.declared.instance.Instance.{Instance}
+use Rattle.scr_core.specs.Bundles.{bundle_of, bundle_at, is_active, is_stopping, descriptions_of, coming}
+use Rattle.scr_core.specs.Consequences.{keeps_bundle}
+use Rattle.scr_core.specs.Levels.{has_levels}
+use Rattle.scr_core.specs.Room.{has_room}
+use Rattle.scr_core.specs.Worlds.{World, remaining}
+
+abbrev pub refuse_if : Bool → CoreFault → Option CoreFault
+refuse_if b fault = if b then Some fault else None
 
 -- the location has a bundle
-abbrev pub is_known : List Bundle → BundleDoc → Bool
-is_known bs doc = is_some (bundle_at bs doc.location)
+abbrev pub is_known : World → BundleDoc → Bool
+is_known w doc = is_some (bundle_at w.bundles doc.location)
 
 -- with this document every description has a level
-abbrev pub stays_acyclic : List Bundle → BundleDoc → Bool
-stays_acyclic bs doc = has_levels (descriptions_of bs ++ doc.descriptions)
-
-abbrev pub is_full : List Bundle → Bool
-is_full bs = nat_le 128 (length bs)
+abbrev pub stays_acyclic : World → BundleDoc → Bool
+stays_acyclic w doc = has_levels (descriptions_of w.bundles ++ doc.descriptions)
 
 -- why a document isn't installed from a location without a bundle: the first of these
-abbrev pub install_refusal : List Bundle → BundleDoc → Option CoreFault
-install_refusal bs doc = if stays_acyclic bs doc then (if is_full bs then Some BundlesFull else None) else Some Cycle
+abbrev pub install_refusal : World → BundleDoc → Option CoreFault
+install_refusal w doc = option_or (refuse_if (not (stays_acyclic w doc)) Cycle) (refuse_if (nat_le 128 (length w.bundles)) BundlesFull)
 
--- why a command is refused
-abbrev pub refusal : List Bundle → Command → Option CoreFault
-refusal bs (Install doc) = if is_known bs doc then None else install_refusal bs doc
-refusal bs (Start bundle) = option_map_or (λ b. None) (bundle_of bs bundle) (Some (NoBundle bundle))
+-- a stopping bundle isn't started: the lowest instance that keeps it from having stopped is told
+abbrev pub still_stopping : World → Bundle → Option CoreFault
+still_stopping w b = if is_stopping b.state then option_map (λ (i : Instance). Stopping i.number) (find (keeps_bundle w.components b.number) w.instances) else None
 
--- a command that isn't refused changes something, but for an install from a known location and the start of an ACTIVE bundle
-abbrev pub has_effect : List Bundle → Command → Bool
-has_effect bs (Install doc) = not (is_known bs doc)
-has_effect bs (Start bundle) = option_map_or (λ (b : Bundle). not (is_active b.state)) (bundle_of bs bundle) false
+-- a start would make component configurations come, and there would be more than 512
+abbrev pub components_full : World → ℕ → Bool
+components_full w bundle = let new = coming w.bundles (w.came + 1) bundle in not (is_empty new) && nat_lt 512 (length (remaining w) + length new)
 
-abbrev pub changes : History → Command → Bool
-changes history command = is_none (refusal (bundles history) command) && has_effect (bundles history) command
+-- why a bundle isn't started: the first of these
+abbrev pub start_refusal : World → Bundle → Option CoreFault
+start_refusal w b = if is_active b.state then None else option_or (still_stopping w b) (refuse_if (components_full w b.number) ComponentsFull)
+
+-- why a command is refused, but for want of room
+abbrev pub refusal : World → Command → Option CoreFault
+refusal w (Install doc) = if is_known w doc then None else install_refusal w doc
+refusal w (Start bundle) = option_map_or (start_refusal w) (bundle_of w.bundles bundle) (Some (NoBundle bundle))
+refusal w (Stop bundle) = refuse_if (is_none (bundle_of w.bundles bundle)) (NoBundle bundle)
+
+-- a command that isn't refused changes something, but for an install from a known location, the start of an ACTIVE bundle and the stop of any other
+abbrev pub has_effect : World → Command → Bool
+has_effect w (Install doc) = not (is_known w doc)
+has_effect w (Start bundle) = option_map_or (λ (b : Bundle). not (is_active b.state)) (bundle_of w.bundles bundle) false
+has_effect w (Stop bundle) = option_map_or (λ (b : Bundle). is_active b.state) (bundle_of w.bundles bundle) false
+
+-- a command that would change something finds no room for its entry
+abbrev pub lacks_room : ℕ → World → Command → Bool
+lacks_room limit w command = has_effect w command && not (has_room limit w 1)
+
+abbrev pub changes : ℕ → World → Command → Bool
+changes limit w command = is_none (refusal w command) && (has_effect w command && has_room limit w 1)
 
 -- what a command answers that isn't refused
-abbrev pub answer : List Bundle → Command → Reply
-answer bs (Install doc) = InBundle (option_map_or (λ (b : Bundle). b.number) (bundle_at bs doc.location) (length bs + 1))
-answer bs (Start bundle) = Done
+abbrev pub answer : World → Command → Reply
+answer w (Install doc) = InBundle (option_map_or (λ (b : Bundle). b.number) (bundle_at w.bundles doc.location) (length w.bundles + 1))
+answer w (Start bundle) = Done
+answer w (Stop bundle) = Done
 
-abbrev pub reply : History → Command → Result Reply CoreFault
-reply history command = option_map_or (λ fault. Err fault) (refusal (bundles history) command) (Ok (answer (bundles history) command))
+-- what a command answers: the first refusal, last that for want of room, else the answer
+abbrev pub reply : ℕ → World → Command → Result Reply CoreFault
+reply limit w command = option_map_or (λ fault. Err fault) (option_or (refusal w command) (refuse_if (lacks_room limit w command) JournalFull)) (Ok (answer w command))

@@ -3,6 +3,8 @@ ghost use Rattle.std.specs.Prelude.{◌≡◌};
 ghost use Rattle.scr_core.specs.declared.command.CoreFault.TheVariants.{OutOfMemory};
 
 use bundle_doc::BundleDoc;
+use callback_orders::{Callback, Outcome};
+use component_state::Choice;
 use journal_core::GateKey;
 use level_order::LevelFault;
 use prop_map::List;
@@ -30,6 +32,11 @@ pub enum Command {
         /// The bundle's number.
         bundle: u64,
     },
+    /// Stop a bundle.
+    Stop {
+        /// The bundle's number.
+        bundle: u64,
+    },
 }
 
 /// What an entry of the journal tells.
@@ -37,6 +44,33 @@ pub enum Command {
 pub enum Step {
     /// A command that changed something.
     Command(Command),
+    /// A turn began: an instance is told of a callback, which is its first one where the callback is Create.
+    Begin {
+        /// The number of the turn, from 1 on.
+        turn: u64,
+        /// The number of the instance.
+        instance: u64,
+        /// The number of its component configuration.
+        configuration: u64,
+        /// The number of the bundle that it is made for, 0 where it is for all.
+        consumer: u64,
+        /// What it is told.
+        callback: Callback,
+        /// At a Create what it chooses for each static reference, else nothing.
+        chosen: List<Choice>,
+    },
+    /// A turn ended.
+    End {
+        /// The number of the turn.
+        turn: u64,
+        /// How it ended.
+        outcome: Outcome,
+    },
+    /// The drain of an instance's gate was posted: nobody is inside any more.
+    Drained {
+        /// The number of the instance.
+        instance: u64,
+    },
 }
 
 /// What a command answers.
@@ -53,7 +87,7 @@ pub enum Reply {
 pub struct Accepted {
     /// What it answers.
     pub reply: Reply,
-    /// The gates that were shut. There are none yet, since no instances are made.
+    /// The gates of the instances that are active and began to end, by instance.
     pub shut: List<GateKey>,
 }
 
@@ -65,10 +99,19 @@ pub enum CoreFault {
         /// The number.
         bundle: u64,
     },
+    /// The bundle is still stopping.
+    Stopping {
+        /// The lowest instance of its components, or made for it, that hasn't ceased.
+        instance: u64,
+    },
     /// With this document some description would have no level: it would consume itself over others.
     Cycle,
     /// There are 128 bundles.
     BundlesFull,
+    /// There would be more than 512 component configurations.
+    ComponentsFull,
+    /// The journal has no room for what is asked, beside the entries that are reserved.
+    JournalFull,
     /// There was no memory.
     OutOfMemory,
 }

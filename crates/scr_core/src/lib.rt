@@ -1,21 +1,16 @@
-//! The core of the platform: bundles, their component configurations, and what is satisfied (OSGi Core 8, life cycle
+//! The core of the platform: bundles, their component configurations, and their instances (OSGi Core 8, life cycle
 //! layer; OSGi Compendium 8, chapter 112).
 //!
-//! A [`Core`] takes commands and keeps a journal of those that changed something. All that it answers follows from
-//! the journal by the definitions in `specs/`.
-#![tactic(auto, using(crate::proofs::Appends::history_append))]
+//! A [`Core`] takes commands and turns and keeps a journal of those that changed something. All that it answers follows
+//! from the journal by the definitions in `specs/`.
+#![tactic(auto)]
 
 mod bundles;
 mod command;
-mod components;
-mod entries;
-mod passes;
-mod platform_core;
-mod scratch;
-#[cfg(test)]
-mod tests;
+mod component_rows;
+mod instance;
 
 pub use bundles::{Bundle, BundleState};
 pub use command::{Accepted, Command, CoreFault, Limits, Reply, Step};
-pub use components::{Component, ComponentLine};
-pub use platform_core::Core;
+pub use component_rows::ComponentLine;
+pub use instance::Instance;
