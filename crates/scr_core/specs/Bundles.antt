@@ -43,10 +43,6 @@ abbrev pub is_stopping : BundleState → Bool
 is_stopping Stopping = true
 is_stopping _ = false
 
--- bundle 0 is the platform, which is always active
-abbrev pub is_active_bundle : List Bundle → ℕ → Bool
-is_active_bundle bs number = if number == 0 then true else option_map_or (λ (b : Bundle). is_active b.state) (bundle_of bs number) false
-
 -- the descriptions of all installed bundles, by bundle, then in the order of its document
 abbrev pub descriptions_of : List Bundle → List Description
 descriptions_of bs = flat_map (λ (b : Bundle). b.document.descriptions) bs

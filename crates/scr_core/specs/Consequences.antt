@@ -5,6 +5,7 @@ use Rattle.std.specs.List.{list_any}
 use Rattle.std.specs.Option.{option_map_or}
 use Rattle.callback_orders.specs.declared.callback.Outcome.{Outcome}
 use Rattle.component_state.specs.declared.component.Component.{Component}
+use Rattle.component_state.specs.declared.open_period.OpenPeriod.{OpenPeriod}
 use Rattle.component_state.specs.Passes.{Stage}
 use Rattle.journal_core.specs.declared.entry.GateKey.{GateKey}
 use Rattle.scr_core.specs.declared.bundles.Bundle.{Bundle}
@@ -46,15 +47,15 @@ abbrev pub stopping : Step → World → List ℕ
 stopping step w = map (λ (b : Bundle). b.number) (filter (has_stopped (components_by step w) (instances_by step w)) (bundles_by step w.bundles))
 
 -- an instance whose gate is to be drained: active, and ending
-abbrev pub is_draining : World → Instance → Bool
-is_draining w i = is_active i && is_ending w i
+abbrev pub is_draining : List OpenPeriod → Instance → Bool
+is_draining open_ones i = is_active i && is_ending open_ones i
 
 abbrev pub gate_of : Instance → GateKey
 gate_of i = record { slot = i.slot; generation = i.generation }
 
 -- an instance begins to be drained between two worlds
 abbrev pub begins_draining : World → World → Instance → Bool
-begins_draining before now i = is_draining now i && not (list_any (λ (j : Instance). (j.number == i.number) && is_draining before j) before.instances)
+begins_draining before now i = is_draining now.open_ones i && not (list_any (λ (j : Instance). (j.number == i.number) && is_draining before.open_ones j) before.instances)
 
 -- the gates that are shut between two worlds, by instance
 abbrev pub shut_between : World → World → List GateKey

@@ -24,7 +24,7 @@ is_under_way w turn = list_any (has_turn turn) w.instances
 
 -- the gate of an instance is shut and its drain isn't posted
 abbrev pub awaits_drain : World → Instance → Bool
-awaits_drain w i = is_draining w i && not i.drained
+awaits_drain w i = is_draining w.open_ones i && not i.drained
 
 -- a step may come: a command that changes something, the beginning of the first due callback, the end of a turn that is under way, the
 -- drain of an instance that awaits it

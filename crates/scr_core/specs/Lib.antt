@@ -13,3 +13,4 @@ pub mod Legal
 pub mod Readers
 pub mod Calls
 pub mod Cores
+pub mod Sound

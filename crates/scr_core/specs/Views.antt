@@ -17,20 +17,19 @@ use Rattle.component_state.specs.Reasons.{choice_at}
 use Rattle.component_state.specs.Targets.{targets, desired}
 use Rattle.component_state.specs.Words.{has, with_places}
 use Rattle.scr_core.specs.declared.instance.Instance.{Instance}
-use Rattle.scr_core.specs.Bundles.{is_active_bundle}
 use Rattle.scr_core.specs.Instances.{is_active, has_failed}
 use Rattle.scr_core.specs.Worlds.{World}
 
 abbrev pub references_of : List Component → ℕ → List Reference
 references_of cs configuration = option_map_or (λ (c : Component). c.description.references) (find (λ (c : Component). c.number == configuration) cs) []
 
--- an instance is ending where its open period has ended, where it was made for a bundle that isn't active, or where its activation failed
-abbrev pub is_ending : World → Instance → Bool
-is_ending w i = not (is_current w.open_ones i.life) || (not (is_active_bundle w.bundles i.consumer) || has_failed i.word)
+-- an instance is ending where its open period has ended, or where its activation failed; as long as each one is made for all, no consumer's stop ends one
+abbrev pub is_ending : List OpenPeriod → Instance → Bool
+is_ending open_ones i = not (is_current open_ones i.life) || has_failed i.word
 
 -- what an instance desires for the reference at a place: nothing where it is ending
 abbrev pub desired_for : World → Instance → ℕ → Reference → List ℕ
-desired_for w i place r = if is_ending w i then [] else desired r (choice_at i.life.chosen place) (held_for r.name i.word) (targets r w.open_ones)
+desired_for w i place r = if is_ending w.open_ones i then [] else desired r (choice_at i.life.chosen place) (held_for r.name i.word) (targets r w.open_ones)
 
 -- a service is ready where its instance is active
 abbrev pub is_ready : List Instance → ℕ → Bool
@@ -57,7 +56,7 @@ abbrev pub view_of : World → Instance → InstanceView
 view_of w i = record {
   instance = i.number;
   phase = phase_of i.word;
-  ending = is_ending w i;
+  ending = is_ending w.open_ones i;
   outstanding = is_outstanding i.word;
   drained = i.drained;
   unheld = not (is_held w i);
