@@ -3,6 +3,8 @@ pub mod CycleTests
 pub mod EndLemmas
 pub mod Examples
 pub mod FirstSome
+pub mod FrontLemmas
 pub mod Fronts
+pub mod LastLemmas
 pub mod RoundLemmas
 pub mod SequenceLaws

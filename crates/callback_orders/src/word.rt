@@ -1,10 +1,10 @@
 //! The callbacks of one instance so far (OSGi Compendium 8, section 112.5 "Component Life Cycle").
-ghost use Rattle.callback_orders.specs.Sequences.{begun, ended, have_ended, is_in_order, is_outstanding, is_sequence, is_whiteboard_sequence};
+ghost use Rattle.callback_orders.specs.Sequences.{all_but_last, begun, ended, have_ended, is_in_order, is_outstanding, is_sequence, is_whiteboard_sequence};
 ghost use Rattle.callback_orders.specs.Grammar.{IsSequence, IsWhiteboardSequence};
 ghost use Rattle.callback_orders.specs.declared.word.Called.{Called};
 ghost use Rattle.std.specs.Prelude.{◌↔◌, List, ◌≡◌, ◌++◌, ◌∷◌, [], IfOk, IsTrue, OnOk, OnErr};
 
-use crate::{Callback, Outcome};
+use crate::{Callback, Outcome, is_outstanding};
 use prop_map::OutOfMemory;
 use std::alloc::Global;
 use std::marker::Model;
@@ -82,6 +82,22 @@ impl Word {
             outcome: None,
         })?;
         Ok(())
+    }
+
+    /// Whether a callback has begun and not ended. It takes no memory.
+    pub fn is_outstanding(&self) -> bool
+        ensures { result ≡ is_outstanding self.now }
+    {
+        is_outstanding(self.calls.as_slice())
+    }
+
+    /// Takes back the last callback, which must not have ended yet: the others are then as they were before its
+    /// [`push`](Word::push). It takes no memory.
+    pub fn take_back(&mut self)
+        requires { IsTrue (is_outstanding self.old) }
+        ensures { self.new ≡ all_but_last self.old }
+    {
+        self.calls.pop();
     }
 
     /// Ends the last callback, which must not have ended yet. It takes no memory.
