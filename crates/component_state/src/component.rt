@@ -1,7 +1,11 @@
 //! Component configurations (OSGi Compendium 8, chapter 112).
+ghost use Rattle.std.specs.Prelude.{◌≡◌, ◌==◌, IfOk, find};
+ghost use Rattle.std.specs.Option.{option_copied};
+ghost use Rattle.component_state.specs.declared.component.Component.{Component};
+ghost use Rattle.component_state.specs.Components.{interfaces_of, lives};
 
 use component_dto::Description;
-use prop_map::{Copies, OutOfMemory};
+use prop_map::{Copies, List, OutOfMemory, Str};
 use std::alloc::Global;
 
 /// A component configuration.
@@ -29,4 +33,38 @@ impl Copies for Component {
             description: self.description.copy(alloc)?,
         })
     }
+}
+
+/// Whether a component configuration of this number is there and hasn't ceased.
+pub fn lives(components: &[Component], number: u64) -> bool
+    ensures { result ≡ lives components.now number }
+{
+    components
+        .iter()
+        .any(|component| component.number == number && component.lives)
+}
+
+/// The interfaces of the service of the first component configuration with this number, none where there is none.
+///
+/// # Errors
+/// Only want of memory.
+pub fn interfaces_of(
+    alloc: Global,
+    components: &[Component],
+    number: u64,
+) -> Result<List<Str>, OutOfMemory>
+    ensures { IfOk result (λ interfaces. interfaces ≡ interfaces_of components.now number) }
+{
+    match numbered(components, number) {
+        Some(component) => component.description.service_interfaces.copy(alloc),
+        None => Ok(List::of(Vec::new(alloc))),
+    }
+}
+
+fn numbered(components: &[Component], number: u64) -> Option<&Component>
+    ensures { option_copied result ≡ find (λ (c : Component). c.number == number) components.now }
+{
+    components
+        .iter()
+        .find(|component| component.number == number)
 }

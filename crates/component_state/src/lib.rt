@@ -4,10 +4,16 @@
 
 mod component;
 mod life;
+mod marks;
 mod open_period;
 mod pass;
+mod target_services;
+mod words;
 
-pub use component::Component;
-pub use life::{Choice, Life};
-pub use open_period::OpenPeriod;
+pub use component::{Component, interfaces_of, lives};
+pub use life::{Choice, Life, choice_at};
+pub use marks::failed_after;
+pub use open_period::{OpenPeriod, is_current, is_open};
 pub use pass::PassEnd;
+pub use target_services::{chosen, desired, targets};
+pub use words::has;

@@ -1,6 +1,9 @@
 //! What a pass sees of a living instance.
+ghost use Rattle.std.specs.Prelude.{◌≡◌};
+ghost use Rattle.component_state.specs.Reasons.{choice_at};
 
-use prop_map::List;
+use prop_map::{Copies, List, OutOfMemory};
+use std::alloc::Global;
 
 /// The services that an instance chose at its Create for a static reference.
 #[derive(Debug, PartialEq, Eq, Drop)]
@@ -9,6 +12,15 @@ pub struct Choice {
     pub reference: u64,
     /// The numbers of the services, best first.
     pub services: List<u64>,
+}
+
+impl Copies for Choice {
+    fn copy(&self, alloc: Global) -> Result<Choice, OutOfMemory> {
+        Ok(Choice {
+            reference: self.reference,
+            services: List::of(Vec::from_slice(alloc, self.services.as_slice())?),
+        })
+    }
 }
 
 /// What a pass sees of a living instance.
@@ -20,4 +32,26 @@ pub struct Life {
     pub created: u64,
     /// What it chose at its Create, for each static reference.
     pub chosen: List<Choice>,
+}
+
+impl Copies for Life {
+    fn copy(&self, alloc: Global) -> Result<Life, OutOfMemory> {
+        Ok(Life {
+            configuration: self.configuration,
+            created: self.created,
+            chosen: self.chosen.copy(alloc)?,
+        })
+    }
+}
+
+/// The services that were chosen for the reference at a place, none where there is no choice for it.
+pub fn choice_at(choices: &[Choice], place: u64) -> &[u64]
+    ensures { result.now ≡ choice_at choices.now place }
+{
+    for choice in choices {
+        if choice.reference == place {
+            return choice.services.as_slice();
+        }
+    }
+    &[]
 }
