@@ -14,3 +14,5 @@ pub mod Readers
 pub mod Calls
 pub mod Cores
 pub mod Sound
+pub mod Tables
+pub mod Shutting

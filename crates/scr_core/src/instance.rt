@@ -1,7 +1,8 @@
 //! Living instances (OSGi Compendium 8, chapter 112, component life cycle).
 
-use callback_orders::Word;
+use callback_orders::Called;
 use component_state::Life;
+use prop_map::List;
 
 /// A living instance.
 #[derive(Drop)]
@@ -23,5 +24,5 @@ pub struct Instance {
     /// Its component configuration, its Create and its choice.
     pub life: Life,
     /// Its callbacks so far.
-    pub word: Word,
+    pub word: List<Called>,
 }

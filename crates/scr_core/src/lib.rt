@@ -8,7 +8,14 @@
 mod bundles;
 mod command;
 mod component_rows;
+mod consequences;
+mod dues;
 mod instance;
+mod instance_steps;
+mod instances;
+mod room;
+mod tables;
+mod views;
 
 pub use bundles::{Bundle, BundleState};
 pub use command::{Accepted, Command, CoreFault, Limits, Reply, Step};

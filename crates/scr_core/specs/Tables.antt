@@ -1,0 +1,30 @@
+-- The tables of a core, as the world that they say.
+use Rattle.std.specs.Prelude.{◌≡◌, ℕ}
+use Rattle.scr_core.specs.declared.tables.Tables.{Tables}
+use Rattle.scr_core.specs.Bundles.{descriptions_of}
+use Rattle.scr_core.specs.Levels.{levels_of}
+use Rattle.scr_core.specs.Sound.{IsSound}
+use Rattle.scr_core.specs.Worlds.{World, satisfied_in}
+
+-- the world that the tables say
+abbrev pub world_in : Tables → World
+world_in t = record {
+  length_is = t.length;
+  bundles = t.bundles.items;
+  components = t.components.items;
+  came = t.came;
+  open_ones = t.open_periods;
+  failed = t.failed;
+  instances = t.instances.items;
+  made = t.made;
+  turns = t.turns;
+  services = t.services;
+  generations = t.generations.items;
+}
+
+-- the tables that follow from the others are as these say, and the world is sound
+pub record AreTables (limit : ℕ) (t : Tables) : Type 0 where
+  pub descriptions : t.descriptions.items ≡ descriptions_of t.bundles.items
+  pub levels : t.levels ≡ levels_of t.descriptions.items
+  pub satisfied : t.satisfied ≡ satisfied_in (world_in t)
+  pub sound : IsSound limit (world_in t)

@@ -1,0 +1,33 @@
+//! The tables that a core keeps beside its journal.
+
+use crate::bundles::Bundle;
+use crate::instance::Instance;
+use component_dto::Description;
+use component_state::{Component, OpenPeriod};
+use prop_map::List;
+
+// What the journal says, so that no command reads it again.
+#[derive(Drop)]
+pub(crate) struct Tables {
+    // How many entries the journal has.
+    pub length: u64,
+    pub bundles: Vec<Bundle>,
+    // The descriptions of all bundles, and their levels.
+    pub descriptions: Vec<Description>,
+    pub levels: List<u32>,
+    // Those that ceased stay as long as an instance of theirs lives.
+    pub components: Vec<Component>,
+    // How many component configurations came.
+    pub came: u64,
+    pub open_periods: List<OpenPeriod>,
+    pub failed: List<u64>,
+    // The satisfied component configurations, those held back among them.
+    pub satisfied: List<u64>,
+    pub instances: Vec<Instance>,
+    // How many instances were made, how many turns began, how many services there were.
+    pub made: u64,
+    pub turns: u64,
+    pub services: u64,
+    // How often the gate of each slot was opened.
+    pub generations: Vec<u64>,
+}
