@@ -6,3 +6,5 @@ pub mod Scratch
 pub mod Marks
 pub mod Reasons
 pub mod Passes
+pub mod Runs
+pub mod Ranked

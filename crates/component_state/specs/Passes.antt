@@ -29,6 +29,19 @@ pub record Stage : Type 0 where
   pub failed : List ℕ
   pub failing : List ℕ
 
+abbrev pub stage_of : ℕ → ℕ → List Description → List ℕ → List Component → List OpenPeriod → List Life → List ℕ → List ℕ → Stage
+stage_of place next descriptions levels components before all failed failing = record {
+  place = place;
+  next = next;
+  descriptions = descriptions;
+  levels = levels;
+  components = components;
+  before = before;
+  all = all;
+  failed = failed;
+  failing = failing;
+}
+
 abbrev pub in_order : Stage → List Component
 in_order s = pass_order s.descriptions s.levels s.components
 

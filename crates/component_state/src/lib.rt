@@ -7,6 +7,10 @@ mod life;
 mod marks;
 mod open_period;
 mod pass;
+mod pass_order;
+mod pass_steps;
+mod reasons;
+mod satisfaction;
 mod target_services;
 mod words;
 
@@ -14,6 +18,6 @@ pub use component::{Component, interfaces_of, lives};
 pub use life::{Choice, Life, choice_at};
 pub use marks::failed_after;
 pub use open_period::{OpenPeriod, is_current, is_open};
-pub use pass::PassEnd;
+pub use pass::{PassEnd, plain_pass};
 pub use target_services::{chosen, desired, targets};
 pub use words::has;

@@ -1,0 +1,38 @@
+//! What stands: component configurations whose references have their minimum of targets (OSGi Compendium 8, chapter 112,
+//! satisfied component configurations).
+ghost use Rattle.std.specs.Prelude.{◌≡◌};
+ghost use Rattle.std.specs.List.{list_all, list_any};
+ghost use Rattle.component_state.specs.Runs.{is_met, stands};
+ghost use Rattle.component_state.specs.Targets.{offers};
+
+use crate::target_services::{is_optional, offers};
+use crate::{Component, OpenPeriod};
+use component_dto::Reference;
+use prop_map::Str;
+
+// Whether it hasn't ceased, and each of its references has its minimum of targets where these are open.
+pub(crate) fn stands(periods: &[OpenPeriod], component: &Component) -> bool
+    ensures { result ≡ stands periods.now component.now }
+{
+    component.lives && are_met(periods, component.description.references.as_slice())
+}
+
+fn are_met(periods: &[OpenPeriod], references: &[Reference]) -> bool
+    ensures { result ≡ list_all (is_met periods.now) references.now }
+{
+    references
+        .iter()
+        .all(|reference| is_met(periods, reference))
+}
+
+fn is_met(periods: &[OpenPeriod], reference: &Reference) -> bool
+    ensures { result ≡ is_met periods.now reference.now }
+{
+    is_optional(reference.cardinality) || has_offer(periods, &reference.interface_name)
+}
+
+fn has_offer(periods: &[OpenPeriod], interface: &Str) -> bool
+    ensures { result ≡ list_any (offers interface.now) periods.now }
+{
+    periods.iter().any(|period| offers(period, interface))
+}
