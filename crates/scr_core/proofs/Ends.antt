@@ -20,20 +20,8 @@ use Rattle.scr_core.specs.Bundles.{bundles_by, descriptions_of, come_to_rest}
 use Rattle.scr_core.specs.Consequences.{stage_of, stopping}
 use Rattle.scr_core.specs.Levels.{levels_of}
 use Rattle.scr_core.specs.Sound.{entry_of}
+use Rattle.scr_core.proofs.Descriptions.{rested_descriptions}
 use Rattle.scr_core.specs.Worlds.{World, after, satisfied_in, components_by, instances_by, failed_by, lives_of}
-
--- a bundle that comes to rest keeps its document
-rests : (stopped : List ℕ) (b : Bundle) → (come_to_rest stopped b).document ≡ b.document
-rests stopped b = go (has stopped b.number)
-  where
-    go : (e : Bool) → (cond e (record b { state = Resolved }) b).document ≡ b.document
-    go true = refl
-    go false = refl
-
-pub rested_descriptions : (stopped : List ℕ) (bs : List Bundle) → descriptions_of (map (come_to_rest stopped) bs) ≡ descriptions_of bs
-rested_descriptions stopped [] = refl
-rested_descriptions stopped (b ∷ bs) =
-    ap (λ (d : BundleDoc). d.descriptions ++ descriptions_of (map (come_to_rest stopped) bs)) (rests stopped b) ∙ ap (λ w. b.document.descriptions ++ w) (rested_descriptions stopped bs)
 
 one_more : (b : Bool) (next more : ℕ) → 1 ≤ next → cond b next (next + 1) + more ≡ next + (cond (not (cond b 0 next == 0)) 1 0 + more)
 one_more true next more some = omega arith

@@ -1,0 +1,1 @@
+-- The component configurations after a step: each has a number of its own, and those that are open or have an instance stay known.
