@@ -93,6 +93,12 @@ module _ {X Y : Type 0} where
   ]
 
 -- numbers in lists
+pub has_in : (ns : List ℕ) (n : ℕ) → Contains ns n → has ns n ≡ true
+has_in ns n h = any_from (λ m. m == n) ns n h (eq-eqb n n refl)
+
+pub in_has : (ns : List ℕ) (n : ℕ) → has ns n ≡ true → Contains ns n
+in_has ns n is = let found = any_to (λ m. m == n) ns is in subst (λ (m : ℕ). Contains ns m) (eqb-true found.0 n found.2) found.1
+
 module _ {X : Type 0} (f : X → ℕ) where
   pub has_from : (xs : List X) (x : X) (n : ℕ) → Contains xs x → f x ≡ n → has (map f xs) n ≡ true
   has_from xs x n h is = list_any-map (λ m. m == n) f xs ∙ any_from (λ y. f y == n) xs x h (eq-eqb (f x) n is)
