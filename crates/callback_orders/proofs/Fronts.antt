@@ -15,7 +15,7 @@ over_front : (o : Outcome) (rest more : List Called) → is_over (settled o rest
 over_front o [] more h = refl
 over_front o (c ∷ rest) more h = absurd (false≢true h)
 
-leaving_front : (callback : Callback) (v l v' l' : Bool) → leaving_by callback v l ≡ true → (v ≡ true → v' ≡ true) → (l ≡ true → l' ≡ true) → leaving_by callback v' l' ≡ true
+pub leaving_front : (callback : Callback) (v l v' l' : Bool) → leaving_by callback v l ≡ true → (v ≡ true → v' ≡ true) → (l ≡ true → l' ≡ true) → leaving_by callback v' l' ≡ true
 leaving_front (Unbind r s) v l v' l' h f g = g h
 leaving_front Destroy v l v' l' h f g = f h
 leaving_front Create v l v' l' h f g = absurd (false≢true h)
@@ -30,7 +30,7 @@ leaving-front o [] more h = refl
 leaving-front o (c ∷ rest) more h =
     leaving_front c.callback (is_over (settled o rest ++ more)) (leaving (settled o rest ++ more)) (is_over rest) (leaving rest) h (over_front o rest more) (leaving-front o rest more)
 
-active_front : (callback : Callback) (a l a' l' : Bool) → active_by callback a l ≡ true → (a ≡ true → a' ≡ true) → (l ≡ true → l' ≡ true) → active_by callback a' l' ≡ true
+pub active_front : (callback : Callback) (a l a' l' : Bool) → active_by callback a l ≡ true → (a ≡ true → a' ≡ true) → (l ≡ true → l' ≡ true) → active_by callback a' l' ≡ true
 active_front (Bind r s) a l a' l' h f g = f h
 active_front (Updated r s) a l a' l' h f g = f h
 active_front (Unbind r s) a l a' l' h f g = f h
@@ -45,7 +45,7 @@ active-front o [] more h = refl
 active-front o (c ∷ rest) more h =
     active_front c.callback (active (settled o rest ++ more)) (leaving (settled o rest ++ more)) (active rest) (leaving rest) h (active-front o rest more) (leaving-front o rest more)
 
-making_front : (callback : Callback) (v m g v' m' g' : Bool) → making_by callback v m g ≡ true → (v ≡ true → v' ≡ true) → (m ≡ true → m' ≡ true) → (g ≡ true → g' ≡ true) → making_by callback v' m' g' ≡ true
+pub making_front : (callback : Callback) (v m g v' m' g' : Bool) → making_by callback v m g ≡ true → (v ≡ true → v' ≡ true) → (m ≡ true → m' ≡ true) → (g ≡ true → g' ≡ true) → making_by callback v' m' g' ≡ true
 making_front (Bind r s) v m g v' m' g' h fv fm fg = fm h
 making_front (Unbind r s) v m g v' m' g' h fv fm fg = fm h
 making_front Activate v m g v' m' g' h fv fm fg = fg h
@@ -81,7 +81,7 @@ create_front o (Some NoMemory) rest more h = over_front o rest more h
 create_front o None [] more h = refl
 create_front o None (d ∷ rest) more h = absurd (false≢true h)
 
-created_front : (callback : Callback) (g g' : Bool) → created_by callback g ≡ true → (g ≡ true → g' ≡ true) → created_by callback g' ≡ true
+pub created_front : (callback : Callback) (g g' : Bool) → created_by callback g ≡ true → (g ≡ true → g' ≡ true) → created_by callback g' ≡ true
 created_front Create g g' h f = f h
 created_front (Bind r s) g g' h f = absurd (false≢true h)
 created_front (Updated r s) g g' h f = absurd (false≢true h)

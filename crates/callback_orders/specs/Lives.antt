@@ -1,5 +1,5 @@
 -- What an instance's callbacks so far say of it: how far it is, and what it holds. OSGi Compendium 8, section 112.5 (component life cycle).
-use Rattle.std.specs.Prelude.{◌≡◌, ℕ, ◌==◌, List, [], ◌∷◌, ◌++◌, map, Bool, true, not, Option, Some, filter, if◌then◌else◌}
+use Rattle.std.specs.Prelude.{◌≡◌, ℕ, ◌==◌, List, [], ◌∷◌, ◌++◌, map, Bool, true, not, Option, Some, is_none, filter, if◌then◌else◌}
 use Rattle.std.specs.List.{list_any, list_all, slice_index_or}
 use Rattle.std.specs.Str.{bytes_eq}
 use Rattle.callback_orders.specs.declared.callback.Callback.{Callback}
@@ -13,7 +13,7 @@ use Rattle.callback_orders.specs.declared.instance_view.Phase.{Phase}
 use Rattle.callback_orders.specs.declared.instance_view.Phase.TheVariants.{Making, Active, Left}
 use Rattle.callback_orders.specs.declared.instance_view.ReferenceView.{ReferenceView}
 use Rattle.callback_orders.specs.declared.word.Called.{Called}
-use Rattle.callback_orders.specs.Sequences.{is_done, is_outstanding}
+use Rattle.callback_orders.specs.Sequences.{begun, have_ended, is_done, is_failed, is_outstanding, is_sequence}
 
 -- how far an instance is after a callback: Active from the end of a successful Activate to the end of Deactivate
 abbrev pub phase_by : Callback → Option Outcome → Phase → Phase
@@ -28,6 +28,16 @@ phase_after phase (c ∷ calls) = phase_after (phase_by c.callback c.outcome pha
 -- Making from the beginning of its Create
 abbrev pub phase_of : List Called → Phase
 phase_of calls = phase_after Making calls
+
+-- an instance goes on after a callback: it isn't a Destroy that has ended, nor a Create that failed
+abbrev pub goes_on : Callback → Option Outcome → Bool
+goes_on Create outcome = not (is_failed outcome)
+goes_on Destroy outcome = is_none outcome
+goes_on _ outcome = true
+
+-- no callback is a Destroy that has ended, nor a Create that failed
+abbrev pub is_living : List Called → Bool
+is_living calls = list_all (λ (c : Called). goes_on c.callback c.outcome) calls
 
 -- what is held for a reference after a callback: from the beginning of a Bind to the end of its Unbind
 abbrev pub held_by : List ℕ → Callback → Option Outcome → List ℕ → List ℕ
@@ -71,3 +81,10 @@ pub record IsViewOf (names : List (List ℕ)) (calls : List Called) (v : Instanc
   pub outstanding : v.outstanding ≡ is_outstanding calls
   pub held : map (λ (r : ReferenceView). map (λ (h : HeldService). h.service) r.held) v.references ≡ map (λ n. held_for n calls) names
   pub spoken : speaks_of names calls ≡ true
+
+-- a callback may come next: all before it have ended, it may follow them, and the reference that it names is one of these
+pub record MayComeNext (names : List (List ℕ)) (calls : List Called) (callback : Callback) : Type 0 where
+  pub ended : have_ended calls ≡ true
+  pub order : is_sequence (calls ++ begun callback ∷ []) ≡ true
+  pub spoken : speaks_of names (calls ++ begun callback ∷ []) ≡ true
+  pub living : is_living (calls ++ begun callback ∷ []) ≡ true

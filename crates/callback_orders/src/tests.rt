@@ -1,6 +1,6 @@
 use crate::{
-    Callback, DueRef, HeldService, InstanceView, Key, Outcome, Phase, ReferenceView, Wish, Word,
-    due_of, first_due,
+    Callback, Called, DueRef, HeldService, InstanceView, Key, Outcome, Phase, ReferenceView, Wish,
+    Word, due_of, first_due, held_for, is_living, is_outstanding, phase_of,
 };
 use prop_map::{Copies, List, Str};
 use std::alloc::AllocError;
@@ -134,5 +134,110 @@ fn a_copy_is_equal(rt: HostRuntime) -> Result<(), Fail> {
         service: 3,
     };
     assert_eq!(rt; bind.copy(rt.alloc())?, bind);
+    Ok(())
+}
+
+fn bind(rt: HostRuntime, reference: &str, service: u64) -> Result<Callback, AllocError> {
+    Ok(Callback::Bind {
+        reference: Str::of(String::from_str(rt.alloc(), reference)?),
+        service,
+    })
+}
+
+fn unbind(rt: HostRuntime, reference: &str, service: u64) -> Result<Callback, AllocError> {
+    Ok(Callback::Unbind {
+        reference: Str::of(String::from_str(rt.alloc(), reference)?),
+        service,
+    })
+}
+
+// Callbacks that were done, and an outstanding one.
+fn calls(
+    rt: HostRuntime,
+    done: Vec<Callback>,
+    outstanding: Callback,
+) -> Result<Vec<Called>, AllocError> {
+    let mut calls = Vec::new(rt.alloc());
+    for callback in done {
+        calls.push(Called {
+            callback,
+            outcome: Some(Outcome::Done),
+        })?;
+    }
+    calls.push(Called {
+        callback: outstanding,
+        outcome: None,
+    })?;
+    Ok(calls)
+}
+
+fn end_last(calls: &mut [Called], outcome: Outcome) {
+    if let Some(called) = calls.last_mut() {
+        called.outcome = Some(outcome);
+    }
+}
+
+#[test]
+fn a_service_is_held_until_its_unbind_has_ended(rt: HostRuntime) -> Result<(), Fail> {
+    let log = Str::of(String::from_str(rt.alloc(), "log")?);
+    let mut done = Vec::new(rt.alloc());
+    done.push(Callback::Create)?;
+    done.push(bind(rt, "log", 4)?)?;
+    done.push(bind(rt, "log", 3)?)?;
+    done.push(bind(rt, "http", 4)?)?;
+    let mut so_far = calls(rt, done, unbind(rt, "log", 4)?)?;
+    assert_eq!(rt;
+        held_for(rt.alloc(), &log, &so_far)?.as_slice(),
+        [4, 3].as_slice()
+    );
+    end_last(&mut so_far, Outcome::Refused);
+    assert_eq!(rt;
+        held_for(rt.alloc(), &log, &so_far)?.as_slice(),
+        [3].as_slice()
+    );
+    Ok(())
+}
+
+#[test]
+fn an_instance_is_active_once_activate_was_done(rt: HostRuntime) -> Result<(), Fail> {
+    let mut done = Vec::new(rt.alloc());
+    done.push(Callback::Create)?;
+    let mut so_far = calls(rt, done, Callback::Activate)?;
+    assert_eq!(rt; phase_of(&so_far), Phase::Making);
+    assert!(rt; is_outstanding(&so_far));
+    end_last(&mut so_far, Outcome::Done);
+    assert_eq!(rt; phase_of(&so_far), Phase::Active);
+    assert!(rt; !is_outstanding(&so_far));
+    end_last(&mut so_far, Outcome::NoMemory);
+    assert_eq!(rt; phase_of(&so_far), Phase::Left);
+    Ok(())
+}
+
+#[test]
+fn an_instance_lives_until_its_destroy_has_ended(rt: HostRuntime) -> Result<(), Fail> {
+    let mut done = Vec::new(rt.alloc());
+    done.push(Callback::Create)?;
+    let mut so_far = calls(rt, done, Callback::Destroy)?;
+    assert!(rt; is_living(&so_far));
+    end_last(&mut so_far, Outcome::Refused);
+    assert!(rt; !is_living(&so_far));
+    let mut so_far = calls(rt, Vec::new(rt.alloc()), Callback::Create)?;
+    assert!(rt; is_living(&so_far));
+    end_last(&mut so_far, Outcome::Refused);
+    assert!(rt; !is_living(&so_far));
+    Ok(())
+}
+
+#[test]
+fn a_begun_callback_is_taken_back(rt: HostRuntime) -> Result<(), Fail> {
+    let mut word = Word::new(rt.alloc())?;
+    word.push(Callback::Create)?;
+    word.end(Outcome::Done);
+    assert!(rt; !word.is_outstanding());
+    word.push(Callback::Activate)?;
+    assert!(rt; word.is_outstanding());
+    word.take_back();
+    assert!(rt; !word.is_outstanding());
+    assert_eq!(rt; word.calls().len(), 1);
     Ok(())
 }
