@@ -1,6 +1,6 @@
 -- The instances after a step: each is an earlier one with its number and its life, or the one that a Create made.
 use Rattle.std.proofs.Common.{◌≡◌, ℕ, ◌+◌, List, [], ◌∷◌, ◌++◌, ap, sym, ◌∙◌, refl, subst, cond, Bool, true, false, inl, inr, ◌⊎◌}
-use Rattle.std.specs.Prelude.{map, filter, ◌==◌}
+use Rattle.std.specs.Prelude.{map, filter, not, ◌&&◌, ◌==◌}
 use Rattle.std.specs.List.{Contains}
 use Rattle.std.proofs.lemmas.List.Elements.{Contains-push_cases}
 use Rattle.callback_orders.specs.declared.callback.Callback.{Callback}
@@ -14,8 +14,15 @@ use Rattle.scr_core.specs.declared.command.Step.{Step}
 use Rattle.scr_core.specs.declared.command.Step.TheVariants.{Command as Commanded, Begin, End, Drained}
 use Rattle.scr_core.specs.declared.instance.Instance.{Instance}
 use Rattle.scr_core.specs.Instances.{lives_on, has_turn, created_at, told, begun_by, with_outcome, ended_in, drained_in}
+use Rattle.component_state.specs.Words.{has}
+use Rattle.scr_core.specs.Sound.{are_told_apart}
 use Rattle.scr_core.specs.Worlds.{World, instances_told, instances_by}
-use Rattle.scr_core.proofs.ListLemmas.{in_filter_from, in_map_from}
+use Rattle.scr_core.proofs.ListLemmas.{in_filter_from, in_map_from, apart}
+
+-- numbers of their own, by either test
+pub numbers_apart : (is : List Instance) → are_told_apart is ≡ apart (λ (i : Instance). i.number) is
+numbers_apart [] = refl
+numbers_apart (i ∷ is) = ap (λ b. not (has (map (λ (j : Instance). j.number) is) i.number) && b) (numbers_apart is)
 
 -- one instance, at two times
 pub record IsSame (i j : Instance) : Type 0 where
