@@ -5,6 +5,7 @@ use Rattle.std.specs.List.{list_all}
 use Rattle.callback_orders.specs.declared.callback.Outcome.{Outcome}
 use Rattle.callback_orders.specs.declared.callback.Outcome.TheVariants.{Done, Refused, NoMemory}
 use Rattle.callback_orders.specs.declared.word.Called.{Called}
+use Rattle.callback_orders.specs.Lives.{names_one_of, speaks_of}
 use Rattle.callback_orders.specs.Sequences.{Bound, done_with, ended, is_done, is_over, leaving_by, leaving, active_by, active, making_by, making, created_by, created, one_at_a_time, may_come, bound_after, alternate, is_bind_or_unbind, is_sequence, is_whiteboard_sequence, is_in_order}
 
 both : (o : Option Outcome) (P : Bool → Type 0) → P true → P (if is_done o then true else true)
@@ -75,9 +76,17 @@ all_bind-ended o (c ∷ d ∷ rest) = ap (λ b. is_bind_or_unbind c.callback && 
 same_and : (a b c a' b' c' : Bool) → a' ≡ a → b' ≡ b → c' ≡ c → (a' && b' && c') ≡ (a && b && c)
 same_and a b c a' b' c' e f g = ap (λ x. x && b' && c') e ∙ ap (λ x. a && x && c') f ∙ ap (λ x. a && b && x) g
 
+pub is_sequence-ended : (o : Outcome) (calls : List Called) → is_sequence (ended o calls) ≡ is_sequence calls
+is_sequence-ended o calls = same_and _ _ _ _ _ _ (created-ended o calls) (one_at_a_time-ended o calls) (alternate-ended o [] calls)
+
+pub speaks_of-ended : (names : List (List ℕ)) (o : Outcome) (calls : List Called) → speaks_of names (ended o calls) ≡ speaks_of names calls
+speaks_of-ended names o [] = refl
+speaks_of-ended names o (c ∷ []) = refl
+speaks_of-ended names o (c ∷ d ∷ rest) = ap (λ b. names_one_of names c.callback && b) (speaks_of-ended names o (d ∷ rest))
+
 pub is_in_order-ended : (o : Outcome) (calls : List Called) → is_in_order (ended o calls) ≡ is_in_order calls
 is_in_order-ended o calls =
-    ap (λ b. b || is_whiteboard_sequence (ended o calls)) (same_and _ _ _ _ _ _ (created-ended o calls) (one_at_a_time-ended o calls) (alternate-ended o [] calls))
+    ap (λ b. b || is_whiteboard_sequence (ended o calls)) (is_sequence-ended o calls)
     ∙ ap (λ b. is_sequence calls || b) (same_and _ _ _ _ _ _ (all_bind-ended o calls) (one_at_a_time-ended o calls) (alternate-ended o [] calls))
 
 set_last : (o : Outcome) (c : Called) (rest : List Called) (d : Called)

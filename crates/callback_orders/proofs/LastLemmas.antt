@@ -1,6 +1,6 @@
 -- The last callback, and the callbacks before it.
-use Rattle.std.proofs.Common.{◌≡◌, ℕ, ◌-◌, suc, length, take, List, [], ◌∷◌, false, refl, ◌∙◌, ap, sym, subst, arith}
-use Rattle.std.specs.Prelude.{Some, is_none}
+use Rattle.std.proofs.Common.{◌≡◌, ℕ, ◌-◌, suc, length, take, List, [], ◌∷◌, false, refl, ap, sym, subst, arith}
+use Rattle.std.specs.Prelude.{is_none}
 use Rattle.std.specs.List.{slice_get}
 use Rattle.std.specs.Option.{option_map_or}
 use Rattle.callback_orders.specs.declared.word.Called.{Called}

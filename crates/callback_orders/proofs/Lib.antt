@@ -1,10 +1,13 @@
 pub mod CycleLemmas
 pub mod CycleTests
+pub mod DueLemmas
 pub mod EndLemmas
 pub mod Examples
 pub mod FirstSome
+pub mod FollowLemmas
 pub mod FrontLemmas
 pub mod Fronts
+pub mod HeldLemmas
 pub mod LastLemmas
 pub mod RoundLemmas
 pub mod SequenceLaws

@@ -184,7 +184,7 @@ abbrev AllRounds : List Bound → List Called → Type 0
 AllRounds bound calls = (x : Bound) → in_rounds (is_bound bound x) (about x calls) ≡ true
 
 -- at Destroy nothing is bound
-none_bound : (bound : List Bound) → ((x : Bound) → not (is_bound bound x) ≡ true) → may_come Destroy bound ≡ true
+pub none_bound : (bound : List Bound) → ((x : Bound) → not (is_bound bound x) ≡ true) → may_come Destroy bound ≡ true
 none_bound [] h = refl
 none_bound (b ∷ bound) h = absurd (false≢true (ap (λ t. not (t || is_bound bound b)) (sym (same_itself b)) ∙ h b))
 

@@ -13,7 +13,7 @@ use Rattle.callback_orders.specs.declared.instance_view.Phase.{Phase}
 use Rattle.callback_orders.specs.declared.instance_view.Phase.TheVariants.{Making, Active, Left}
 use Rattle.callback_orders.specs.declared.instance_view.ReferenceView.{ReferenceView}
 use Rattle.callback_orders.specs.declared.word.Called.{Called}
-use Rattle.callback_orders.specs.Sequences.{is_done, is_failed, is_outstanding}
+use Rattle.callback_orders.specs.Sequences.{begun, have_ended, is_done, is_failed, is_outstanding, is_sequence}
 
 -- how far an instance is after a callback: Active from the end of a successful Activate to the end of Deactivate
 abbrev pub phase_by : Callback → Option Outcome → Phase → Phase
@@ -81,3 +81,10 @@ pub record IsViewOf (names : List (List ℕ)) (calls : List Called) (v : Instanc
   pub outstanding : v.outstanding ≡ is_outstanding calls
   pub held : map (λ (r : ReferenceView). map (λ (h : HeldService). h.service) r.held) v.references ≡ map (λ n. held_for n calls) names
   pub spoken : speaks_of names calls ≡ true
+
+-- a callback may come next: all before it have ended, it may follow them, and the reference that it names is one of these
+pub record MayComeNext (names : List (List ℕ)) (calls : List Called) (callback : Callback) : Type 0 where
+  pub ended : have_ended calls ≡ true
+  pub order : is_sequence (calls ++ begun callback ∷ []) ≡ true
+  pub spoken : speaks_of names (calls ++ begun callback ∷ []) ≡ true
+  pub living : is_living (calls ++ begun callback ∷ []) ≡ true

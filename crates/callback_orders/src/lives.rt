@@ -3,7 +3,7 @@ ghost use Rattle.callback_orders.specs.Lives.{phase_after, phase_by, phase_of, h
 ghost use Rattle.callback_orders.specs.Sequences.{is_outstanding};
 ghost use Rattle.std.specs.Prelude.{◌≡◌, ◌==◌, IfOk, filter, not};
 
-use crate::{Called, Callback, Outcome, Phase};
+use crate::{Callback, Called, Outcome, Phase};
 use prop_map::{OutOfMemory, Str};
 use std::alloc::Global;
 

@@ -1,6 +1,6 @@
 use crate::{
-    Callback, Called, DueRef, HeldService, InstanceView, Key, Outcome, Phase, ReferenceView, Wish, Word,
-    due_of, first_due, held_for, is_living, is_outstanding, phase_of,
+    Callback, Called, DueRef, HeldService, InstanceView, Key, Outcome, Phase, ReferenceView, Wish,
+    Word, due_of, first_due, held_for, is_living, is_outstanding, phase_of,
 };
 use prop_map::{Copies, List, Str};
 use std::alloc::AllocError;
@@ -171,6 +171,12 @@ fn calls(
     Ok(calls)
 }
 
+fn end_last(calls: &mut [Called], outcome: Outcome) {
+    if let Some(called) = calls.last_mut() {
+        called.outcome = Some(outcome);
+    }
+}
+
 #[test]
 fn a_service_is_held_until_its_unbind_has_ended(rt: HostRuntime) -> Result<(), Fail> {
     let log = Str::of(String::from_str(rt.alloc(), "log")?);
@@ -180,9 +186,15 @@ fn a_service_is_held_until_its_unbind_has_ended(rt: HostRuntime) -> Result<(), F
     done.push(bind(rt, "log", 3)?)?;
     done.push(bind(rt, "http", 4)?)?;
     let mut so_far = calls(rt, done, unbind(rt, "log", 4)?)?;
-    assert_eq!(rt; held_for(rt.alloc(), &log, &so_far)?.as_slice(), [4, 3].as_slice());
-    so_far[4].outcome = Some(Outcome::Refused);
-    assert_eq!(rt; held_for(rt.alloc(), &log, &so_far)?.as_slice(), [3].as_slice());
+    assert_eq!(rt;
+        held_for(rt.alloc(), &log, &so_far)?.as_slice(),
+        [4, 3].as_slice()
+    );
+    end_last(&mut so_far, Outcome::Refused);
+    assert_eq!(rt;
+        held_for(rt.alloc(), &log, &so_far)?.as_slice(),
+        [3].as_slice()
+    );
     Ok(())
 }
 
@@ -193,10 +205,10 @@ fn an_instance_is_active_once_activate_was_done(rt: HostRuntime) -> Result<(), F
     let mut so_far = calls(rt, done, Callback::Activate)?;
     assert_eq!(rt; phase_of(&so_far), Phase::Making);
     assert!(rt; is_outstanding(&so_far));
-    so_far[1].outcome = Some(Outcome::Done);
+    end_last(&mut so_far, Outcome::Done);
     assert_eq!(rt; phase_of(&so_far), Phase::Active);
     assert!(rt; !is_outstanding(&so_far));
-    so_far[1].outcome = Some(Outcome::NoMemory);
+    end_last(&mut so_far, Outcome::NoMemory);
     assert_eq!(rt; phase_of(&so_far), Phase::Left);
     Ok(())
 }
@@ -207,11 +219,11 @@ fn an_instance_lives_until_its_destroy_has_ended(rt: HostRuntime) -> Result<(), 
     done.push(Callback::Create)?;
     let mut so_far = calls(rt, done, Callback::Destroy)?;
     assert!(rt; is_living(&so_far));
-    so_far[1].outcome = Some(Outcome::Refused);
+    end_last(&mut so_far, Outcome::Refused);
     assert!(rt; !is_living(&so_far));
     let mut so_far = calls(rt, Vec::new(rt.alloc()), Callback::Create)?;
     assert!(rt; is_living(&so_far));
-    so_far[0].outcome = Some(Outcome::Refused);
+    end_last(&mut so_far, Outcome::Refused);
     assert!(rt; !is_living(&so_far));
     Ok(())
 }

@@ -1,8 +1,14 @@
 //! The callbacks of one instance so far (OSGi Compendium 8, section 112.5 "Component Life Cycle").
 ghost use Rattle.callback_orders.specs.Sequences.{all_but_last, begun, ended, have_ended, is_in_order, is_outstanding, is_sequence, is_whiteboard_sequence};
 ghost use Rattle.callback_orders.specs.Grammar.{IsSequence, IsWhiteboardSequence};
+ghost use Rattle.callback_orders.specs.Lives.{IsViewOf, MayComeNext, callback_of, is_living, speaks_of};
+ghost use Rattle.callback_orders.specs.Due.{due_of};
+ghost use Rattle.callback_orders.specs.declared.callback.Callback.{Callback};
+ghost use Rattle.callback_orders.specs.declared.callback.Outcome.{Outcome};
+ghost use Rattle.callback_orders.specs.declared.due.DueRef.{DueRef};
+ghost use Rattle.callback_orders.specs.declared.instance_view.InstanceView.{InstanceView};
 ghost use Rattle.callback_orders.specs.declared.word.Called.{Called};
-ghost use Rattle.std.specs.Prelude.{◌↔◌, List, ◌≡◌, ◌++◌, ◌∷◌, [], IfOk, IsTrue, OnOk, OnErr};
+ghost use Rattle.std.specs.Prelude.{◌↔◌, ℕ, ◌<◌, length, List, ◌≡◌, ◌++◌, ◌∷◌, [], IfOk, IsTrue, OnOk, OnErr};
 
 use crate::{Callback, Outcome, is_outstanding};
 use prop_map::OutOfMemory;
@@ -57,6 +63,15 @@ impl Word {
     pub fn note_grammar()
         ensures instance { (calls : List Called) → IsTrue (is_sequence calls) ↔ IsSequence calls }
         ensures whiteboard { (calls : List Called) → IsTrue (is_whiteboard_sequence calls) ↔ IsWhiteboardSequence calls }
+    {}
+
+    /// For contracts alone: the callback that is due may follow an instance's callbacks so far. A callback that ends leaves them in
+    /// order, and one that begins and is taken back leaves them as they were.
+    pub fn note_due()
+        ensures due { (names : List (List ℕ)) → (calls : List Called) → (view : InstanceView) → (due : DueRef) → IsTrue (is_sequence calls) → IsTrue (is_living calls) → 0 < length calls → IsViewOf names calls view → due_of view ≡ Some due → MayComeNext names calls (callback_of names due) }
+        ensures ended { (outcome : Outcome) → (calls : List Called) → is_sequence (ended outcome calls) ≡ is_sequence calls }
+        ensures spoken { (names : List (List ℕ)) → (outcome : Outcome) → (calls : List Called) → speaks_of names (ended outcome calls) ≡ speaks_of names calls }
+        ensures taken_back { (calls : List Called) → (callback : Callback) → all_but_last (calls ++ begun callback ∷ []) ≡ calls }
     {}
 
     /// The callbacks, the first one first. They are in order.
