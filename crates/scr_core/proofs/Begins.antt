@@ -24,8 +24,8 @@ use Rattle.scr_core.specs.Instances.{is_create}
 use Rattle.scr_core.specs.Sound.{IsSound, are_told_apart}
 use Rattle.scr_core.specs.Views.{references_of, reference_view, view_of, views_of, is_wanted, key_of, has_instance}
 use Rattle.scr_core.specs.Worlds.{World}
-use Rattle.scr_core.proofs.Dues.{IsFor, due_is_own, first_is}
-use Rattle.scr_core.proofs.Instances.{numbers_apart}
+use Rattle.scr_core.proofs.DueLemmas.{IsFor, due_is_own, first_is}
+use Rattle.scr_core.proofs.InstanceLemmas.{numbers_apart}
 use Rattle.scr_core.proofs.ListLemmas.{in_filter_from, in_map_from, apart_find}
 use Rattle.scr_core.proofs.Words.{lives_while}
 

@@ -18,7 +18,7 @@ use Rattle.scr_core.specs.Levels.{levels_of}
 use Rattle.scr_core.specs.Sound.{IsSound}
 use Rattle.scr_core.specs.Worlds.{World, satisfied_in, components_by, instances_by, failing, failed_by, lives_of}
 use Rattle.scr_core.proofs.ListLemmas.{any_from, any_to, in_filter, in_filter_from, in_map, in_map_from, has_in, in_has}
-use Rattle.scr_core.proofs.Instances.{instance_was}
+use Rattle.scr_core.proofs.InstanceLemmas.{instance_was}
 use Rattle.scr_core.proofs.Members.{satisfied_lives}
 
 module _ (limit : ℕ) (w : World) (sound : IsSound limit w) where

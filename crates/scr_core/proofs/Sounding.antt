@@ -28,7 +28,7 @@ use Rattle.scr_core.proofs.Ends.{open_is, satisfied_is}
 use Rattle.scr_core.proofs.ListLemmas.{in_none}
 use Rattle.scr_core.proofs.Marks.{unmarked_after, marked_after, current_after}
 use Rattle.scr_core.proofs.Periods.{periods_after, periods_then, earlier_then}
-use Rattle.scr_core.proofs.Room.{room_after}
+use Rattle.scr_core.proofs.RoomLemmas.{room_after}
 
 -- the empty world is sound
 pub sound_empty : (limit : ℕ) → IsSound limit empty_world

@@ -15,4 +15,7 @@ pub mod Calls
 pub mod Cores
 pub mod Sound
 pub mod Tables
+pub mod Plans
+pub mod Growths
+pub mod Reopenings
 pub mod Shutting

@@ -5,7 +5,7 @@ ghost use Rattle.std.specs.List.{list_any};
 ghost use Rattle.component_state.specs.Periods.{is_current};
 ghost use Rattle.scr_core.specs.Consequences.{gate_of, home_of, is_draining, keeps_bundle};
 ghost use Rattle.scr_core.specs.Instances.{has_turn, is_activate, is_create, last_is};
-ghost use Rattle.scr_core.specs.Shutting.{has_stopped_after, shut_in, state_after, stopping_by};
+ghost use Rattle.scr_core.specs.Shutting.{begins_draining_in, has_stopped_after, shut_in, state_after, stopping_by};
 
 use crate::bundles::{Bundle, BundleState, is_stopping};
 use crate::instance::Instance;
@@ -152,9 +152,20 @@ pub(crate) fn shut(
 {
     let mut found = Vec::new(alloc);
     for instance in instances_now {
-        if is_draining(now, instance) && !was_draining(before, instances_before, instance.number) {
+        if begins_draining(before, instances_before, now, instance) {
             found.push(gate_of(instance)?)?;
         }
     }
     Ok(found)
+}
+
+fn begins_draining(
+    before: &[OpenPeriod],
+    instances_before: &[Instance],
+    now: &[OpenPeriod],
+    instance: &Instance,
+) -> bool
+    ensures { result ≡ begins_draining_in before.now instances_before.now now.now instance.now }
+{
+    is_draining(now, instance) && !was_draining(before, instances_before, instance.number)
 }

@@ -10,11 +10,14 @@ mod command;
 mod component_rows;
 mod consequences;
 mod dues;
+mod growth;
 mod instance;
 mod instance_steps;
 mod instances;
+mod plan;
 mod room;
 mod tables;
+mod turn_steps;
 mod views;
 
 pub use bundles::{Bundle, BundleState};

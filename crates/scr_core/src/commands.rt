@@ -1,0 +1,1 @@
+//! Commands (OSGi Core 8, life cycle layer).

@@ -1,0 +1,63 @@
+//! An entry at the end of the journal, and the tables after it, or neither.
+ghost use Rattle.std.specs.Prelude.{◌≡◌, ◌<◌, ◌++◌, ◌∷◌, [], IfOk, OnErr, OnOk};
+
+
+ghost use Rattle.scr_core.specs.Growths.{TakesPlan, entry_with};
+
+use crate::bundles::rest;
+use crate::command::Step;
+use crate::dues::next;
+use crate::plan::Plan;
+use crate::tables::Tables;
+use component_state::PassEnd;
+use journal_core::{Entry, GateKey, Journal};
+use prop_map::{List, OutOfMemory};
+use std::alloc::{AllocError, Global};
+
+// Appends the entry of a step with what it brings, and takes that over into the tables.
+pub(crate) fn grow(
+    alloc: Global,
+    journal: &mut Journal<Step>,
+    tables: &mut Tables,
+    step: Step,
+    plan: Plan,
+) -> Result<List<GateKey>, OutOfMemory>
+    requires { 0 < plan.pass.next_service }
+    ensures entry { OnOk result (journal.new ≡ journal.old ++ entry_with step plan ∷ []) }
+    ensures takes { OnOk result (TakesPlan tables.old tables.new plan) }
+    ensures shut { IfOk result (λ shut. shut ≡ plan.shut) }
+    ensures no_entry { OnErr result (journal.new ≡ journal.old) }
+    ensures as_before { OnErr result (tables.new ≡ tables.old) }
+{
+    let length = next(tables.length)?;
+    let Plan {
+        pass,
+        failed,
+        stopped,
+        shut,
+    } = plan;
+    let PassEnd {
+        closed,
+        opened,
+        open,
+        satisfied,
+        next_service,
+    } = pass;
+    let told = List::of(Vec::from_slice(alloc, stopped.as_slice())?);
+    let entry = Entry {
+        step,
+        closed,
+        opened,
+        stopped: told,
+    };
+    if journal.append(entry).is_err() {
+        return Err(AllocError);
+    }
+    tables.length = length;
+    rest(&mut tables.bundles, stopped.as_slice());
+    tables.open_periods = open;
+    tables.failed = failed;
+    tables.satisfied = satisfied;
+    tables.services = next_service - 1;
+    Ok(shut)
+}
