@@ -1,11 +1,10 @@
 -- What stands in a list, and lists whose items each have a number of their own.
-use Rattle.std.proofs.Common.{◌≡◌, ◌<◌, ◌≤◌, ℕ, zero, suc, ◌+◌, List, [], ◌∷◌, ◌++◌, length, ap, sym, ◌∙◌, refl, subst, cond, arith, Bool, true, false, ◌&&◌, ◌||◌, inl, inr, ◌⊎◌, Option, Some, None}
-use Rattle.std.specs.Prelude.{map, filter, find, not, ◌==◌, flat_map, sum}
+use Rattle.std.proofs.Common.{◌≡◌, ℕ, zero, suc, List, [], ◌∷◌, ◌++◌, ap, sym, ◌∙◌, refl, subst, cond, arith, Bool, true, false, ◌&&◌, inl, inr, ◌⊎◌, Some}
+use Rattle.std.specs.Prelude.{map, filter, find, not, ◌==◌, flat_map}
 use Rattle.std.specs.List.{Contains, list_any, list_all}
-use Rattle.std.proofs.lemmas.Bool.{eqb-true, eq-eqb, ne_eqb, cases_Bool, cases_eq, or_cases, or_left, or_right, or_from, or_parts, and_parts, and_from, not-true, not_from_false, not_from_true, both_ways, cond-true, cond-false}
+use Rattle.std.proofs.lemmas.Bool.{eqb-true, eq-eqb, ne_eqb, and_parts, and_from, not-true, not_from_false, both_ways, cond-true, cond-false}
 use Rattle.std.proofs.lemmas.List.Elements.{Contains-append_left, Contains-append_right, Contains-append_cases}
-use Rattle.std.proofs.lemmas.List.Folds.{list_any_at, Any-from_list_any, list_any-append}
-use Rattle.std.proofs.lemmas.List.{map-append}
+use Rattle.std.proofs.lemmas.List.Folds.{list_any_at, Any-from_list_any}
 use Rattle.component_dto.proofs.TextListLemmas.{list_any-map}
 use Rattle.component_state.specs.Words.{has}
 
