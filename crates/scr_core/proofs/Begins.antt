@@ -1,5 +1,5 @@
 -- The turn that begins next: it makes an instance of a known component configuration, or it tells an instance what may come next.
-use Rattle.std.proofs.Common.{◌≡◌, ◌<◌, ℕ, ◌+◌, List, [], ◌∷◌, ◌++◌, length, ap, sym, ◌∙◌, refl, subst, cond, Bool, true, false, ◌&&◌, inl, inr, ◌⊎◌, Option, Some, None}
+use Rattle.std.proofs.Common.{◌≡◌, ℕ, ◌+◌, List, [], ◌∷◌, ap, sym, ◌∙◌, refl, subst, false, inl, inr, ◌⊎◌, Option, Some, None}
 use Rattle.std.specs.Prelude.{map, filter, find, not, ◌==◌, option_map, option_and_then}
 use Rattle.std.specs.List.{Contains}
 use Rattle.callback_orders.specs.declared.callback.Callback.{Callback}
@@ -21,7 +21,7 @@ use Rattle.scr_core.specs.declared.command.Step.TheVariants.{Begin}
 use Rattle.scr_core.specs.declared.instance.Instance.{Instance}
 use Rattle.scr_core.specs.Dues.{wanted, missing, due_in, choices, names_of, begin_for, begin_of, next_begin}
 use Rattle.scr_core.specs.Instances.{is_create}
-use Rattle.scr_core.specs.Sound.{IsSound, are_told_apart}
+use Rattle.scr_core.specs.Sound.{IsSound}
 use Rattle.scr_core.specs.Views.{references_of, reference_view, view_of, views_of, is_wanted, key_of, has_instance}
 use Rattle.scr_core.specs.Worlds.{World}
 use Rattle.scr_core.proofs.DueLemmas.{IsFor, due_is_own, first_is}
@@ -89,7 +89,7 @@ module _ (limit : ℕ) (w : World) (sound : IsSound limit w) where
         → (instance ≡ i.number) × (callback ≡ callback_of (names_of w.components i.life.configuration) d)
     tells_it i h n same d is =
         let found : find (λ (j : Instance). j.number == n) w.instances ≡ Some i =
-            apart_find (λ (j : Instance). j.number) w.instances (sym (numbers_apart w.instances) ∙ sound.told_apart) i h n (sym same) in
+        apart_find (λ (j : Instance). j.number) w.instances (sym (numbers_apart w.instances) ∙ sound.told_apart) i h n (sym same) in
         let here : Some (begin_for w d i) ≡ Some step = sym (ap (option_map (begin_for w d)) found) ∙ is in
         let first : instance ≡ i.number = cc in
         let second : callback ≡ callback_of (names_of w.components i.life.configuration) d = cc in

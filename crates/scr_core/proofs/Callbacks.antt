@@ -1,6 +1,6 @@
 -- The instances after a step are sound: each has a number of its own, a known component configuration, and callbacks in order that speak of its references.
-use Rattle.std.proofs.Common.{◌≡◌, ◌≤◌, ◌<◌, ℕ, ◌+◌, List, [], ◌∷◌, ◌++◌, length, ap, sym, ◌∙◌, refl, subst, cond, arith, Bool, true, false, ◌&&◌, inl, inr, ◌⊎◌}
-use Rattle.std.specs.Prelude.{map, filter, not, ◌==◌}
+use Rattle.std.proofs.Common.{◌≡◌, ◌<◌, ℕ, ◌+◌, List, [], ◌∷◌, ◌++◌, length, ap, sym, ◌∙◌, refl, subst, cond, arith, Bool, true, false, inl, inr, ◌⊎◌}
+use Rattle.std.specs.Prelude.{map, ◌==◌}
 use Rattle.std.specs.List.{Contains, list_all}
 use Rattle.std.proofs.lemmas.Bool.{eqb-true, cases_Bool, both_ways, cond-true, cond-false}
 use Rattle.std.proofs.lemmas.List.{length-append}
@@ -10,7 +10,7 @@ use Rattle.callback_orders.specs.declared.callback.Callback.TheVariants.{Create}
 use Rattle.callback_orders.specs.declared.callback.Outcome.{Outcome}
 use Rattle.callback_orders.specs.declared.word.Called.{Called}
 use Rattle.callback_orders.specs.Lives.{is_living, speaks_of}
-use Rattle.callback_orders.specs.Sequences.{begun, ended, is_sequence}
+use Rattle.callback_orders.specs.Sequences.{begun, is_sequence}
 use Rattle.callback_orders.proofs.EndLemmas.{is_sequence-ended, speaks_of-ended}
 use Rattle.callback_orders.proofs.FollowLemmas.{is_living-onto}
 use Rattle.component_dto.specs.declared.description.Reference.{Reference}
@@ -28,8 +28,8 @@ use Rattle.scr_core.specs.Sound.{IsSound, IsSoundInstance, are_told_apart}
 use Rattle.scr_core.specs.Worlds.{World, components_by, instances_told, instances_by, makes_by}
 use Rattle.scr_core.proofs.Begins.{Makes, Tells, begin_is}
 use Rattle.scr_core.proofs.Components.{numbered_after, kept_after, used_known, same_number_known, same_references}
-use Rattle.scr_core.proofs.InstanceLemmas.{IsSame, numbers_apart, told_same, ended_same, drained_same, begun_cases}
-use Rattle.scr_core.proofs.ListLemmas.{in_first, in_cases, in_none, in_filter_from, in_map_from, all_from, has_from, has_to, apart, apart_filter, apart_map, apart_append, apart_same}
+use Rattle.scr_core.proofs.Instances.{IsSame, numbers_apart, told_same, ended_same, drained_same, begun_cases}
+use Rattle.scr_core.proofs.ListLemmas.{in_cases, in_none, in_filter_from, in_map_from, all_from, has_from, has_to, apart, apart_filter, apart_map, apart_append, apart_same}
 use Rattle.scr_core.proofs.Words.{lives_while, length_ended}
 
 -- there are callbacks, they are in order, and they speak of these references
@@ -109,8 +109,12 @@ module _ (limit : ℕ) (w : World) (sound : IsSound limit w) where
       | inl create ↦ absurd (both_ways (is_create callback) tells.no_create (ap is_create create))
       | inr same ↦ (
           let found = in_map_from (told turn instance callback) w.instances i (subst (λ (is : List Instance). Contains is i) (same w.length_is w.open_ones w.instances turn instance configuration consumer chosen) h) in
-          inl (found.0, found.1, subst (λ (x : Instance). IsSame x found.0) found.2 (told_same turn instance callback found.0),
-              subst (λ (x : Instance). InOrder (names_of w.components found.0.life.configuration) x.word) found.2 (told_word found.0 found.1 tells)))
+          inl (
+            found.0,
+            found.1,
+            subst (λ (x : Instance). IsSame x found.0) found.2 (told_same turn instance callback found.0),
+            subst (λ (x : Instance). InOrder (names_of w.components found.0.life.configuration) x.word) found.2 (told_word found.0 found.1 tells),
+          ))
     ]
 
     told_lives : (j : Instance) → Contains w.instances j → is_living (told turn instance callback j).word ≡ true
@@ -123,9 +127,9 @@ module _ (limit : ℕ) (w : World) (sound : IsSound limit w) where
     begun_lives : (i : Instance) → Contains (instances_told begins w) i → is_living i.word ≡ true
     begun_lives i h = elim (begun_cases callback) [
       | inl create ↦ (elim (Contains-push_cases w.instances new i (subst (λ (c : Callback). Contains (begun_by w.length_is w.open_ones w.instances turn instance configuration consumer c chosen) i) create h)) [
-          | inl old ↦ is_living_before i old
-          | inr same ↦ subst (λ (x : Instance). is_living x.word ≡ true) same refl
-        ])
+        | inl old ↦ is_living_before i old
+        | inr same ↦ subst (λ (x : Instance). is_living x.word ≡ true) same refl
+      ])
       | inr same ↦ (
           let found = in_map_from (told turn instance callback) w.instances i (subst (λ (is : List Instance). Contains is i) (same w.length_is w.open_ones w.instances turn instance configuration consumer chosen) h) in
           subst (λ (x : Instance). is_living x.word ≡ true) found.2 (told_lives found.0 found.1))
@@ -169,13 +173,21 @@ module _ (limit : ℕ) (w : World) (sound : IsSound limit w) where
       begun_later turn instance configuration consumer callback chosen (begin_is limit w sound turn instance configuration consumer callback chosen may) i h
   told_later (End turn outcome) may i h =
       let found = in_map_from (ended_in turn outcome w.generations) w.instances i h in
-      inl (found.0, found.1, subst (λ (x : Instance). IsSame x found.0) found.2 (ended_same turn outcome w.generations found.0),
-          subst (λ (x : Instance). InOrder (names_of w.components found.0.life.configuration) x.word) found.2 (ended_word turn outcome found.0 found.1))
+      inl (
+        found.0,
+        found.1,
+        subst (λ (x : Instance). IsSame x found.0) found.2 (ended_same turn outcome w.generations found.0),
+        subst (λ (x : Instance). InOrder (names_of w.components found.0.life.configuration) x.word) found.2 (ended_word turn outcome found.0 found.1),
+      )
   told_later (Drained instance) may i h =
       let found = in_map_from (drained_in instance) w.instances i h in
-      inl (found.0, found.1, subst (λ (x : Instance). IsSame x found.0) found.2 (drained_same instance found.0),
-          subst (λ (x : Instance). InOrder (names_of w.components found.0.life.configuration) x.word) found.2
-          (subst (λ (calls : List Called). InOrder (names_of w.components found.0.life.configuration) calls) (sym (same_word instance found.0)) (before found.0 found.1)))
+      inl (
+        found.0,
+        found.1,
+        subst (λ (x : Instance). IsSame x found.0) found.2 (drained_same instance found.0),
+        subst (λ (x : Instance). InOrder (names_of w.components found.0.life.configuration) x.word) found.2
+            (subst (λ (calls : List Called). InOrder (names_of w.components found.0.life.configuration) calls) (sym (same_word instance found.0)) (before found.0 found.1)),
+      )
 
   -- the callbacks of each instance are in order
   pub order_after : (step : Step) → MayCome limit w step → list_all (λ (i : Instance). is_sequence i.word) (instances_told step w) ≡ true
@@ -204,10 +216,11 @@ module _ (limit : ℕ) (w : World) (sound : IsSound limit w) where
   still_known step j h =
       let found = has_to (λ (c : Component). c.number) w.components j.life.configuration (sound.instances j h).known in
       let kept = kept_after w step found.0 found.1 (used_known w.instances found.0 j h (sym found.2)) in
-      let numbered = numbered_after w sound.numbered sound.came_so_far sound.described step in
-      (ap (has (numbers_of (components_by step w))) (sym found.2) ∙ same_number_known w.components (components_by step w) sound.numbered numbered found.0 found.1 kept,
-      subst (λ (n : ℕ). names_of (components_by step w) n ≡ names_of w.components n) found.2
-      (ap (map (λ (r : Reference). r.name)) (same_references w.components (components_by step w) sound.numbered numbered found.0 found.1 kept)))
+      let numbered = numbered_after w sound.numbered sound.came_so_far sound.described step in (
+        ap (has (numbers_of (components_by step w))) (sym found.2) ∙ same_number_known w.components (components_by step w) sound.numbered numbered found.0 found.1 kept,
+        subst (λ (n : ℕ). names_of (components_by step w) n ≡ names_of w.components n) found.2
+            (ap (map (λ (r : Reference). r.name)) (same_references w.components (components_by step w) sound.numbered numbered found.0 found.1 kept)),
+      )
 
   -- each instance is sound
   pub instances_after : (step : Step) → MayCome limit w step → (i : Instance) → Contains (instances_by step w) i → IsSoundInstance (components_by step w) (w.made + makes_by step) i
@@ -226,13 +239,13 @@ module _ (limit : ℕ) (w : World) (sound : IsSound limit w) where
           spoken = ap (λ n. speaks_of (names_of (components_by step w) n) i.word) same ∙ ap (λ ns. speaks_of ns i.word) known.1 ∙ later.3.spoken;
         })
     | inr made ↦ record {
-        known = made.known;
-        made_so_far = omega (arith, made.next);
-        begun = subst (λ (calls : List Called). 0 < length calls) (sym made.created) (omega arith);
-        order = ap is_sequence made.created;
-        living = living_after step i h;
-        spoken = ap (speaks_of (names_of (components_by step w) i.life.configuration)) made.created;
-      }
+      known = made.known;
+      made_so_far = omega (arith, made.next);
+      begun = subst (λ (calls : List Called). 0 < length calls) (sym made.created) (omega arith);
+      order = ap is_sequence made.created;
+      living = living_after step i h;
+      spoken = ap (speaks_of (names_of (components_by step w) i.life.configuration)) made.created;
+    }
   ]
 
   apart_after : (step : Step) → MayCome limit w step → apart (λ (i : Instance). i.number) (instances_by step w) ≡ true

@@ -1,13 +1,11 @@
 -- The component configurations after a step: each has a number of its own, and those that haven't ceased or have an instance stay known.
-use Rattle.std.proofs.Common.{◌≡◌, ◌<◌, ◌≤◌, ℕ, suc, ◌+◌, List, [], ◌∷◌, ◌++◌, length, ap, sym, ◌∙◌, refl, subst, cond, arith, Bool, true, false, ◌&&◌, ◌||◌, inl, inr, Option, Some, None}
-use Rattle.std.specs.Prelude.{map, not, find, filter, ◌==◌}
-use Rattle.std.specs.List.{Contains, list_any}
+use Rattle.std.proofs.Common.{◌≡◌, ◌<◌, ◌≤◌, ℕ, ◌+◌, List, [], ◌∷◌, ◌++◌, length, ap, sym, ◌∙◌, refl, subst, arith, true, ◌&&◌, inl, inr, Option, Some, None}
+use Rattle.std.specs.Prelude.{map, not, find, ◌==◌}
+use Rattle.std.specs.List.{Contains}
 use Rattle.std.specs.Option.{option_map_or}
 use Rattle.std.proofs.lemmas.Bool.{eq-eqb, or_left, or_right, false_from_ne_true, and_from, not_from_false}
-use Rattle.std.proofs.lemmas.List.{length-append}
 use Rattle.std.proofs.lemmas.List.Elements.{Contains-append_left, Contains-append_cases}
 use Rattle.component_dto.specs.declared.description.Description.{Description}
-use Rattle.component_dto.specs.declared.description.Reference.{Reference}
 use Rattle.component_state.specs.declared.component.Component.{Component}
 use Rattle.component_state.specs.Components.{numbers_of, are_numbered, interfaces_of}
 use Rattle.component_state.specs.Words.{has}
@@ -71,9 +69,9 @@ module _ (b : Bundle) where
       let rest = numbered (n + 1) b.number (place + 1) ds in
       and_from (not (has (map number_of rest) n)) (apart number_of rest)
       (not_from_false _ (false_from_ne_true (has (map number_of rest) n) (λ e.
-          let found = has_to number_of rest n e in
-          let above = first_at_least (n + 1) (place + 1) ds found.0 found.1 in
-          omega (arith, above, found.2))))
+      let found = has_to number_of rest n e in
+      let above = first_at_least (n + 1) (place + 1) ds found.0 found.1 in
+      omega (arith, above, found.2))))
       (each_own (n + 1) (place + 1) ds)
 
 numbered_new : (bs : List Bundle) (b : Bundle) (n : ℕ) → Contains bs b → AreNew bs n (numbered n b.number 0 b.document.descriptions)

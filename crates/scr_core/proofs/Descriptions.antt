@@ -1,6 +1,6 @@
 -- The descriptions after a step, and their levels.
-use Rattle.std.proofs.Common.{◌≡◌, ℕ, suc, List, [], ◌∷◌, ◌++◌, length, ap, sym, ◌∙◌, refl, subst, cond, Bool, true, false, ◌&&◌, append-nil, Option, Some, None}
-use Rattle.std.specs.Prelude.{map, not, ◌==◌, nat_le, is_none, is_some}
+use Rattle.std.proofs.Common.{◌≡◌, ℕ, suc, List, [], ◌∷◌, ◌++◌, length, ap, sym, ◌∙◌, refl, subst, cond, Bool, true, false, ◌&&◌, append-nil, Some, None}
+use Rattle.std.specs.Prelude.{map, not, ◌==◌, nat_le, is_none}
 use Rattle.std.specs.List.{Contains}
 use Rattle.std.specs.Option.{option_or}
 use Rattle.std.proofs.lemmas.Bool.{eqb-true, and_parts}
@@ -9,7 +9,7 @@ use Rattle.std.proofs.lemmas.List.Elements.{Contains-append_left}
 use Rattle.bundle_doc.specs.declared.document.BundleDoc.{BundleDoc}
 use Rattle.component_dto.specs.declared.description.Description.{Description}
 use Rattle.component_state.specs.Words.{has}
-use Rattle.level_order.specs.Levels.{level_from, AreLevels}
+use Rattle.level_order.specs.Levels.{AreLevels}
 use Rattle.scr_core.specs.declared.bundles.Bundle.{Bundle}
 use Rattle.scr_core.specs.declared.bundles.BundleState.{BundleState}
 use Rattle.scr_core.specs.declared.bundles.BundleState.TheVariants.{Resolved}
@@ -20,7 +20,7 @@ use Rattle.scr_core.specs.declared.command.Step.TheVariants.{Command as Commande
 use Rattle.scr_core.specs.Bundles.{with_state, bundles_by, come_to_rest, descriptions_of}
 use Rattle.scr_core.specs.Legal.{MayCome}
 use Rattle.scr_core.specs.Levels.{levels_within, levels_of, same_numbers, has_levels}
-use Rattle.scr_core.specs.Replies.{is_known, stays_acyclic, refusal, has_effect, changes}
+use Rattle.scr_core.specs.Replies.{is_known, stays_acyclic, changes}
 use Rattle.scr_core.specs.Room.{has_room}
 use Rattle.scr_core.specs.Worlds.{World}
 

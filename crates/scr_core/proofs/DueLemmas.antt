@@ -1,5 +1,5 @@
 -- The due callback of an instance is its own, and no Create.
-use Rattle.std.proofs.Common.{◌≡◌, ℕ, List, [], ◌∷◌, ◌++◌, ap, sym, ◌∙◌, refl, subst, cond, Bool, true, false, ◌&&◌, inl, inr, ◌⊎◌, Option, Some, None}
+use Rattle.std.proofs.Common.{◌≡◌, ℕ, List, [], ◌∷◌, ◌++◌, sym, refl, subst, cond, Bool, true, false, ◌&&◌, inl, inr, ◌⊎◌, Option, Some, None}
 use Rattle.std.specs.Prelude.{⊤, map, find, filter_map, option_map}
 use Rattle.std.specs.List.{Contains, last_or, cons_option}
 use Rattle.std.specs.Option.{option_or, option_map_or}
@@ -14,7 +14,7 @@ use Rattle.callback_orders.specs.declared.instance_view.ReferenceView.{Reference
 use Rattle.callback_orders.specs.Due.{first_some, with_places, bind_at, unbind_at, tell_at, let_go_at, bind_or_unbind, due_in_making, modified_if_stale, due_while_active, due_while_ending, due_in_phase, due_of, first_due}
 use Rattle.callback_orders.specs.References.{differs, to_bind, to_unbind, to_tell, to_let_go}
 use Rattle.callback_orders.proofs.FirstSome.{first_of_four}
-use Rattle.scr_core.proofs.ListLemmas.{in_first, in_rest, in_none, in_map_from}
+use Rattle.scr_core.proofs.ListLemmas.{in_first, in_rest, in_map_from}
 
 -- a due callback of the instance of a number
 abbrev pub IsFor : ℕ → DueRef → Type 0

@@ -1,22 +1,17 @@
 -- What an entry with the lists of a pass leaves: what is open, what is satisfied, and how many services there were.
-use Rattle.std.proofs.Common.{◌≡◌, ◌≤◌, ℕ, ◌+◌, List, [], ◌∷◌, ◌++◌, ap, sym, ◌∙◌, refl, cond, arith, Bool, true, false, ◌&&◌}
-use Rattle.std.specs.Prelude.{map, not, ◌==◌, count_by}
+use Rattle.std.proofs.Common.{◌≡◌, ◌≤◌, ℕ, ◌+◌, List, [], ◌∷◌, ap, sym, ◌∙◌, cond, arith, Bool, true, false}
+use Rattle.std.specs.Prelude.{not, ◌==◌, count_by}
 use Rattle.std.proofs.lemmas.Bool.{ne_eqb}
 use Rattle.std.proofs.lemmas.List.Sums.{sum_by-cons}
-use Rattle.bundle_doc.specs.declared.document.BundleDoc.{BundleDoc}
-use Rattle.component_dto.specs.declared.description.Description.{Description}
 use Rattle.component_state.specs.declared.component.Component.{Component}
 use Rattle.component_state.specs.declared.pass.PassEnd.{PassEnd}
 use Rattle.component_state.specs.Components.{is_silent, numbers_of}
 use Rattle.component_state.specs.Marks.{held_back}
 use Rattle.component_state.specs.Passes.{HasPassed, opening_ones, opened_one, next_after, opened_from, next_from}
 use Rattle.component_state.specs.Scratch.{satisfied}
-use Rattle.component_state.specs.Words.{has}
 use Rattle.journal_core.specs.declared.entry.Opened.{Opened}
-use Rattle.scr_core.specs.declared.bundles.Bundle.{Bundle}
-use Rattle.scr_core.specs.declared.bundles.BundleState.TheVariants.{Resolved}
 use Rattle.scr_core.specs.declared.command.Step.{Step}
-use Rattle.scr_core.specs.Bundles.{bundles_by, descriptions_of, come_to_rest}
+use Rattle.scr_core.specs.Bundles.{bundles_by, descriptions_of}
 use Rattle.scr_core.specs.Consequences.{stage_of, stopping}
 use Rattle.scr_core.specs.Levels.{levels_of}
 use Rattle.scr_core.specs.Sound.{entry_of}

@@ -1,6 +1,6 @@
 -- The instances after a step: each is an earlier one with its number and its life, or the one that a Create made.
-use Rattle.std.proofs.Common.{◌≡◌, ℕ, ◌+◌, List, [], ◌∷◌, ◌++◌, ap, sym, ◌∙◌, refl, subst, cond, Bool, true, false, inl, inr, ◌⊎◌}
-use Rattle.std.specs.Prelude.{map, filter, not, ◌&&◌, ◌==◌}
+use Rattle.std.proofs.Common.{◌≡◌, ℕ, List, [], ◌∷◌, ◌++◌, ap, sym, refl, subst, cond, Bool, true, false, inl, inr, ◌⊎◌}
+use Rattle.std.specs.Prelude.{map, not, ◌&&◌, ◌==◌}
 use Rattle.std.specs.List.{Contains}
 use Rattle.std.proofs.lemmas.List.Elements.{Contains-push_cases}
 use Rattle.callback_orders.specs.declared.callback.Callback.{Callback}
@@ -8,7 +8,6 @@ use Rattle.callback_orders.specs.declared.callback.Callback.TheVariants.{Create,
 use Rattle.callback_orders.specs.declared.callback.Outcome.{Outcome}
 use Rattle.callback_orders.specs.Sequences.{begun}
 use Rattle.component_state.specs.declared.life.Choice.{Choice}
-use Rattle.component_state.specs.declared.life.Life.{Life}
 use Rattle.component_state.specs.declared.open_period.OpenPeriod.{OpenPeriod}
 use Rattle.scr_core.specs.declared.command.Step.{Step}
 use Rattle.scr_core.specs.declared.command.Step.TheVariants.{Command as Commanded, Begin, End, Drained}

@@ -1,11 +1,11 @@
--- What stands in a list, and lists whose items each have a number of their own.
-use Rattle.std.proofs.Common.{◌≡◌, ◌<◌, ◌≤◌, ℕ, zero, suc, ◌+◌, List, [], ◌∷◌, ◌++◌, length, ap, sym, ◌∙◌, refl, subst, cond, arith, Bool, true, false, ◌&&◌, ◌||◌, inl, inr, ◌⊎◌, Option, Some, None}
-use Rattle.std.specs.Prelude.{map, filter, find, not, ◌==◌, flat_map, sum}
-use Rattle.std.specs.List.{Contains, list_any, list_all}
-use Rattle.std.proofs.lemmas.Bool.{eqb-true, eq-eqb, ne_eqb, cases_Bool, cases_eq, or_cases, or_left, or_right, or_from, or_parts, and_parts, and_from, not-true, not_from_false, not_from_true, both_ways, cond-true, cond-false}
+-- What stands in a list, lists whose items each have a number of their own, and sums over items that change.
+use Rattle.std.proofs.Common.{◌≡◌, ◌≤◌, ℕ, zero, suc, ◌+◌, List, [], ◌∷◌, ◌++◌, ap, sym, ◌∙◌, refl, subst, cond, arith, Bool, true, false, ◌&&◌, inl, inr, ◌⊎◌, Some}
+use Rattle.std.specs.Prelude.{map, filter, find, not, ◌==◌, flat_map}
+use Rattle.std.specs.List.{Contains, list_any, list_all, sum_by}
+use Rattle.std.proofs.lemmas.Bool.{eqb-true, eq-eqb, ne_eqb, and_parts, and_from, not-true, not_from_false, both_ways, cond-true, cond-false, cases_eq}
+use Rattle.std.proofs.lemmas.List.Sums.{sum_by-cons}
 use Rattle.std.proofs.lemmas.List.Elements.{Contains-append_left, Contains-append_right, Contains-append_cases}
-use Rattle.std.proofs.lemmas.List.Folds.{list_any_at, Any-from_list_any, list_any-append}
-use Rattle.std.proofs.lemmas.List.{map-append}
+use Rattle.std.proofs.lemmas.List.Folds.{list_any_at, Any-from_list_any}
 use Rattle.component_dto.proofs.TextListLemmas.{list_any-map}
 use Rattle.component_state.specs.Words.{has}
 
@@ -170,3 +170,41 @@ module _ {X : Type 0} (f : X → ℕ) where
   apart_same xs each x y h k same =
       let one : find (λ z. f z == f y) xs ≡ Some x = apart_find xs each x h (f y) same in
       let other : find (λ z. f z == f y) xs ≡ Some y = apart_find xs each y k (f y) refl in cc
+
+-- sums over a list whose items change
+
+module _ {X : Type 0} (f : X → ℕ) where
+  pub sum_no_more : (g : X → X) (xs : List X) → ((x : X) → Contains xs x → f (g x) ≤ f x) → sum_by f (map g xs) ≤ sum_by f xs
+  sum_no_more g [] each = omega arith
+  sum_no_more g (x ∷ xs) each =
+      omega (arith, sum_by-cons f (g x) (map g xs), sum_by-cons f x xs, each x (in_first x xs), sum_no_more g xs (λ y h. each y (in_rest x xs y h)))
+
+  pub sum_falls : (g : X → X) (xs : List X) → ((x : X) → Contains xs x → f (g x) ≤ f x) → (x : X) → Contains xs x → f (g x) + 1 ≤ f x → sum_by f (map g xs) + 1 ≤ sum_by f xs
+  sum_falls g [] each x h falls = absurd (in_none x h)
+  sum_falls g (y ∷ ys) each x h falls = elim (in_cases y ys x h) [
+    | inl same ↦ (
+        let here : f (g y) + 1 ≤ f y = subst (λ (z : X). f (g z) + 1 ≤ f z) (sym same) falls in
+        omega (arith, sum_by-cons f (g y) (map g ys), sum_by-cons f y ys, here, sum_no_more g ys (λ z k. each z (in_rest y ys z k))))
+    | inr later ↦ omega (arith, sum_by-cons f (g y) (map g ys), sum_by-cons f y ys, each y (in_first y ys), sum_falls g ys (λ z k. each z (in_rest y ys z k)) x later falls)
+  ]
+
+  pub sum_filter : (p : X → Bool) (xs : List X) → sum_by f (filter p xs) ≤ sum_by f xs
+  sum_filter p [] = omega arith
+  sum_filter p (x ∷ xs) = go (p x) (sum_filter p xs)
+    where
+      go : (b : Bool) → sum_by f (filter p xs) ≤ sum_by f xs → sum_by f (cond b (x ∷ filter p xs) (filter p xs)) ≤ sum_by f (x ∷ xs)
+      go true less = omega (arith, sum_by-cons f x (filter p xs), sum_by-cons f x xs, less)
+      go false less = omega (arith, sum_by-cons f x xs, less)
+
+  -- where each has a number of its own, at most one has this number
+  pub sum_one_more : (number : X → ℕ) (g : X → X) (n k : ℕ) → ((x : X) → (number x ≡ n → ⊥) → f (g x) ≤ f x) → ((x : X) → f (g x) ≤ f x + k)
+      → (xs : List X) → apart number xs ≡ true → sum_by f (map g xs) ≤ sum_by f xs + k
+  sum_one_more number g n k others one [] each = omega arith
+  sum_one_more number g n k others one (x ∷ xs) each =
+      let parts = and_parts (not (has (map number xs) (number x))) (apart number xs) each in
+      elim (cases_eq (number x) n) [
+        | inl same ↦ (
+            let rest = sum_no_more g xs (λ y h. others y (λ e. both_ways (has (map number xs) (number x)) (not-true (has (map number xs) (number x)) parts.0) (has_from number xs y (number x) h (e ∙ sym same)))) in
+            omega (arith, sum_by-cons f (g x) (map g xs), sum_by-cons f x xs, one x, rest))
+        | inr other ↦ omega (arith, sum_by-cons f (g x) (map g xs), sum_by-cons f x xs, others x other, sum_one_more number g n k others one xs parts.1)
+      ]

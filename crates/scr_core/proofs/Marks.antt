@@ -1,14 +1,14 @@
 -- What is open isn't held back, so after a step no open one is failed but for those that fail in it, and no instance of an open one is of a period that ended.
-use Rattle.std.proofs.Common.{◌≡◌, ◌<◌, ℕ, List, ◌++◌, ap, sym, ◌∙◌, refl, subst, Bool, true, false, ◌&&◌, inl, inr}
-use Rattle.std.specs.Prelude.{map, not, filter, ◌==◌, nat_lt}
+use Rattle.std.proofs.Common.{◌≡◌, ◌<◌, ℕ, ap, sym, ◌∙◌, subst, true, false, ◌&&◌, inl, inr}
+use Rattle.std.specs.Prelude.{not, filter, ◌==◌, nat_lt}
 use Rattle.std.specs.List.{Contains}
-use Rattle.std.proofs.lemmas.Bool.{and_parts, and_from, not-true, both_ways, cases_Bool, eqb-true, eq-eqb, lt-ltb, not_from_false}
+use Rattle.std.proofs.lemmas.Bool.{and_parts, and_from, not-true, both_ways, cases_Bool, lt-ltb, not_from_false}
 use Rattle.std.proofs.lemmas.List.Elements.{Contains-append_left, Contains-append_right, Contains-append_cases}
 use Rattle.component_state.specs.declared.component.Component.{Component}
 use Rattle.component_state.specs.declared.life.Life.{Life}
 use Rattle.component_state.specs.declared.open_period.OpenPeriod.{OpenPeriod}
 use Rattle.component_state.specs.Components.{lives}
-use Rattle.component_state.specs.Marks.{failed_after, held_back, with_leaving}
+use Rattle.component_state.specs.Marks.{held_back, with_leaving}
 use Rattle.component_state.specs.Periods.{is_open, is_current}
 use Rattle.component_state.specs.Words.{has}
 use Rattle.scr_core.specs.declared.command.Step.{Step}

@@ -1,5 +1,5 @@
 -- Open periods stay those of known component configurations with their interfaces, and each was opened before.
-use Rattle.std.proofs.Common.{◌≡◌, ◌<◌, ℕ, ◌+◌, List, [], ◌∷◌, ◌++◌, ap, sym, ◌∙◌, refl, subst, cond, arith, Bool, true, false, ◌&&◌, inl, inr, ◌⊎◌}
+use Rattle.std.proofs.Common.{◌≡◌, ◌<◌, ℕ, ◌+◌, List, [], ◌∷◌, ap, sym, ◌∙◌, refl, subst, arith, true, ◌&&◌, inl, inr, ◌⊎◌}
 use Rattle.std.specs.Prelude.{map, not, filter, ◌==◌}
 use Rattle.std.specs.List.{Contains}
 use Rattle.std.proofs.lemmas.Bool.{eq-eqb}
@@ -7,16 +7,16 @@ use Rattle.std.proofs.lemmas.List.Elements.{Contains-append_cases}
 use Rattle.component_state.specs.declared.component.Component.{Component}
 use Rattle.component_state.specs.declared.open_period.OpenPeriod.{OpenPeriod}
 use Rattle.component_state.specs.declared.pass.PassEnd.{PassEnd}
-use Rattle.component_state.specs.Components.{numbers_of, are_numbered, interfaces_of}
+use Rattle.component_state.specs.Components.{numbers_of, interfaces_of}
 use Rattle.component_state.specs.Passes.{Stage, HasPassed, IsPeriodOf, in_order, opening_ones, satisfied_in, out_of, opened_one, next_after, opened_from}
-use Rattle.component_state.specs.Periods.{is_open, opened_at, open_after}
+use Rattle.component_state.specs.Periods.{is_open, opened_at}
 use Rattle.component_state.specs.Words.{has}
 use Rattle.journal_core.specs.declared.entry.Opened.{Opened}
 use Rattle.scr_core.specs.declared.command.Step.{Step}
 use Rattle.scr_core.specs.Consequences.{stage_of}
 use Rattle.scr_core.specs.Sound.{IsSound, entry_of}
 use Rattle.scr_core.specs.Worlds.{World, after, components_by}
-use Rattle.scr_core.proofs.Components.{IsKept, numbered_after, kept_after, living_known, same_number_known, same_interfaces}
+use Rattle.scr_core.proofs.Components.{numbered_after, kept_after, living_known, same_number_known, same_interfaces}
 use Rattle.scr_core.proofs.ListLemmas.{any_from, in_cases, in_none, in_first, in_rest, in_filter_from, in_map_from, has_from}
 use Rattle.scr_core.proofs.Marks.{open_lives}
 use Rattle.scr_core.proofs.Members.{ordered_in}

@@ -1,17 +1,14 @@
 -- What is reserved after a step has room: an entry and what it reserves need no more than what its step needs.
-use Rattle.std.proofs.Common.{◌≡◌, ◌≤◌, ◌<◌, ℕ, ◌+◌, List, [], ◌∷◌, ◌++◌, ap, sym, ◌∙◌, refl, subst, cond, arith, sum, Bool, true, false, ◌&&◌, ◌||◌, inl, inr, ◌⊎◌}
-use Rattle.std.specs.Prelude.{map, filter, not, ◌==◌, nat_le}
-use Rattle.std.specs.List.{Contains, sum_by, list_any}
-use Rattle.std.proofs.lemmas.Bool.{leb-true, le-leb, and_parts, eqb-true, eq-eqb, ne_eqb, cases_eq, cases_Bool, not-true, both_ways, not_from_true, cond-true, cond-false}
-use Rattle.std.proofs.lemmas.List.Sums.{sum-map, sum_by-cons, sum_by_push}
+use Rattle.std.proofs.Common.{◌≡◌, ◌≤◌, ℕ, ◌+◌, List, [], ◌∷◌, ◌++◌, ap, sym, ◌∙◌, refl, subst, cond, arith, Bool, true, false, ◌&&◌, ◌||◌, inl, inr, ◌⊎◌}
+use Rattle.std.specs.Prelude.{map, filter, not, ◌==◌}
+use Rattle.std.specs.List.{sum_by, list_any}
+use Rattle.std.proofs.lemmas.Bool.{leb-true, le-leb, and_parts, ne_eqb, cases_Bool, both_ways, cond-true, cond-false}
+use Rattle.std.proofs.lemmas.List.Sums.{sum-map, sum_by_push}
 use Rattle.callback_orders.specs.declared.callback.Callback.{Callback}
-use Rattle.callback_orders.specs.declared.callback.Callback.TheVariants.{Create}
 use Rattle.callback_orders.specs.declared.callback.Outcome.{Outcome}
 use Rattle.callback_orders.specs.Sequences.{begun, ended, is_outstanding}
 use Rattle.component_state.specs.declared.life.Choice.{Choice}
-use Rattle.component_state.specs.Words.{has}
 use Rattle.journal_core.specs.declared.entry.Entry.{Entry}
-use Rattle.scr_core.specs.declared.command.Command.{Command}
 use Rattle.scr_core.specs.declared.command.Step.{Step}
 use Rattle.scr_core.specs.declared.command.Step.TheVariants.{Command as Commanded, Begin, End, Drained}
 use Rattle.scr_core.specs.declared.instance.Instance.{Instance}
@@ -21,49 +18,11 @@ use Rattle.scr_core.specs.Instances.{is_create, is_activate, is_active, is_activ
 use Rattle.scr_core.specs.Legal.{MayCome, awaits_drain}
 use Rattle.scr_core.specs.Room.{one_if, reserved_for, reserved, needed_by, has_room}
 use Rattle.scr_core.specs.Sound.{IsSound}
-use Rattle.scr_core.specs.Worlds.{World, after, instances_told, instances_by}
+use Rattle.scr_core.specs.Worlds.{World, after, instances_by}
 use Rattle.scr_core.proofs.Begins.{Makes, Tells, begin_is}
-use Rattle.scr_core.proofs.InstanceLemmas.{numbers_apart, begun_cases}
-use Rattle.scr_core.proofs.ListLemmas.{in_first, in_rest, in_cases, in_none, any_to, apart, has_from}
+use Rattle.scr_core.proofs.Instances.{numbers_apart, begun_cases}
+use Rattle.scr_core.proofs.ListLemmas.{sum_falls, sum_filter, sum_one_more, any_to, apart}
 use Rattle.scr_core.proofs.Words.{none_outstanding, activated_begun, activated_ended, active_activated}
-
--- ---- sums over a list whose items change
-
-module _ {X : Type 0} (f : X → ℕ) where
-  sum_no_more : (g : X → X) (xs : List X) → ((x : X) → Contains xs x → f (g x) ≤ f x) → sum_by f (map g xs) ≤ sum_by f xs
-  sum_no_more g [] each = omega arith
-  sum_no_more g (x ∷ xs) each =
-      omega (arith, sum_by-cons f (g x) (map g xs), sum_by-cons f x xs, each x (in_first x xs), sum_no_more g xs (λ y h. each y (in_rest x xs y h)))
-
-  sum_falls : (g : X → X) (xs : List X) → ((x : X) → Contains xs x → f (g x) ≤ f x) → (x : X) → Contains xs x → f (g x) + 1 ≤ f x → sum_by f (map g xs) + 1 ≤ sum_by f xs
-  sum_falls g [] each x h falls = absurd (in_none x h)
-  sum_falls g (y ∷ ys) each x h falls = elim (in_cases y ys x h) [
-    | inl same ↦ (
-        let here : f (g y) + 1 ≤ f y = subst (λ (z : X). f (g z) + 1 ≤ f z) (sym same) falls in
-        omega (arith, sum_by-cons f (g y) (map g ys), sum_by-cons f y ys, here, sum_no_more g ys (λ z k. each z (in_rest y ys z k))))
-    | inr later ↦ omega (arith, sum_by-cons f (g y) (map g ys), sum_by-cons f y ys, each y (in_first y ys), sum_falls g ys (λ z k. each z (in_rest y ys z k)) x later falls)
-  ]
-
-  sum_filter : (p : X → Bool) (xs : List X) → sum_by f (filter p xs) ≤ sum_by f xs
-  sum_filter p [] = omega arith
-  sum_filter p (x ∷ xs) = go (p x) (sum_filter p xs)
-    where
-      go : (b : Bool) → sum_by f (filter p xs) ≤ sum_by f xs → sum_by f (cond b (x ∷ filter p xs) (filter p xs)) ≤ sum_by f (x ∷ xs)
-      go true less = omega (arith, sum_by-cons f x (filter p xs), sum_by-cons f x xs, less)
-      go false less = omega (arith, sum_by-cons f x xs, less)
-
-  -- where each has a number of its own, at most one has this number
-  sum_one_more : (number : X → ℕ) (g : X → X) (n k : ℕ) → ((x : X) → (number x ≡ n → ⊥) → f (g x) ≤ f x) → ((x : X) → f (g x) ≤ f x + k)
-      → (xs : List X) → apart number xs ≡ true → sum_by f (map g xs) ≤ sum_by f xs + k
-  sum_one_more number g n k others one [] each = omega arith
-  sum_one_more number g n k others one (x ∷ xs) each =
-      let parts = and_parts (not (has (map number xs) (number x))) (apart number xs) each in
-      elim (cases_eq (number x) n) [
-        | inl same ↦ (
-            let rest = sum_no_more g xs (λ y h. others y (λ e. both_ways (has (map number xs) (number x)) (not-true (has (map number xs) (number x)) parts.0) (has_from number xs y (number x) h (e ∙ sym same)))) in
-            omega (arith, sum_by-cons f (g x) (map g xs), sum_by-cons f x xs, one x, rest))
-        | inr other ↦ omega (arith, sum_by-cons f (g x) (map g xs), sum_by-cons f x xs, others x other, sum_one_more number g n k others one xs parts.1)
-      ]
 
 reserved_is : (is : List Instance) → reserved is ≡ sum_by reserved_for is
 reserved_is is = sum-map reserved_for is
@@ -90,7 +49,7 @@ module _ (turn instance : ℕ) (callback : Callback) where
   told_one : (i : Instance) → reserved_for (record i { turn = turn; word = i.word ++ begun callback ∷ [] }) ≤ reserved_for i + more
   told_one i =
       let active : one_if (is_activated (i.word ++ begun callback ∷ []) && not i.drained) ≡ one_if ((is_activated i.word || is_activate callback) && not i.drained) =
-          ap (λ b. one_if (b && not i.drained)) (activated_begun i.word callback) in
+      ap (λ b. one_if (b && not i.drained)) (activated_begun i.word callback) in
       omega (arith, at_most_one (is_outstanding (i.word ++ begun callback ∷ [])), active, one_more_activated (is_activated i.word) (is_activate callback) (not i.drained))
 
   told_more : (i : Instance) → reserved_for (told turn instance callback i) ≤ reserved_for i + more
@@ -138,8 +97,13 @@ module _ (turn : ℕ) (outcome : Outcome) (generations : List ℕ) where
   ended_reserved is some =
       let found = any_to (has_turn turn) is some in
       let g = ended_in turn outcome generations in
-      omega (arith, reserved_is is, reserved_is (filter lives_on (map g is)), sum_filter reserved_for lives_on (map g is),
-          sum_falls reserved_for g is (λ i h. ended_others i) found.0 found.1 (ended_one found.0 found.2))
+      omega (
+        arith,
+        reserved_is is,
+        reserved_is (filter lives_on (map g is)),
+        sum_filter reserved_for lives_on (map g is),
+        sum_falls reserved_for g is (λ i h. ended_others i) found.0 found.1 (ended_one found.0 found.2),
+      )
 
 -- ---- at a drain
 
@@ -171,8 +135,12 @@ module _ (instance : ℕ) where
   drained_reserved w some =
       let found = any_to (λ (i : Instance). (i.number == instance) && awaits_drain w i) w.instances some in
       let parts = and_parts (found.0.number == instance) (awaits_drain w found.0) found.2 in
-      omega (arith, reserved_is w.instances, reserved_is (map (drained_in instance) w.instances),
-          sum_falls reserved_for (drained_in instance) w.instances (λ i h. drained_others i) found.0 found.1 (drained_one w found.0 parts.0 parts.1))
+      omega (
+        arith,
+        reserved_is w.instances,
+        reserved_is (map (drained_in instance) w.instances),
+        sum_falls reserved_for (drained_in instance) w.instances (λ i h. drained_others i) found.0 found.1 (drained_one w found.0 parts.0 parts.1),
+      )
 
 -- ---- after a step
 

@@ -1,10 +1,9 @@
 -- The world of every legal journal is sound: the empty one is, before a step a pass may begin, and after its entry it is sound again.
-use Rattle.std.proofs.Common.{◌≡◌, ◌≤◌, ℕ, List, ◌∷◌, ap, sym, ◌∙◌, refl, subst, arith, Bool, true, ◌&&◌}
+use Rattle.std.proofs.Common.{◌≡◌, ℕ, List, ap, sym, ◌∙◌, refl, subst, arith, true, ◌&&◌}
 use Rattle.std.specs.Prelude.{not}
 use Rattle.std.specs.List.{Contains}
 use Rattle.std.proofs.lemmas.Bool.{le-leb}
 use Rattle.component_dto.specs.declared.description.Description.{Description}
-use Rattle.component_state.specs.declared.component.Component.{Component}
 use Rattle.component_state.specs.declared.open_period.OpenPeriod.{OpenPeriod}
 use Rattle.component_state.specs.declared.pass.PassEnd.{PassEnd}
 use Rattle.component_state.specs.Marks.{held_back}
@@ -13,14 +12,14 @@ use Rattle.component_state.specs.Periods.{is_open}
 use Rattle.component_state.specs.Words.{has}
 use Rattle.level_order.specs.Levels.{AreLevels}
 use Rattle.scr_core.specs.declared.command.Step.{Step}
-use Rattle.scr_core.specs.Bundles.{bundles_by, descriptions_of}
+use Rattle.scr_core.specs.Bundles.{bundles_by}
 use Rattle.scr_core.specs.Consequences.{stage_of, stopping}
 use Rattle.scr_core.specs.Legal.{MayCome, IsScratch, Follows}
 use Rattle.scr_core.specs.Levels.{levels_of}
 use Rattle.scr_core.specs.Room.{has_room, needed_by}
 use Rattle.scr_core.specs.Sound.{IsSound, entry_of}
 use Rattle.scr_core.specs.Steps.{History}
-use Rattle.scr_core.specs.Worlds.{World, empty_world, after, world_of, components_by, instances_by, failed_by, lives_of, satisfied_in}
+use Rattle.scr_core.specs.Worlds.{World, empty_world, after, world_of, instances_by, failed_by, lives_of}
 use Rattle.scr_core.proofs.Callbacks.{order_after, instances_after, told_apart_after}
 use Rattle.scr_core.proofs.Components.{numbered_after, came_after, described_after}
 use Rattle.scr_core.proofs.Descriptions.{levels_after, rested_descriptions}
@@ -89,14 +88,16 @@ pub follows : (limit : ℕ) (past : History) (step : Step) (p : PassEnd) → IsS
 follows limit past step p sound may room passed =
     let w = world_of past in
     let s = stage_of step w in
-    let now = sym (open_is w step p passed) in
-    (record {
-      step = may;
-      room = room;
-      closed = passed.closed ∙ ap (closing s) now;
-      opened = passed.opened ∙ ap (λ (o : List OpenPeriod). opened_from s.next (opening_ones s o)) now;
-      stopped = refl;
-      scratch = scratch_after w step p passed;
-      order = order_after limit w sound step may;
-      left = room_after limit w sound (entry_of w step p) may room;
-    }, sound_after limit w step p sound may room passed)
+    let now = sym (open_is w step p passed) in (
+      record {
+        step = may;
+        room = room;
+        closed = passed.closed ∙ ap (closing s) now;
+        opened = passed.opened ∙ ap (λ (o : List OpenPeriod). opened_from s.next (opening_ones s o)) now;
+        stopped = refl;
+        scratch = scratch_after w step p passed;
+        order = order_after limit w sound step may;
+        left = room_after limit w sound (entry_of w step p) may room;
+      },
+      sound_after limit w step p sound may room passed,
+    )

@@ -1,18 +1,18 @@
 -- What an instance's callbacks tell of its life, when one begins and when one ends.
-use Rattle.std.proofs.Common.{◌≡◌, ◌<◌, ℕ, List, [], ◌∷◌, ◌++◌, length, ap, sym, ◌∙◌, refl, Bool, true, false, ◌&&◌, ◌||◌, inl, inr, ◌⊎◌, Option, Some, None}
-use Rattle.std.specs.Prelude.{not, is_none, is_some}
-use Rattle.std.specs.List.{list_any, list_all}
-use Rattle.std.proofs.lemmas.Bool.{or_left, or_right, or_cases, not-true, both_ways}
+use Rattle.std.proofs.Common.{◌≡◌, List, [], ◌∷◌, ◌++◌, length, ap, sym, ◌∙◌, refl, Bool, true, false, ◌&&◌, ◌||◌, inl, inr, ◌⊎◌, Option, Some, None}
+use Rattle.std.specs.Prelude.{not, is_none}
+use Rattle.std.specs.List.{list_any}
+use Rattle.std.proofs.lemmas.Bool.{or_left, or_right, or_cases}
 use Rattle.std.proofs.lemmas.List.Folds.{list_any-append}
 use Rattle.callback_orders.specs.declared.callback.Callback.{Callback}
 use Rattle.callback_orders.specs.declared.callback.Callback.TheVariants.{Create, Bind, Updated, Unbind, Activate, Modified, Deactivate, Destroy}
 use Rattle.callback_orders.specs.declared.callback.Outcome.{Outcome}
 use Rattle.callback_orders.specs.declared.callback.Outcome.TheVariants.{Done, Refused, NoMemory}
 use Rattle.callback_orders.specs.declared.instance_view.Phase.{Phase}
-use Rattle.callback_orders.specs.declared.instance_view.Phase.TheVariants.{Making, Active, Left}
+use Rattle.callback_orders.specs.declared.instance_view.Phase.TheVariants.{Making}
 use Rattle.callback_orders.specs.declared.word.Called.{Called}
 use Rattle.callback_orders.specs.Lives.{phase_by, phase_after, goes_on, is_living}
-use Rattle.callback_orders.specs.Sequences.{begun, done_with, ended, is_failed, is_outstanding}
+use Rattle.callback_orders.specs.Sequences.{begun, ended, is_failed, is_outstanding}
 use Rattle.scr_core.specs.declared.instance.Instance.{Instance}
 use Rattle.scr_core.specs.Instances.{is_activate, is_in_active_phase, is_active, is_activated, ends_life, lives_on}
 
@@ -105,9 +105,9 @@ active_after phase (c ∷ calls) e =
     let here = is_activate c.callback && not (is_failed c.outcome) in
     elim (active_after (phase_by c.callback c.outcome phase) calls e) [
       | inl before ↦ elim (active_by_one c.callback c.outcome phase before) [
-          | inl earlier ↦ inl earlier
-          | inr now ↦ inr (or_left here (is_activated calls) now)
-        ]
+        | inl earlier ↦ inl earlier
+        | inr now ↦ inr (or_left here (is_activated calls) now)
+      ]
       | inr later ↦ inr (or_right here (is_activated calls) later)
     ]
 
