@@ -28,7 +28,7 @@ use Rattle.scr_core.specs.Sound.{IsSound, IsSoundInstance, are_told_apart}
 use Rattle.scr_core.specs.Worlds.{World, components_by, instances_told, instances_by, makes_by}
 use Rattle.scr_core.proofs.Begins.{Makes, Tells, begin_is}
 use Rattle.scr_core.proofs.Components.{numbered_after, kept_after, used_known, same_number_known, same_references}
-use Rattle.scr_core.proofs.Instances.{IsSame, numbers_apart, told_same, ended_same, drained_same, begun_cases}
+use Rattle.scr_core.proofs.InstanceLemmas.{IsSame, numbers_apart, told_same, ended_same, drained_same, begun_cases}
 use Rattle.scr_core.proofs.ListLemmas.{in_cases, in_none, in_filter_from, in_map_from, all_from, has_from, has_to, apart, apart_filter, apart_map, apart_append, apart_same}
 use Rattle.scr_core.proofs.Words.{lives_while, length_ended}
 

@@ -1,5 +1,5 @@
 -- The turn of a due callback that isn't a Create.
-use Rattle.std.proofs.Common.{◌≡◌, ℕ, List, refl, ap, sym, ◌∙◌, Option, Some, None}
+use Rattle.std.proofs.Common.{◌≡◌, refl, ap, sym, ◌∙◌, Some}
 use Rattle.std.specs.Prelude.{option_map, find, ◌==◌}
 use Rattle.callback_orders.specs.declared.due.DueRef.{DueRef}
 use Rattle.callback_orders.specs.declared.due.DueRef.TheVariants.{Create, Bind, Updated, Unbind, Activate, Modified, Deactivate, Destroy}

@@ -20,7 +20,7 @@ use Rattle.scr_core.specs.Room.{one_if, reserved_for, reserved, needed_by, has_r
 use Rattle.scr_core.specs.Sound.{IsSound}
 use Rattle.scr_core.specs.Worlds.{World, after, instances_by}
 use Rattle.scr_core.proofs.Begins.{Makes, Tells, begin_is}
-use Rattle.scr_core.proofs.Instances.{numbers_apart, begun_cases}
+use Rattle.scr_core.proofs.InstanceLemmas.{numbers_apart, begun_cases}
 use Rattle.scr_core.proofs.ListLemmas.{sum_falls, sum_filter, sum_one_more, any_to, apart}
 use Rattle.scr_core.proofs.Words.{none_outstanding, activated_begun, activated_ended, active_activated}
 

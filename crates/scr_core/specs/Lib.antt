@@ -12,6 +12,7 @@ pub mod Replies
 pub mod Legal
 pub mod Readers
 pub mod Calls
+pub mod Quiet
 pub mod Cores
 pub mod Sound
 pub mod Tables

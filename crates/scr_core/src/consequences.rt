@@ -108,8 +108,7 @@ fn has_stopped_after(
 ) -> bool
     ensures { result ≡ has_stopped_after change components.now instances.now bundle.now }
 {
-    is_stopping(state_after(change, bundle))
-        && !is_kept(components, instances, bundle.number)
+    is_stopping(state_after(change, bundle)) && !is_kept(components, instances, bundle.number)
 }
 
 // Active, and ending.
@@ -122,9 +121,7 @@ fn is_draining(open_periods: &[OpenPeriod], instance: &Instance) -> bool
 fn was_draining(before: &[OpenPeriod], instances: &[Instance], number: u64) -> bool
     ensures { result ≡ list_any (λ j. (j.number == number) && is_draining before.now j) instances.now }
 {
-    instances
-        .iter()
-        .any(|instance| instance.number == number && is_draining(before, instance))
+    instances.iter().any(|instance| instance.number == number && is_draining(before, instance))
 }
 
 // The name of an instance's gate. A slot that doesn't fit counts as want of memory.

@@ -77,19 +77,25 @@ fn callback_of(
     Ok(match due {
         DueRef::Create { .. } => Callback::Create,
         DueRef::Bind {
-            reference, service, ..
+            reference,
+            service,
+            ..
         } => Callback::Bind {
             reference: name_at(alloc, references, reference)?,
             service,
         },
         DueRef::Updated {
-            reference, service, ..
+            reference,
+            service,
+            ..
         } => Callback::Updated {
             reference: name_at(alloc, references, reference)?,
             service,
         },
         DueRef::Unbind {
-            reference, service, ..
+            reference,
+            service,
+            ..
         } => Callback::Unbind {
             reference: name_at(alloc, references, reference)?,
             service,

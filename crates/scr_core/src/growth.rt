@@ -1,7 +1,5 @@
 //! An entry at the end of the journal, and the tables after it, or neither.
 ghost use Rattle.std.specs.Prelude.{◌≡◌, ◌<◌, ◌++◌, ◌∷◌, [], IfOk, OnErr, OnOk};
-
-
 ghost use Rattle.scr_core.specs.Growths.{TakesPlan, entry_with};
 
 use crate::bundles::rest;

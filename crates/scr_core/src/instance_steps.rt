@@ -49,7 +49,11 @@ fn copied_call(alloc: Global, called: &Called) -> Result<Called, OutOfMemory>
 }
 
 // The callbacks with one that begins.
-fn calls_with(alloc: Global, calls: &[Called], callback: &Callback) -> Result<List<Called>, OutOfMemory>
+fn calls_with(
+    alloc: Global,
+    calls: &[Called],
+    callback: &Callback,
+) -> Result<List<Called>, OutOfMemory>
     ensures { IfOk result (λ v. v ≡ calls.now ++ begun callback.now ∷ []) }
 {
     let mut found = copied_calls(alloc, calls)?;
@@ -61,7 +65,11 @@ fn calls_with(alloc: Global, calls: &[Called], callback: &Callback) -> Result<Li
 }
 
 // The callbacks with an outcome given to the last one.
-fn ended_calls(alloc: Global, calls: &[Called], outcome: Outcome) -> Result<List<Called>, OutOfMemory>
+fn ended_calls(
+    alloc: Global,
+    calls: &[Called],
+    outcome: Outcome,
+) -> Result<List<Called>, OutOfMemory>
     ensures { IfOk result (λ v. v ≡ ended outcome calls.now) }
 {
     let mut found = copied_calls(alloc, calls)?;
@@ -291,7 +299,11 @@ fn with_outcome(
 }
 
 // The instances after the drain of one is posted.
-pub(crate) fn drained(alloc: Global, instances: &[Instance], number: u64) -> Result<Vec<Instance>, OutOfMemory>
+pub(crate) fn drained(
+    alloc: Global,
+    instances: &[Instance],
+    number: u64,
+) -> Result<Vec<Instance>, OutOfMemory>
     ensures { IfOk result (λ v. v.items ≡ map (drained_in number) instances.now) }
 {
     let mut found = Vec::new(alloc);

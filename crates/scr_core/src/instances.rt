@@ -49,18 +49,14 @@ pub(crate) fn is_active(instance: &Instance) -> bool
 pub(crate) fn has_failed(calls: &[Called]) -> bool
     ensures { result ≡ has_failed calls.now }
 {
-    calls
-        .iter()
-        .any(|called| is_activate(&called.callback) && is_failed(called.outcome))
+    calls.iter().any(|called| is_activate(&called.callback) && is_failed(called.outcome))
 }
 
 // Its Activate is outstanding or ended Done.
 pub(crate) fn is_activated(calls: &[Called]) -> bool
     ensures { result ≡ is_activated calls.now }
 {
-    calls
-        .iter()
-        .any(|called| is_activate(&called.callback) && !is_failed(called.outcome))
+    calls.iter().any(|called| is_activate(&called.callback) && !is_failed(called.outcome))
 }
 
 fn ends_life(called: &Called) -> bool

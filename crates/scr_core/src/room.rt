@@ -36,13 +36,7 @@ pub(crate) fn needed_by(step: &Step) -> u64
 {
     match step {
         Step::Command(_) => 1,
-        Step::Begin { callback, .. } => {
-            if is_activate(callback) {
-                3
-            } else {
-                2
-            }
-        }
+        Step::Begin { callback, .. } => { if is_activate(callback) { 3 } else { 2 } }
         Step::End { .. } | Step::Drained { .. } => 0,
     }
 }

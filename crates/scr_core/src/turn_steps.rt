@@ -68,11 +68,7 @@ pub(crate) fn instances_after(
 }
 
 // The component configurations whose creation or activation ends by a step without success.
-pub(crate) fn failing(
-    alloc: Global,
-    tables: &Tables,
-    step: &Step,
-) -> Result<Vec<u64>, OutOfMemory>
+pub(crate) fn failing(alloc: Global, tables: &Tables, step: &Step) -> Result<Vec<u64>, OutOfMemory>
     ensures { IfOk result (λ v. v.items ≡ failing step.now (world_in tables.now)) }
 {
     match step {
@@ -114,9 +110,7 @@ pub(crate) fn reopening<'a>(
 ) -> Option<&'a Instance>
     ensures { option_copied result ≡ find (λ i. has_turn turn i && becomes_active outcome i) instances.now }
 {
-    instances
-        .iter()
-        .find(|instance| has_turn(turn, instance) && becomes_active(outcome, instance))
+    instances.iter().find(|instance| has_turn(turn, instance) && becomes_active(outcome, instance))
 }
 
 fn with_generation(generations: &mut [u64], slot: u64, generation: u64)

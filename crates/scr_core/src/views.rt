@@ -69,9 +69,7 @@ fn desired_for(
 fn is_ready(instances: &[Instance], service: u64) -> bool
     ensures { result ≡ is_ready instances.now service }
 {
-    instances
-        .iter()
-        .any(|instance| instance.service == service && is_active(instance))
+    instances.iter().any(|instance| instance.service == service && is_active(instance))
 }
 
 // The services of which these are the numbers, each with whether it is ready.
@@ -144,7 +142,10 @@ fn holds_for(
     ensures { IfOk result (λ b. b ≡ list_any (λ r. has (held_for r.name instance.now.word) service) references.now) }
 {
     for reference in references {
-        if has(&held_for(alloc, &reference.name, instance.word.as_slice())?, service) {
+        if has(
+            &held_for(alloc, &reference.name, instance.word.as_slice())?,
+            service,
+        ) {
             return Ok(true);
         }
     }
