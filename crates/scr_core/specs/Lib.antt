@@ -16,6 +16,7 @@ pub mod Quiet
 pub mod Cores
 pub mod Sound
 pub mod Tables
+pub mod TurnSteps
 pub mod Plans
 pub mod Growths
 pub mod Reopenings

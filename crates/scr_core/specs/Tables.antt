@@ -1,10 +1,14 @@
 -- The tables of a core, as the world that they say.
-use Rattle.std.specs.Prelude.{◌≡◌, ℕ}
+use Rattle.std.specs.Prelude.{◌≡◌, ℕ, List}
+use Rattle.journal_core.specs.declared.entry.Entry.{Entry}
+use Rattle.scr_core.specs.declared.command.Step.{Step}
 use Rattle.scr_core.specs.declared.tables.Tables.{Tables}
 use Rattle.scr_core.specs.Bundles.{descriptions_of}
 use Rattle.scr_core.specs.Levels.{levels_of}
+use Rattle.scr_core.specs.Legal.{IsLegal}
 use Rattle.scr_core.specs.Sound.{IsSound}
-use Rattle.scr_core.specs.Worlds.{World, satisfied_in}
+use Rattle.scr_core.specs.Steps.{history_of}
+use Rattle.scr_core.specs.Worlds.{World, satisfied_in, world_of}
 
 -- the world that the tables say
 abbrev pub world_in : Tables → World
@@ -28,3 +32,9 @@ pub record AreTables (limit : ℕ) (t : Tables) : Type 0 where
   pub levels : t.levels ≡ levels_of t.descriptions.items
   pub satisfied : t.satisfied ≡ satisfied_in (world_in t)
   pub sound : IsSound limit (world_in t)
+
+-- the tables of a core are what its journal says, and the journal is legal
+pub record Keeps (limit : ℕ) (journal : List (Entry Step)) (t : Tables) : Type 0 where
+  pub world : world_in t ≡ world_of (history_of journal)
+  pub tables : AreTables limit t
+  pub legal : IsLegal limit (history_of journal)

@@ -112,7 +112,7 @@ fn has_stopped_after(
 }
 
 // Active, and ending.
-fn is_draining(open_periods: &[OpenPeriod], instance: &Instance) -> bool
+pub(crate) fn is_draining(open_periods: &[OpenPeriod], instance: &Instance) -> bool
     ensures { result ≡ is_draining open_periods.now instance.now }
 {
     is_active(instance) && is_ending(open_periods, instance)

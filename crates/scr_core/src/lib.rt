@@ -18,10 +18,14 @@ mod instances;
 mod plan;
 mod room;
 mod tables;
+mod turn;
+mod turn_growth;
 mod turn_steps;
+mod turns;
 mod views;
 
 pub use bundles::{Bundle, BundleState};
 pub use command::{Accepted, Command, CoreFault, Limits, Reply, Step};
 pub use component_rows::ComponentLine;
 pub use instance::Instance;
+pub use turn::{Ended, Taken, Turn};

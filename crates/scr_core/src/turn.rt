@@ -1,0 +1,55 @@
+//! Turns that are taken and ended.
+
+use journal_core::GateKey;
+use prop_map::List;
+use std::marker::Model;
+use turn_runner::TurnWork;
+
+/// Stands for a turn that was taken and not ended yet. Contracts see its number. It is made by [`crate::Core::take_turn`] alone.
+#[derive(Debug, Drop)]
+pub struct Turn {
+    number: u64,
+}
+
+impl Model for Turn {
+    ghost use Rattle.std.specs.Prelude.{ℕ};
+
+    ghost Value = { ℕ };
+
+    ghost view = { λ t. t.number };
+}
+
+impl Turn {
+    ghost use Rattle.std.specs.Prelude.{◌≡◌};
+
+    pub(crate) fn new(number: u64) -> Turn
+        ensures { result ≡ number }
+    {
+        Turn { number }
+    }
+
+    /// The number of the turn.
+    pub fn number(&self) -> u64
+        ensures { result ≡ self.now }
+    {
+        self.number
+    }
+}
+
+/// What taking a turn answers.
+#[derive(Drop)]
+pub enum Taken {
+    /// The first due turn, which has begun.
+    Turn(Turn, TurnWork),
+    /// Nothing is due.
+    Idle,
+}
+
+/// What the end of a turn answers.
+#[derive(Debug, PartialEq, Eq, Drop)]
+pub struct Ended {
+    /// The gates of the instances that are active and began to end, by instance.
+    pub shut: List<GateKey>,
+    /// The gate of the instance that became active, which is reopened before any gate is shut.
+    pub reopened: Option<GateKey>,
+}
