@@ -1,0 +1,138 @@
+-- The tables after a command that changes something.
+use Rattle.std.proofs.Common.{◌≡◌, ◌<◌, ℕ, ◌+◌, List, [], ◌∷◌, ◌++◌, ap, sym, ◌∙◌, refl, subst, cond, Option, Some, None, arith, true, false, Bool, ◌&&◌, append-nil}
+use Rattle.std.specs.Prelude.{map, filter, not, ◌==◌}
+use Rattle.std.specs.List.{list_any}
+use Rattle.std.proofs.lemmas.List.{map-append}
+use Rattle.std.proofs.lemmas.List.Elements.{filter-append}
+use Rattle.bundle_doc.specs.declared.document.BundleDoc.{BundleDoc}
+use Rattle.component_dto.specs.declared.description.Description.{Description}
+use Rattle.component_state.specs.declared.component.Component.{Component}
+use Rattle.component_state.specs.declared.open_period.OpenPeriod.{OpenPeriod}
+use Rattle.component_state.specs.Passes.{HasPassed, IsReady}
+use Rattle.journal_core.specs.declared.entry.Entry.{Entry}
+use Rattle.scr_core.specs.declared.bundles.Bundle.{Bundle}
+use Rattle.scr_core.specs.declared.bundles.BundleState.{BundleState}
+use Rattle.scr_core.specs.declared.bundles.BundleState.TheVariants.{Installed}
+use Rattle.scr_core.specs.declared.command.Command.{Command}
+use Rattle.scr_core.specs.declared.command.Command.TheVariants.{Install}
+use Rattle.scr_core.specs.declared.command.Step.{Step}
+use Rattle.scr_core.specs.declared.command.Step.TheVariants.{Command as Commanded}
+use Rattle.scr_core.specs.declared.instance.Instance.{Instance}
+use Rattle.scr_core.specs.declared.plan.Plan.{Plan}
+use Rattle.scr_core.specs.declared.tables.Tables.{Tables}
+use Rattle.scr_core.specs.Bundles.{bundles_by, come_to_rest, descriptions_of, is_stopping, with_state}
+use Rattle.scr_core.specs.Calls.{Grown, world_at}
+use Rattle.scr_core.specs.Consequences.{has_stopped, keeps_bundle, shut_between, stage_of, stopping}
+use Rattle.scr_core.specs.Growths.{entry_with}
+use Rattle.scr_core.specs.Legal.{MayCome}
+use Rattle.scr_core.specs.Levels.{levels_of}
+use Rattle.scr_core.specs.Plans.{IsPlan, plan_stage}
+use Rattle.scr_core.specs.Room.{has_room}
+use Rattle.scr_core.specs.Shutting.{has_stopped_after, stopping_by}
+use Rattle.scr_core.specs.Sound.{entry_of}
+use Rattle.scr_core.specs.Tables.{AreTables, Keeps, world_in}
+use Rattle.scr_core.specs.Worlds.{World, after, coming_by, components_by, failed_by}
+use Rattle.scr_core.proofs.Ends.{services_is}
+use Rattle.scr_core.proofs.Keeping.{plan_ready, passed, failed_is, stopped_is, open_then, kept, grown, shut_now}
+use Rattle.scr_core.proofs.Turning.{world_eq}
+
+-- ---- the bundles that stop with a command
+
+has_stopped_then : (cs : List Component) (is : List Instance) (n : ℕ) (s : BundleState) (b : Bundle) → has_stopped cs is (with_state n s b) ≡ has_stopped_after (Some (n, s)) cs is b
+has_stopped_then cs is n s b = go (b.number == n)
+  where
+    go : (e : Bool) → has_stopped cs is (cond e (record b { state = s }) b) ≡ (is_stopping (cond e s b.state) && not (list_any (keeps_bundle cs b.number) is))
+    go true = refl
+    go false = refl
+
+same_number : (n : ℕ) (s : BundleState) (b : Bundle) → (with_state n s b).number ≡ b.number
+same_number n s b = go (b.number == n)
+  where
+    go : (e : Bool) → (cond e (record b { state = s }) b).number ≡ b.number
+    go true = refl
+    go false = refl
+
+pub stops_then : (cs : List Component) (is : List Instance) (n : ℕ) (s : BundleState) (bs : List Bundle)
+    → stopping_by (Some (n, s)) cs is bs ≡ map (λ (b : Bundle). b.number) (filter (has_stopped cs is) (map (with_state n s) bs))
+stops_then cs is n s [] = refl
+stops_then cs is n s (b ∷ bs) =
+    rw (has_stopped_then cs is n s b) (go (has_stopped_after (Some (n, s)) cs is b) (stops_then cs is n s bs))
+  where
+    go : (e : Bool) → stopping_by (Some (n, s)) cs is bs ≡ map (λ (x : Bundle). x.number) (filter (has_stopped cs is) (map (with_state n s) bs))
+        → map (λ (x : Bundle). x.number) (cond e (b ∷ filter (has_stopped_after (Some (n, s)) cs is) bs) (filter (has_stopped_after (Some (n, s)) cs is) bs))
+        ≡ map (λ (x : Bundle). x.number) (cond e (with_state n s b ∷ filter (has_stopped cs is) (map (with_state n s) bs)) (filter (has_stopped cs is) (map (with_state n s) bs)))
+    go true later = ap (λ m. m ∷ stopping_by (Some (n, s)) cs is bs) (sym (same_number n s b)) ∙ ap (λ rest. (with_state n s b).number ∷ rest) later
+    go false later = later
+
+pub stops_installed : (cs : List Component) (is : List Instance) (bs : List Bundle) (b : Bundle) → b.state ≡ Installed → stopping_by None cs is bs ≡ map (λ (x : Bundle). x.number) (filter (has_stopped cs is) (bs ++ b ∷ []))
+stops_installed cs is bs b installed =
+    let none : has_stopped cs is b ≡ false = ap (λ s. is_stopping s && not (list_any (keeps_bundle cs b.number) is)) installed in
+    let one : filter (has_stopped cs is) (b ∷ []) ≡ [] = rw none refl in
+    ap (map (λ (x : Bundle). x.number)) (sym (filter-append (has_stopped cs is) bs (b ∷ []) ∙ ap (λ (xs : List Bundle). filter (has_stopped cs is) bs ++ xs) one ∙ append-nil (filter (has_stopped cs is) bs)))
+
+-- ---- the tables after it
+
+same_suc : (a b : ℕ) → a + 1 ≡ b + 1 → a ≡ b
+same_suc a b same = omega (arith, same)
+
+-- the tables after a command with its plan
+pub record IsCommanded (t new : Tables) (step : Step) (p : Plan) (ds : List Description) (ls : List ℕ) : Type 0 where
+  pub length : new.length ≡ t.length + 1
+  pub bundles : new.bundles.items ≡ map (come_to_rest p.stopped) (bundles_by step t.bundles.items)
+  pub descriptions : new.descriptions.items ≡ ds
+  pub levels : new.levels ≡ ls
+  pub components : new.components.items ≡ components_by step (world_in t)
+  pub came : new.came ≡ t.came + coming_by step (world_in t)
+  pub open_ones : new.open_periods ≡ p.pass.open
+  pub failed : new.failed ≡ p.failed
+  pub satisfied : new.satisfied ≡ p.pass.satisfied
+  pub instances : new.instances ≡ t.instances
+  pub made : new.made ≡ t.made
+  pub turns : new.turns ≡ t.turns
+  pub services : new.services + 1 ≡ p.pass.next_service
+  pub generations : new.generations ≡ t.generations
+
+plus_zero : (n m : ℕ) → n ≡ m → n ≡ m + 0
+plus_zero n m same = omega (arith, same)
+
+module _ (limit : ℕ) (t : Tables) (command : Command) (journal : List (Entry Step)) (keeps : Keeps limit journal t) (may : MayCome limit (world_in t) (Commanded command))
+    (ds : List Description) (ds_are : ds ≡ descriptions_of (bundles_by (Commanded command) t.bundles.items)) (ls : List ℕ) (ls_are : ls ≡ levels_of ds) (cs : List Component)
+    (cs_are : cs ≡ components_by (Commanded command) (world_in t)) (is : List Instance) (is_is : is ≡ t.instances.items) (fs : List ℕ) (fs_is : fs ≡ []) where
+  pub command_ready : IsReady (plan_stage t ds ls cs is fs)
+  command_ready = plan_ready limit t keeps.tables (Commanded command) may ds ls cs is fs ds_are ls_are cs_are is_is fs_is
+
+  module _ (room : has_room limit (world_in t) 1 ≡ true) (change : Option (ℕ × BundleState)) (stops : stopping_by change cs is t.bundles.items ≡ stopping (Commanded command) (world_in t)) (p : Plan)
+      (plan : IsPlan t change ds ls cs is fs p) where
+    its_pass : HasPassed (stage_of (Commanded command) (world_in t)) p.pass
+    its_pass = passed limit t keeps.tables (Commanded command) may ds ls cs is fs ds_are ls_are cs_are is_is fs_is room change stops p plan
+
+    pub next_low : 0 < p.pass.next_service
+    next_low = let more = services_is (world_in t) (Commanded command) p.pass its_pass in omega (arith, more)
+
+    module _ (journal' : List (Entry Step)) (grew : journal' ≡ journal ++ entry_with (Commanded command) p ∷ []) (new : Tables) (made_so : IsCommanded t new (Commanded command) p ds ls) where
+      world_then : world_in new ≡ after (entry_of (world_in t) (Commanded command) p.pass) (world_in t)
+      world_then =
+          world_eq (world_in new) (after (entry_of (world_in t) (Commanded command) p.pass) (world_in t)) made_so.length
+          (made_so.bundles
+          ∙ ap (λ ns. map (come_to_rest ns) (bundles_by (Commanded command) t.bundles.items)) (stopped_is limit t keeps.tables (Commanded command) may ds ls cs is fs ds_are ls_are cs_are is_is fs_is room change stops p plan))
+          made_so.components
+          made_so.came
+          (made_so.open_ones ∙ sym (open_then limit t keeps.tables (Commanded command) may ds ls cs is fs ds_are ls_are cs_are is_is fs_is room change stops p plan))
+          (made_so.failed ∙ failed_is limit t keeps.tables (Commanded command) may ds ls cs is fs ds_are ls_are cs_are is_is fs_is room change stops p plan)
+          (ap (λ v. v.items) made_so.instances)
+          (plus_zero new.made t.made made_so.made)
+          (plus_zero new.turns t.turns made_so.turns)
+          (same_suc new.services _ (made_so.services ∙ sym (services_is (world_in t) (Commanded command) p.pass its_pass)))
+          (ap (λ v. v.items) made_so.generations)
+
+      pub command_kept : Keeps limit journal' new
+      command_kept =
+          kept limit t keeps.tables (Commanded command) may ds ls cs is fs ds_are ls_are cs_are is_is fs_is room change stops p plan journal journal' new keeps grew world_then made_so.descriptions made_so.levels made_so.satisfied
+
+      pub command_grown : Grown limit journal (Commanded command) journal'
+      command_grown =
+          grown limit t keeps.tables (Commanded command) may ds ls cs is fs ds_are ls_are cs_are is_is fs_is room change stops p plan journal journal' new keeps grew world_then made_so.descriptions made_so.levels made_so.satisfied
+
+      pub command_shut : p.shut ≡ shut_between (world_at journal) (world_at journal')
+      command_shut =
+          shut_now limit t keeps.tables (Commanded command) may ds ls cs is fs ds_are ls_are cs_are is_is fs_is room change stops p plan journal journal' new keeps grew world_then made_so.descriptions made_so.levels made_so.satisfied
