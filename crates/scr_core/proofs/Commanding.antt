@@ -1,5 +1,5 @@
 -- The tables after a command that changes something.
-use Rattle.std.proofs.Common.{◌≡◌, ◌<◌, ℕ, ◌+◌, List, [], ◌∷◌, ◌++◌, ap, sym, ◌∙◌, refl, subst, cond, Option, Some, None, arith, true, false, Bool, ◌&&◌, append-nil}
+use Rattle.std.proofs.Common.{◌≡◌, ◌<◌, ℕ, ◌+◌, List, [], ◌∷◌, ◌++◌, ap, sym, ◌∙◌, refl, subst, cond, Option, Some, None, arith, true, false, Bool, ◌&&◌, length, append-nil}
 use Rattle.std.specs.Prelude.{map, filter, not, ◌==◌}
 use Rattle.std.specs.List.{list_any}
 use Rattle.std.proofs.lemmas.List.{map-append}
@@ -12,9 +12,9 @@ use Rattle.component_state.specs.Passes.{HasPassed, IsReady}
 use Rattle.journal_core.specs.declared.entry.Entry.{Entry}
 use Rattle.scr_core.specs.declared.bundles.Bundle.{Bundle}
 use Rattle.scr_core.specs.declared.bundles.BundleState.{BundleState}
-use Rattle.scr_core.specs.declared.bundles.BundleState.TheVariants.{Installed}
+use Rattle.scr_core.specs.declared.bundles.BundleState.TheVariants.{Installed, Stopping, Active}
 use Rattle.scr_core.specs.declared.command.Command.{Command}
-use Rattle.scr_core.specs.declared.command.Command.TheVariants.{Install}
+use Rattle.scr_core.specs.declared.command.Command.TheVariants.{Install, Start, Stop}
 use Rattle.scr_core.specs.declared.command.Step.{Step}
 use Rattle.scr_core.specs.declared.command.Step.TheVariants.{Command as Commanded}
 use Rattle.scr_core.specs.declared.instance.Instance.{Instance}
@@ -23,15 +23,20 @@ use Rattle.scr_core.specs.declared.tables.Tables.{Tables}
 use Rattle.scr_core.specs.Bundles.{bundles_by, come_to_rest, descriptions_of, is_stopping, with_state}
 use Rattle.scr_core.specs.Calls.{Grown, world_at}
 use Rattle.scr_core.specs.Consequences.{has_stopped, keeps_bundle, shut_between, stage_of, stopping}
-use Rattle.scr_core.specs.Growths.{entry_with}
+use Rattle.scr_core.specs.Changes.{GivesState}
+use Rattle.scr_core.specs.declared.growth.Aftermath.{Aftermath}
+use Rattle.scr_core.specs.Growths.{IsAftermath, TakesOver, entry_with}
 use Rattle.scr_core.specs.Legal.{MayCome}
+use Rattle.level_order.specs.Levels.{AreLevels}
 use Rattle.scr_core.specs.Levels.{levels_of}
 use Rattle.scr_core.specs.Plans.{IsPlan, plan_stage}
 use Rattle.scr_core.specs.Room.{has_room}
 use Rattle.scr_core.specs.Shutting.{has_stopped_after, stopping_by}
-use Rattle.scr_core.specs.Sound.{entry_of}
+use Rattle.scr_core.specs.Sound.{IsSound, entry_of}
 use Rattle.scr_core.specs.Tables.{AreTables, Keeps, world_in}
-use Rattle.scr_core.specs.Worlds.{World, after, coming_by, components_by, failed_by}
+use Rattle.scr_core.specs.Worlds.{World, after, coming_by, components_by, failed_by, instances_by, satisfied_in}
+use Rattle.scr_core.proofs.Descriptions.{installed_descriptions, state_descriptions}
+use Rattle.scr_core.proofs.LevelsOf.{levels_are}
 use Rattle.scr_core.proofs.Ends.{services_is}
 use Rattle.scr_core.proofs.Keeping.{plan_ready, passed, failed_is, stopped_is, open_then, kept, grown, shut_now}
 use Rattle.scr_core.proofs.Turning.{world_eq}
@@ -136,3 +141,137 @@ module _ (limit : ℕ) (t : Tables) (command : Command) (journal : List (Entry S
       pub command_shut : p.shut ≡ shut_between (world_at journal) (world_at journal')
       command_shut =
           shut_now limit t keeps.tables (Commanded command) may ds ls cs is fs ds_are ls_are cs_are is_is fs_is room change stops p plan journal journal' new keeps grew world_then made_so.descriptions made_so.levels made_so.satisfied
+
+-- ---- a command that gives a bundle another state
+
+gives_bundles : (command : Command) (n : ℕ) (s : BundleState) → GivesState command n s → (bs : List Bundle) → bundles_by (Commanded command) bs ≡ map (with_state n s) bs
+gives_bundles (Install doc) n s gives bs = absurd gives
+gives_bundles (Start b) n s gives bs = ap (λ m. map (with_state m Active) bs) (sym gives.0) ∙ ap (λ x. map (with_state n x) bs) (sym gives.1)
+gives_bundles (Stop b) n s gives bs = ap (λ m. map (with_state m Stopping) bs) (sym gives.0) ∙ ap (λ x. map (with_state n x) bs) (sym gives.1)
+
+gives_instances : (command : Command) (w : World) → instances_by (Commanded command) w ≡ w.instances
+gives_instances command w = refl
+
+module _ (limit : ℕ) (t : Tables) (command : Command) (n : ℕ) (s : BundleState) (gives : GivesState command n s) (journal : List (Entry Step)) (keeps : Keeps limit journal t) (may : MayCome limit (world_in t) (Commanded command))
+    (ds : List Description) (ds_is : ds ≡ t.descriptions.items) (ls : List ℕ) (ls_is : ls ≡ t.levels) (cs : List Component) (cs_are : cs ≡ components_by (Commanded command) (world_in t))
+    (is : List Instance) (is_is : is ≡ t.instances.items) where
+  change_ds : ds ≡ descriptions_of (bundles_by (Commanded command) t.bundles.items)
+  change_ds = ds_is ∙ keeps.tables.descriptions ∙ sym (state_descriptions n s t.bundles.items) ∙ ap descriptions_of (sym (gives_bundles command n s gives t.bundles.items))
+
+  change_ls : ls ≡ levels_of ds
+  change_ls = ls_is ∙ keeps.tables.levels ∙ ap levels_of (sym ds_is)
+
+  pub change_ready : IsReady (plan_stage t ds ls cs is [])
+  change_ready = command_ready limit t command journal keeps may ds change_ds ls change_ls cs cs_are is is_is [] refl
+
+  module _ (room : has_room limit (world_in t) 1 ≡ true) (p : Plan) (plan : IsPlan t (Some (n, s)) ds ls cs is [] p) where
+    change_stops : stopping_by (Some (n, s)) cs is t.bundles.items ≡ stopping (Commanded command) (world_in t)
+    change_stops =
+        stops_then cs is n s t.bundles.items
+        ∙ ap (λ (bs : List Bundle). map (λ (b : Bundle). b.number) (filter (has_stopped cs is) bs)) (sym (gives_bundles command n s gives t.bundles.items))
+        ∙ ap (λ (x : List Component). map (λ (b : Bundle). b.number) (filter (has_stopped x is) (bundles_by (Commanded command) t.bundles.items))) cs_are
+        ∙ ap (λ (x : List Instance). map (λ (b : Bundle). b.number) (filter (has_stopped (components_by (Commanded command) (world_in t)) x) (bundles_by (Commanded command) t.bundles.items))) is_is
+
+    pub change_low : 0 < p.pass.next_service
+    change_low = next_low limit t command journal keeps may ds change_ds ls change_ls cs cs_are is is_is [] refl room (Some (n, s)) change_stops p plan
+
+    module _ (journal' : List (Entry Step)) (grew : journal' ≡ journal ++ entry_with (Commanded command) p ∷ []) (a : Aftermath) (left : IsAftermath t.length p a) (mid : Tables)
+        (mid_bundles : mid.bundles.items ≡ map (with_state n s) t.bundles.items) (mid_is : mid ≡ record t { bundles = mid.bundles }) (over new : Tables) (takes : TakesOver mid over a) (came : ℕ)
+        (came_is : came ≡ t.came + coming_by (Commanded command) (world_in t)) (new_is : new ≡ record over { components = new.components; came = came }) (new_components : new.components.items ≡ cs) where
+      made_so : IsCommanded t new (Commanded command) p ds ls
+      made_so = record {
+        length = ap (λ (x : Tables). x.length) new_is ∙ takes.length ∙ left.length_is;
+        bundles = ap (λ (x : Tables). x.bundles.items) new_is ∙ takes.bundles ∙ ap (λ ns. map (come_to_rest ns) mid.bundles.items) left.stopped
+            ∙ ap (map (come_to_rest p.stopped)) (mid_bundles ∙ sym (gives_bundles command n s gives t.bundles.items));
+        descriptions = ap (λ (x : Tables). x.descriptions.items) new_is ∙ ap (λ v. v.items) takes.descriptions ∙ ap (λ (x : Tables). x.descriptions.items) mid_is ∙ sym ds_is;
+        levels = ap (λ (x : Tables). x.levels) new_is ∙ takes.levels ∙ ap (λ (x : Tables). x.levels) mid_is ∙ sym ls_is;
+        components = new_components ∙ cs_are;
+        came = ap (λ (x : Tables). x.came) new_is ∙ came_is;
+        open_ones = ap (λ (x : Tables). x.open_periods) new_is ∙ takes.open_ones ∙ left.open_ones;
+        failed = ap (λ (x : Tables). x.failed) new_is ∙ takes.failed ∙ left.failed;
+        satisfied = ap (λ (x : Tables). x.satisfied) new_is ∙ takes.satisfied ∙ left.satisfied;
+        instances = ap (λ (x : Tables). x.instances) new_is ∙ takes.instances ∙ ap (λ (x : Tables). x.instances) mid_is;
+        made = ap (λ (x : Tables). x.made) new_is ∙ takes.made ∙ ap (λ (x : Tables). x.made) mid_is;
+        turns = ap (λ (x : Tables). x.turns) new_is ∙ takes.turns ∙ ap (λ (x : Tables). x.turns) mid_is;
+        services = ap (λ (x : Tables). x.services + 1) new_is ∙ ap (λ m. m + 1) takes.services ∙ left.services;
+        generations = ap (λ (x : Tables). x.generations) new_is ∙ takes.generations ∙ ap (λ (x : Tables). x.generations) mid_is;
+      }
+
+      pub change_kept : Keeps limit journal' new
+      change_kept = command_kept limit t command journal keeps may ds change_ds ls change_ls cs cs_are is is_is [] refl room (Some (n, s)) change_stops p plan journal' grew new made_so
+
+      pub change_grown : Grown limit journal (Commanded command) journal'
+      change_grown = command_grown limit t command journal keeps may ds change_ds ls change_ls cs cs_are is is_is [] refl room (Some (n, s)) change_stops p plan journal' grew new made_so
+
+      pub change_shut : p.shut ≡ shut_between (world_at journal) (world_at journal')
+      change_shut = command_shut limit t command journal keeps may ds change_ds ls change_ls cs cs_are is is_is [] refl room (Some (n, s)) change_stops p plan journal' grew new made_so
+
+-- ---- an install
+
+-- bundles in other memory change nothing
+pub keeps_same : (limit : ℕ) (journal : List (Entry Step)) (t new : Tables) → Keeps limit journal t → new ≡ record t { bundles = new.bundles } → new.bundles.items ≡ t.bundles.items → Keeps limit journal new
+keeps_same limit journal t new keeps others same =
+    let world : world_in new ≡ world_in t = ap (λ (x : Tables). world_in x) others ∙ ap (λ (bs : List Bundle). record (world_in t) { bundles = bs }) same in
+    let k = keeps.tables in
+    record {
+      world = world ∙ keeps.world;
+      tables = record {
+        descriptions = ap (λ (x : Tables). x.descriptions.items) others ∙ k.descriptions ∙ ap descriptions_of (sym same);
+        levels = ap (λ (x : Tables). x.levels) others ∙ k.levels ∙ ap (λ (x : Tables). levels_of x.descriptions.items) (sym others);
+        satisfied = ap (λ (x : Tables). x.satisfied) others ∙ k.satisfied ∙ ap satisfied_in (sym world);
+        sound = subst (λ (x : World). IsSound limit x) (sym world) k.sound;
+      };
+      legal = keeps.legal;
+    }
+
+module _ (limit : ℕ) (t : Tables) (doc : BundleDoc) (journal : List (Entry Step)) (keeps : Keeps limit journal t) (may : MayCome limit (world_in t) (Commanded (Install doc)))
+    (ds : List Description) (ds_is : ds ≡ t.descriptions.items ++ doc.descriptions) (ls : List ℕ) (are : AreLevels ds ls) (cs : List Component) (cs_is : cs ≡ t.components.items)
+    (is : List Instance) (is_is : is ≡ t.instances.items) where
+  install_ds : ds ≡ descriptions_of (bundles_by (Commanded (Install doc)) t.bundles.items)
+  install_ds =
+      ds_is ∙ ap (λ (x : List Description). x ++ doc.descriptions) keeps.tables.descriptions
+      ∙ sym (installed_descriptions t.bundles.items (record { number = length t.bundles.items + 1; state = Installed; document = doc }))
+
+  pub install_ready : IsReady (plan_stage t ds ls cs is [])
+  install_ready = command_ready limit t (Install doc) journal keeps may ds install_ds ls (levels_are ds ls are) cs cs_is is is_is [] refl
+
+  module _ (room : has_room limit (world_in t) 1 ≡ true) (p : Plan) (plan : IsPlan t None ds ls cs is [] p) where
+    install_stops : stopping_by None cs is t.bundles.items ≡ stopping (Commanded (Install doc)) (world_in t)
+    install_stops =
+        stops_installed cs is t.bundles.items (record { number = length t.bundles.items + 1; state = Installed; document = doc }) refl
+        ∙ ap (λ (x : List Component). map (λ (b : Bundle). b.number) (filter (has_stopped x is) (bundles_by (Commanded (Install doc)) t.bundles.items))) cs_is
+        ∙ ap (λ (x : List Instance). map (λ (b : Bundle). b.number) (filter (has_stopped t.components.items x) (bundles_by (Commanded (Install doc)) t.bundles.items))) is_is
+
+    pub install_low : 0 < p.pass.next_service
+    install_low = next_low limit t (Install doc) journal keeps may ds install_ds ls (levels_are ds ls are) cs cs_is is is_is [] refl room None install_stops p plan
+
+    module _ (journal' : List (Entry Step)) (grew : journal' ≡ journal ++ entry_with (Commanded (Install doc)) p ∷ []) (a : Aftermath) (left : IsAftermath t.length p a) (b : Bundle)
+        (b_is : b ≡ record { number = length t.bundles.items + 1; state = Installed; document = doc }) (mid : Tables) (mid_bundles : mid.bundles.items ≡ t.bundles.items ++ b ∷ [])
+        (mid_is : mid ≡ record t { bundles = mid.bundles }) (over new : Tables) (takes : TakesOver mid over a) (new_is : new ≡ record over { descriptions = new.descriptions; levels = ls }) (new_ds : new.descriptions.items ≡ ds) where
+      installed_so : IsCommanded t new (Commanded (Install doc)) p ds ls
+      installed_so = record {
+        length = ap (λ (x : Tables). x.length) new_is ∙ takes.length ∙ left.length_is;
+        bundles = ap (λ (x : Tables). x.bundles.items) new_is ∙ takes.bundles ∙ ap (λ ns. map (come_to_rest ns) mid.bundles.items) left.stopped
+            ∙ ap (map (come_to_rest p.stopped)) (mid_bundles ∙ ap (λ (x : Bundle). t.bundles.items ++ x ∷ []) b_is);
+        descriptions = new_ds;
+        levels = ap (λ (x : Tables). x.levels) new_is;
+        components = ap (λ (x : Tables). x.components.items) new_is ∙ ap (λ v. v.items) takes.components ∙ ap (λ (x : Tables). x.components.items) mid_is;
+        came = plus_zero new.came t.came (ap (λ (x : Tables). x.came) new_is ∙ takes.came ∙ ap (λ (x : Tables). x.came) mid_is);
+        open_ones = ap (λ (x : Tables). x.open_periods) new_is ∙ takes.open_ones ∙ left.open_ones;
+        failed = ap (λ (x : Tables). x.failed) new_is ∙ takes.failed ∙ left.failed;
+        satisfied = ap (λ (x : Tables). x.satisfied) new_is ∙ takes.satisfied ∙ left.satisfied;
+        instances = ap (λ (x : Tables). x.instances) new_is ∙ takes.instances ∙ ap (λ (x : Tables). x.instances) mid_is;
+        made = ap (λ (x : Tables). x.made) new_is ∙ takes.made ∙ ap (λ (x : Tables). x.made) mid_is;
+        turns = ap (λ (x : Tables). x.turns) new_is ∙ takes.turns ∙ ap (λ (x : Tables). x.turns) mid_is;
+        services = ap (λ (x : Tables). x.services + 1) new_is ∙ ap (λ m. m + 1) takes.services ∙ left.services;
+        generations = ap (λ (x : Tables). x.generations) new_is ∙ takes.generations ∙ ap (λ (x : Tables). x.generations) mid_is;
+      }
+
+      pub install_kept : Keeps limit journal' new
+      install_kept = command_kept limit t (Install doc) journal keeps may ds install_ds ls (levels_are ds ls are) cs cs_is is is_is [] refl room None install_stops p plan journal' grew new installed_so
+
+      pub install_grown : Grown limit journal (Commanded (Install doc)) journal'
+      install_grown = command_grown limit t (Install doc) journal keeps may ds install_ds ls (levels_are ds ls are) cs cs_is is is_is [] refl room None install_stops p plan journal' grew new installed_so
+
+      pub install_shut : p.shut ≡ shut_between (world_at journal) (world_at journal')
+      install_shut = command_shut limit t (Install doc) journal keeps may ds install_ds ls (levels_are ds ls are) cs cs_is is is_is [] refl room None install_stops p plan journal' grew new installed_so

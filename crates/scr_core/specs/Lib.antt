@@ -19,5 +19,6 @@ pub mod Tables
 pub mod TurnSteps
 pub mod Plans
 pub mod Growths
+pub mod Changes
 pub mod Reopenings
 pub mod Shutting

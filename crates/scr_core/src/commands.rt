@@ -1,1 +1,149 @@
 //! Commands (OSGi Core 8, life cycle layer).
+ghost use Rattle.std.specs.Prelude.{◌≡◌, ◌==◌, ◌+◌, ◌++◌, [], false, true, IfOk, MatchOption, Some, None, find, filter, length, map, option_map};
+ghost use Rattle.std.specs.List.{list_any};
+ghost use Rattle.std.specs.Option.{option_copied};
+ghost use Rattle.scr_core.specs.Bundles.{numbered};
+ghost use Rattle.scr_core.specs.declared.command.CoreFault.TheVariants.{Stopping};
+ghost use Rattle.scr_core.specs.Consequences.{keeps_bundle};
+ghost use Rattle.scr_core.specs.Replies.{is_known, still_stopping};
+ghost use Rattle.scr_core.specs.Tables.{Keeps, world_in};
+ghost use Rattle.scr_core.specs.Worlds.{ceased, is_known as is_remembered, remaining};
+
+use crate::bundles::{Bundle, BundleState, bundle_at, bundle_of, is_active, is_stopping, next_number, numbered};
+use crate::command::{Accepted, Command, CoreFault, Reply, Step};
+use crate::command_growth::{grow_by_change, grow_by_install};
+use crate::consequences::keeps_bundle;
+use crate::dues::next;
+use crate::instance::Instance;
+use crate::room::has_room;
+use crate::tables::Tables;
+use bundle_doc::BundleDoc;
+use component_dto::Description;
+use component_state::Component;
+use journal_core::{GateKey, Journal};
+use level_order::levels;
+use prop_map::{Copies, List, OutOfMemory};
+use std::alloc::{AllocError, Global};
+
+fn accepted(reply: Reply, shut: List<GateKey>) -> Accepted
+    ensures { result ≡ record { reply = reply; shut = shut } }
+{
+    Accepted { reply, shut }
+}
+
+// The answer to a command that changes nothing.
+fn unchanged(alloc: Global, reply: Reply) -> Accepted
+    ensures { result ≡ record { reply = reply; shut = [] } }
+{
+    accepted(reply, List::of(Vec::new(alloc)))
+}
+
+// The descriptions with those of a document behind them.
+fn descriptions_with(
+    alloc: Global,
+    these: &[Description],
+    those: &[Description],
+) -> Result<Vec<Description>, OutOfMemory>
+    ensures { IfOk result (λ v. v.items ≡ these.now ++ those.now) }
+{
+    let mut all = Vec::new(alloc);
+    for description in these {
+        all.push(description.copy(alloc)?)?;
+    }
+    for description in those {
+        all.push(description.copy(alloc)?)?;
+    }
+    Ok(all)
+}
+
+// An instance of the component configuration lives.
+fn has_life(instances: &[Instance], number: u64) -> bool
+    ensures { result ≡ list_any (λ i. i.life.configuration == number) instances.now }
+{
+    instances
+        .iter()
+        .any(|instance| instance.life.configuration == number)
+}
+
+fn is_remembered(instances: &[Instance], component: &Component) -> bool
+    ensures { result ≡ is_remembered instances.now component.now }
+{
+    component.lives || has_life(instances, component.number)
+}
+
+// The component configurations that haven't ceased, and those of which an instance lives.
+fn remaining(
+    alloc: Global,
+    components: &[Component],
+    instances: &[Instance],
+) -> Result<Vec<Component>, OutOfMemory>
+    ensures { IfOk result (λ v. v.items ≡ filter (is_remembered instances.now) components.now) }
+{
+    let mut found = Vec::new(alloc);
+    for component in components {
+        if is_remembered(instances, component) {
+            found.push(component.copy(alloc)?)?;
+        }
+    }
+    Ok(found)
+}
+
+fn ceased_one(alloc: Global, bundle: u64, component: &Component) -> Result<Component, OutOfMemory>
+    ensures { IfOk result (λ c. c ≡ ceased bundle component.now) }
+{
+    let mut other = component.copy(alloc)?;
+    other.lives = component.lives && component.bundle != bundle;
+    Ok(other)
+}
+
+// The component configurations after those of a bundle ceased.
+fn ceased(
+    alloc: Global,
+    bundle: u64,
+    components: &[Component],
+) -> Result<Vec<Component>, OutOfMemory>
+    ensures { IfOk result (λ v. v.items ≡ map (ceased bundle) components.now) }
+{
+    let mut found = Vec::new(alloc);
+    for component in components {
+        found.push(ceased_one(alloc, bundle, component)?)?;
+    }
+    Ok(found)
+}
+
+// The lowest instance that keeps a bundle from having stopped.
+fn keeper<'a>(
+    components: &[Component],
+    instances: &'a [Instance],
+    bundle: u64,
+) -> Option<&'a Instance>
+    ensures { option_copied result ≡ find (keeps_bundle components.now bundle) instances.now }
+{
+    instances
+        .iter()
+        .find(|instance| keeps_bundle(components, bundle, instance))
+}
+
+// The number of the lowest instance that keeps a stopping bundle from having stopped.
+fn stopping_instance(tables: &Tables, bundle: &Bundle) -> Option<u64>
+    ensures { option_map (λ n. Stopping n) result ≡ still_stopping (world_in tables.now) bundle.now }
+{
+    if is_stopping(bundle.state) {
+        keeper(&tables.components, &tables.instances, bundle.number).map(|instance| instance.number)
+    } else {
+        None
+    }
+}
+
+// The component configurations that the start of a bundle makes come. Where their numbers don't fit, that counts as want of
+// memory.
+fn coming(alloc: Global, tables: &Tables, bundle: &Bundle) -> Result<Vec<Component>, OutOfMemory>
+    ensures { IfOk result (λ v. v.items ≡ numbered (tables.now.came + 1) bundle.now.number 0 bundle.now.document.descriptions) }
+{
+    let descriptions = bundle.document.descriptions.as_slice();
+    let first = next(tables.came)?;
+    if first.checked_add(descriptions.len() as u64).is_none() {
+        return Err(AllocError);
+    }
+    numbered(alloc, first, bundle.number, descriptions)
+}

@@ -7,6 +7,7 @@
 
 mod bundles;
 mod command;
+mod command_growth;
 mod commands;
 mod component_rows;
 mod consequences;
