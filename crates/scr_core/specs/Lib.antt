@@ -20,5 +20,6 @@ pub mod TurnSteps
 pub mod Plans
 pub mod Growths
 pub mod Changes
+pub mod Startings
 pub mod Reopenings
 pub mod Shutting

@@ -1,11 +1,14 @@
 //! Commands (OSGi Core 8, life cycle layer).
-ghost use Rattle.std.specs.Prelude.{◌≡◌, ◌==◌, ◌+◌, ◌++◌, [], false, true, IfOk, MatchOption, Some, None, find, filter, length, map, option_map};
+ghost use Rattle.std.specs.Prelude.{◌≡◌, ◌<◌, ◌==◌, ◌+◌, ◌^◌, ◌&&◌, ◌++◌, [], IfOk, find, filter, map, nat_lt, not, option_map};
 ghost use Rattle.std.specs.List.{list_any};
 ghost use Rattle.std.specs.Option.{option_copied};
-ghost use Rattle.scr_core.specs.Bundles.{numbered};
+ghost use Rattle.scr_core.specs.Bundles.{bundle_at, numbered};
 ghost use Rattle.scr_core.specs.declared.command.CoreFault.TheVariants.{Stopping};
+ghost use Rattle.scr_core.specs.declared.command.Command.TheVariants.{Install, Start, Stop};
+ghost use Rattle.scr_core.specs.Calls.{Commands};
 ghost use Rattle.scr_core.specs.Consequences.{keeps_bundle};
 ghost use Rattle.scr_core.specs.Replies.{is_known, still_stopping};
+ghost use Rattle.scr_core.specs.Startings.{IsStarting};
 ghost use Rattle.scr_core.specs.Tables.{Keeps, world_in};
 ghost use Rattle.scr_core.specs.Worlds.{ceased, is_known as is_remembered, remaining};
 
@@ -17,11 +20,12 @@ use crate::dues::next;
 use crate::instance::Instance;
 use crate::room::has_room;
 use crate::tables::Tables;
+use crate::turn_growth::sum;
 use bundle_doc::BundleDoc;
 use component_dto::Description;
 use component_state::Component;
 use journal_core::{GateKey, Journal};
-use level_order::levels;
+use level_order::{LevelFault, levels};
 use prop_map::{Copies, List, OutOfMemory};
 use std::alloc::{AllocError, Global};
 
@@ -146,4 +150,149 @@ fn coming(alloc: Global, tables: &Tables, bundle: &Bundle) -> Result<Vec<Compone
         return Err(AllocError);
     }
     numbered(alloc, first, bundle.number, descriptions)
+}
+
+// The number of the bundle that was installed from the location of a document.
+fn known(tables: &Tables, doc: &BundleDoc) -> Option<u64>
+    ensures { result ≡ option_map (λ b. b.number) (bundle_at tables.now.bundles.items doc.now.location) }
+{
+    bundle_at(&tables.bundles, &doc.location).map(|bundle| bundle.number)
+}
+
+// Installs a bundle.
+pub(crate) fn install(
+    alloc: Global,
+    limit: u64,
+    journal: &mut Journal<Step>,
+    tables: &mut Tables,
+    doc: BundleDoc,
+) -> Result<Accepted, CoreFault>
+    requires { Keeps limit journal.old tables.old }
+    ensures keeps { Keeps limit journal.new tables.new }
+    ensures answer { Commands limit journal.old (Install doc) result journal.new }
+{
+    if let Some(number) = known(tables, &doc) {
+        return Ok(unchanged(alloc, Reply::Bundle(number)));
+    }
+    let all = descriptions_with(alloc, &tables.descriptions, doc.descriptions.as_slice())?;
+    let levels = match levels(alloc, &all) {
+        Ok(levels) => levels,
+        Err(LevelFault::Cycle { .. }) => return Err(CoreFault::Cycle),
+        Err(LevelFault::OutOfMemory) => return Err(CoreFault::OutOfMemory),
+    };
+    let Some(number) = next_number(&tables.bundles) else {
+        return Err(CoreFault::BundlesFull);
+    };
+    if !has_room(limit, tables, 1) {
+        return Err(CoreFault::JournalFull);
+    }
+    let shut = grow_by_install(alloc, limit, journal, tables, doc, number, all, levels)?;
+    Ok(accepted(Reply::Bundle(number), shut))
+}
+
+// Stops a bundle.
+pub(crate) fn stop(
+    alloc: Global,
+    limit: u64,
+    journal: &mut Journal<Step>,
+    tables: &mut Tables,
+    number: u64,
+) -> Result<Accepted, CoreFault>
+    requires { Keeps limit journal.old tables.old }
+    ensures keeps { Keeps limit journal.new tables.new }
+    ensures answer { Commands limit journal.old (Stop number) result journal.new }
+{
+    let Some(bundle) = bundle_of(&tables.bundles, number) else {
+        return Err(CoreFault::NoBundle { bundle: number });
+    };
+    if !is_active(bundle.state) {
+        return Ok(unchanged(alloc, Reply::Done));
+    }
+    if !has_room(limit, tables, 1) {
+        return Err(CoreFault::JournalFull);
+    }
+    let components = ceased(alloc, number, &tables.components)?;
+    let came = tables.came;
+    let command = Command::Stop { bundle: number };
+    let state = BundleState::Stopping;
+    let shut = grow_by_change(
+        alloc, limit, journal, tables, command, number, state, components, came,
+    )?;
+    Ok(accepted(Reply::Done, shut))
+}
+
+// There would be more than 512 component configurations, some of them new.
+fn is_full(remaining: usize, new: usize) -> bool
+    requires small { remaining < 2 ^ 63 }
+    requires also { new < 2 ^ 63 }
+    ensures { result ≡ (not (new == 0) && nat_lt 512 (remaining + new)) }
+{
+    new != 0 && remaining + new > 512
+}
+
+fn both(
+    mut these: Vec<Component>,
+    mut those: Vec<Component>,
+) -> Result<Vec<Component>, OutOfMemory>
+    ensures { IfOk result (λ v. v.items ≡ these.items ++ those.items) }
+{
+    these.append(&mut those)?;
+    Ok(these)
+}
+
+// The component configurations of a bundle that is started, and those that remain.
+#[derive(Drop)]
+struct Starting {
+    new: Vec<Component>,
+    remaining: Vec<Component>,
+}
+
+// What a start of this bundle makes of the component configurations, or why it is refused.
+fn what_starts(alloc: Global, tables: &Tables, bundle: &Bundle) -> Result<Starting, CoreFault>
+    ensures { IsStarting tables.now bundle.now result }
+{
+    if let Some(instance) = stopping_instance(tables, bundle) {
+        return Err(CoreFault::Stopping { instance });
+    }
+    let new = coming(alloc, tables, bundle)?;
+    let remaining = remaining(alloc, &tables.components, &tables.instances)?;
+    if is_full(remaining.len(), new.len()) {
+        return Err(CoreFault::ComponentsFull);
+    }
+    Ok(Starting { new, remaining })
+}
+
+// Starts a bundle.
+pub(crate) fn start(
+    alloc: Global,
+    limit: u64,
+    journal: &mut Journal<Step>,
+    tables: &mut Tables,
+    number: u64,
+) -> Result<Accepted, CoreFault>
+    requires { Keeps limit journal.old tables.old }
+    ensures keeps { Keeps limit journal.new tables.new }
+    ensures answer { Commands limit journal.old (Start number) result journal.new }
+{
+    let Some(bundle) = bundle_of(&tables.bundles, number) else {
+        return Err(CoreFault::NoBundle { bundle: number });
+    };
+    if is_active(bundle.state) {
+        return Ok(unchanged(alloc, Reply::Done));
+    }
+    let Starting { new, remaining } = match what_starts(alloc, tables, bundle) {
+        Ok(starting) => starting,
+        Err(fault) => return Err(fault),
+    };
+    if !has_room(limit, tables, 1) {
+        return Err(CoreFault::JournalFull);
+    }
+    let came = sum(tables.came, new.len() as u64)?;
+    let components = both(remaining, new)?;
+    let command = Command::Start { bundle: number };
+    let state = BundleState::Active;
+    let shut = grow_by_change(
+        alloc, limit, journal, tables, command, number, state, components, came,
+    )?;
+    Ok(accepted(Reply::Done, shut))
 }

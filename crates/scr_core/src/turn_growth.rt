@@ -16,7 +16,7 @@ use journal_core::{GateKey, Journal};
 use prop_map::{List, OutOfMemory};
 use std::alloc::{AllocError, Global};
 
-fn sum(number: u64, more: u64) -> Result<u64, OutOfMemory>
+pub(crate) fn sum(number: u64, more: u64) -> Result<u64, OutOfMemory>
     ensures { IfOk result (λ n. n ≡ number + more) }
 {
     number.checked_add(more).ok_or(AllocError)
