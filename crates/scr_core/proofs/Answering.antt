@@ -1,9 +1,9 @@
 -- What a command answers, from what the code finds in its tables.
 use Rattle.std.proofs.Common.{◌≡◌, ◌<◌, ◌≤◌, ℕ, ◌+◌, List, [], ◌∷◌, ◌++◌, length, ap, sym, ◌∙◌, refl, subst, cond, Option, Some, None, Ok, Err, Result, arith, true, false, Bool, ◌&&◌}
-use Rattle.std.specs.Prelude.{map, filter, find, not, ◌==◌, nat_le, nat_lt, is_none, is_some, option_map}
+use Rattle.std.specs.Prelude.{map, filter, not, ◌==◌, nat_le, nat_lt, is_none, is_some, option_map}
 use Rattle.std.specs.List.{Contains, list_any}
 use Rattle.std.specs.Option.{option_map_or, option_or}
-use Rattle.std.proofs.lemmas.Bool.{eqb-true, ne_eqb, lt-leb, le-leb, eq-eqb, and_from, not_from_true}
+use Rattle.std.proofs.lemmas.Bool.{eqb-true, ne_eqb, lt-leb, le-leb, eq-eqb, and_from}
 use Rattle.bundle_doc.specs.declared.document.BundleDoc.{BundleDoc}
 use Rattle.component_dto.specs.declared.description.Description.{Description}
 use Rattle.component_state.specs.declared.component.Component.{Component}
@@ -18,7 +18,7 @@ use Rattle.scr_core.specs.declared.command.Command.TheVariants.{Install, Start, 
 use Rattle.scr_core.specs.declared.command.CoreFault.{CoreFault}
 use Rattle.scr_core.specs.declared.command.CoreFault.TheVariants.{NoBundle, Stopping, Cycle, BundlesFull, ComponentsFull, JournalFull, OutOfMemory}
 use Rattle.scr_core.specs.declared.command.Reply.{Reply}
-use Rattle.scr_core.specs.declared.command.Reply.TheVariants.{Done, Bundle as InBundle}
+use Rattle.scr_core.specs.declared.command.Reply.TheVariants.{Bundle as InBundle}
 use Rattle.scr_core.specs.declared.command.Step.{Step}
 use Rattle.scr_core.specs.declared.command.Step.TheVariants.{Command as Commanded}
 use Rattle.scr_core.specs.declared.instance.Instance.{Instance}
@@ -26,7 +26,6 @@ use Rattle.scr_core.specs.declared.tables.Tables.{Tables}
 use Rattle.scr_core.specs.Bundles.{bundle_at, bundle_of, coming, descriptions_of, is_active, numbered}
 use Rattle.scr_core.specs.Calls.{Commands, Grown, GrownIf, world_at}
 use Rattle.scr_core.specs.Consequences.{begins_draining, gate_of, is_draining, shut_between}
-use Rattle.scr_core.specs.Levels.{has_levels}
 use Rattle.scr_core.specs.Replies.{answer, changes, components_full, has_effect, install_refusal, is_known, lacks_room, refusal, refuse_if, reply, start_refusal, stays_acyclic, still_stopping}
 use Rattle.scr_core.specs.Room.{has_room}
 use Rattle.scr_core.specs.declared.commands.Starting.{Starting}
@@ -90,9 +89,9 @@ module _ (limit : ℕ) (journal : List (Entry Step)) (t : Tables) (keeps : Keeps
   pub answers_nothing : (r : Reply) → refusal (world_in t) command ≡ None → has_effect (world_in t) command ≡ false → answer (world_in t) command ≡ r
       → (accepted : Accepted) → accepted ≡ record { reply = r; shut = [] } → Commands limit journal command (Ok accepted) journal
   answers_nothing r none effect is accepted so = (
-      said (Ok accepted.reply) (reply_nothing limit (world_in t) command none effect ∙ ap (λ (x : Reply). Ok x) (is ∙ ap (λ (a : Accepted). a.reply) (sym so))),
-      ap (λ (a : Accepted). a.shut) so ∙ sym (none_shut (world_at journal)),
-      subst (λ b. GrownIf b limit journal (Commanded command) journal) (sym (subst (λ (w : World). changes limit w command ≡ false) keeps.world (changes_nothing limit (world_in t) command none effect))) refl,
+    said (Ok accepted.reply) (reply_nothing limit (world_in t) command none effect ∙ ap (λ (x : Reply). Ok x) (is ∙ ap (λ (a : Accepted). a.reply) (sym so))),
+    ap (λ (a : Accepted). a.shut) so ∙ sym (none_shut (world_at journal)),
+    subst (λ b. GrownIf b limit journal (Commanded command) journal) (sym (subst (λ (w : World). changes limit w command ≡ false) keeps.world (changes_nothing limit (world_in t) command none effect))) refl,
   )
 
   -- the journal grows
@@ -100,9 +99,9 @@ module _ (limit : ℕ) (journal : List (Entry Step)) (t : Tables) (keeps : Keeps
       → Grown limit journal (Commanded command) journal' → (shut : List GateKey) → shut ≡ shut_between (world_at journal) (world_at journal')
       → (accepted : Accepted) → accepted ≡ record { reply = r; shut = shut } → Commands limit journal command (Ok accepted) journal'
   answers_growth r none effect room is journal' grown shut shut_is accepted so = (
-      said (Ok accepted.reply) (reply_done limit (world_in t) command none effect room ∙ ap (λ (x : Reply). Ok x) (is ∙ ap (λ (a : Accepted). a.reply) (sym so))),
-      ap (λ (a : Accepted). a.shut) so ∙ shut_is,
-      subst (λ b. GrownIf b limit journal (Commanded command) journal') (sym (subst (λ (w : World). changes limit w command ≡ true) keeps.world (changes_something limit (world_in t) command none effect room))) grown,
+    said (Ok accepted.reply) (reply_done limit (world_in t) command none effect room ∙ ap (λ (x : Reply). Ok x) (is ∙ ap (λ (a : Accepted). a.reply) (sym so))),
+    ap (λ (a : Accepted). a.shut) so ∙ shut_is,
+    subst (λ b. GrownIf b limit journal (Commanded command) journal') (sym (subst (λ (w : World). changes limit w command ≡ true) keeps.world (changes_something limit (world_in t) command none effect room))) grown,
   )
 
 -- ---- installs
@@ -226,15 +225,19 @@ module _ (limit : ℕ) (journal : List (Entry Step)) (t : Tables) (keeps : Keeps
     its_ds = ds_is ∙ ap (λ (x : List Description). x ++ doc.descriptions) keeps.tables.descriptions
 
     pub install_cycle : ¬ IsAcyclic ds → Commands limit journal (Install doc) (Err Cycle) journal
-    install_cycle without =
-        (said limit journal t keeps (Install doc) (Err Cycle) (reply_refused limit (world_in t) (Install doc) Cycle
-        (new_cycle (world_in t) doc (unknown_by (bundle_at t.bundles.items doc.location) unknown).0 (subst (λ (x : List Description). ¬ IsAcyclic x) its_ds without))), refl)
+    install_cycle without = (
+      said limit journal t keeps (Install doc) (Err Cycle) (reply_refused limit (world_in t) (Install doc) Cycle
+          (new_cycle (world_in t) doc (unknown_by (bundle_at t.bundles.items doc.location) unknown).0 (subst (λ (x : List Description). ¬ IsAcyclic x) its_ds without))),
+      refl,
+    )
 
     module _ (levels : List ℕ) (are : AreLevels ds levels) where
       pub install_full : 128 ≤ length t.bundles.items → Commands limit journal (Install doc) (Err BundlesFull) journal
-      install_full many =
-          (said limit journal t keeps (Install doc) (Err BundlesFull) (reply_refused limit (world_in t) (Install doc) BundlesFull
-          (new_full (world_in t) doc (unknown_by (bundle_at t.bundles.items doc.location) unknown).0 levels (subst (λ (x : List Description). AreLevels x levels) its_ds are) many)), refl)
+      install_full many = (
+        said limit journal t keeps (Install doc) (Err BundlesFull) (reply_refused limit (world_in t) (Install doc) BundlesFull
+            (new_full (world_in t) doc (unknown_by (bundle_at t.bundles.items doc.location) unknown).0 levels (subst (λ (x : List Description). AreLevels x levels) its_ds are) many)),
+        refl,
+      )
 
       module _ (few : length t.bundles.items < 128) where
         install_free : refusal (world_in t) (Install doc) ≡ None

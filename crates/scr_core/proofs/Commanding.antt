@@ -2,12 +2,10 @@
 use Rattle.std.proofs.Common.{◌≡◌, ◌<◌, ℕ, ◌+◌, List, [], ◌∷◌, ◌++◌, ap, sym, ◌∙◌, refl, subst, cond, Option, Some, None, arith, true, false, Bool, ◌&&◌, length, append-nil}
 use Rattle.std.specs.Prelude.{map, filter, not, ◌==◌}
 use Rattle.std.specs.List.{list_any}
-use Rattle.std.proofs.lemmas.List.{map-append}
 use Rattle.std.proofs.lemmas.List.Elements.{filter-append}
 use Rattle.bundle_doc.specs.declared.document.BundleDoc.{BundleDoc}
 use Rattle.component_dto.specs.declared.description.Description.{Description}
 use Rattle.component_state.specs.declared.component.Component.{Component}
-use Rattle.component_state.specs.declared.open_period.OpenPeriod.{OpenPeriod}
 use Rattle.component_state.specs.Passes.{HasPassed, IsReady}
 use Rattle.journal_core.specs.declared.entry.Entry.{Entry}
 use Rattle.scr_core.specs.declared.bundles.Bundle.{Bundle}
@@ -33,8 +31,8 @@ use Rattle.scr_core.specs.Plans.{IsPlan, plan_stage}
 use Rattle.scr_core.specs.Room.{has_room}
 use Rattle.scr_core.specs.Shutting.{has_stopped_after, stopping_by}
 use Rattle.scr_core.specs.Sound.{IsSound, entry_of}
-use Rattle.scr_core.specs.Tables.{AreTables, Keeps, world_in}
-use Rattle.scr_core.specs.Worlds.{World, after, coming_by, components_by, failed_by, instances_by, satisfied_in}
+use Rattle.scr_core.specs.Tables.{Keeps, world_in}
+use Rattle.scr_core.specs.Worlds.{World, after, coming_by, components_by, instances_by, satisfied_in}
 use Rattle.scr_core.proofs.Descriptions.{installed_descriptions, state_descriptions}
 use Rattle.scr_core.proofs.LevelsOf.{levels_are}
 use Rattle.scr_core.proofs.Ends.{services_is}

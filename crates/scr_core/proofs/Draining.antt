@@ -1,7 +1,6 @@
 -- The drain of a gate that is found.
-use Rattle.std.proofs.Common.{◌≡◌, ℕ, List, refl, ap, sym, ◌∙◌, Option, Some, None, true, ◌&&◌}
+use Rattle.std.proofs.Common.{◌≡◌, ℕ, refl, sym, Option, Some, None, ◌&&◌}
 use Rattle.std.specs.Prelude.{find, option_map, ◌==◌}
-use Rattle.std.specs.List.{list_any}
 use Rattle.std.proofs.lemmas.Bool.{and_parts, and_from, eq-eqb}
 use Rattle.journal_core.specs.declared.entry.GateKey.{GateKey}
 use Rattle.scr_core.specs.declared.command.Step.TheVariants.{Drained}

@@ -1,12 +1,11 @@
 -- The tables after a turn's begin, the end of one, or a drain.
-use Rattle.std.proofs.Common.{◌≡◌, ◌<◌, ℕ, suc, ◌+◌, List, [], ◌∷◌, ◌++◌, ap, sym, ◌∙◌, refl, subst, None, arith, true, false, Bool}
-use Rattle.std.specs.Prelude.{map, not, ◌==◌, count_by}
+use Rattle.std.proofs.Common.{◌≡◌, ◌<◌, ℕ, ◌+◌, List, [], ◌∷◌, ◌++◌, ap, sym, ◌∙◌, refl, None, arith, true}
+use Rattle.std.specs.Prelude.{map}
 use Rattle.component_dto.specs.declared.description.Description.{Description}
 use Rattle.component_state.specs.declared.component.Component.{Component}
 use Rattle.component_state.specs.declared.open_period.OpenPeriod.{OpenPeriod}
 use Rattle.component_state.specs.Passes.{HasPassed, IsReady}
 use Rattle.journal_core.specs.declared.entry.Entry.{Entry}
-use Rattle.journal_core.specs.declared.entry.Opened.{Opened}
 use Rattle.scr_core.specs.declared.bundles.Bundle.{Bundle}
 use Rattle.scr_core.specs.declared.command.Step.{Step}
 use Rattle.scr_core.specs.declared.command.Step.TheVariants.{Command as Commanded, Begin, End, Drained}
@@ -23,7 +22,7 @@ use Rattle.scr_core.specs.Plans.{IsPlan, plan_stage}
 use Rattle.scr_core.specs.Room.{has_room, needed_by}
 use Rattle.scr_core.specs.Shutting.{stopping_by}
 use Rattle.scr_core.specs.Sound.{entry_of}
-use Rattle.scr_core.specs.Tables.{AreTables, Keeps, world_in}
+use Rattle.scr_core.specs.Tables.{Keeps, world_in}
 use Rattle.scr_core.specs.TurnSteps.{is_turn_step}
 use Rattle.scr_core.specs.Worlds.{World, after, begins_by, coming_by, components_by, failed_by, failing, generations_by, instances_by, makes_by}
 use Rattle.scr_core.proofs.Ends.{services_is}

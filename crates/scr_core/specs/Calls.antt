@@ -14,7 +14,7 @@ use Rattle.scr_core.specs.declared.instance.Instance.{Instance}
 use Rattle.scr_core.specs.declared.turn.Ended.{Ended}
 use Rattle.scr_core.specs.declared.turn.Taken.{Taken}
 use Rattle.scr_core.specs.declared.turn.Taken.TheVariants.{Turn as TakenTurn, Idle}
-use Rattle.scr_core.specs.Consequences.{gate_of, reopened_by, shut_between}
+use Rattle.scr_core.specs.Consequences.{reopened_by, shut_between}
 use Rattle.scr_core.specs.Dues.{due_in, next_begin}
 use Rattle.scr_core.specs.Legal.{Follows, awaits_drain}
 use Rattle.scr_core.specs.Replies.{reply, changes}

@@ -1,7 +1,6 @@
 -- Steps that are no commands, and the turn that a step begins. OSGi Compendium 8, chapter 112; turns are our own.
 use Rattle.std.specs.Prelude.{ℕ, List, [], Bool, true, false, Option, Some, None, find, codes, pos, ◌==◌}
 use Rattle.std.specs.Option.{option_map_or}
-use Rattle.callback_orders.specs.declared.callback.Callback.{Callback}
 use Rattle.component_state.specs.declared.component.Component.{Component}
 use Rattle.kind_trait.specs.declared.site.Site.{Site}
 use Rattle.prop_map.specs.declared.properties.Property.{Property}
@@ -9,7 +8,7 @@ use Rattle.prop_map.specs.declared.value.Value.TheVariants.{Text, Whole}
 use Rattle.prop_map.specs.Maps.{put}
 use Rattle.turn_runner.specs.declared.turn_work.TurnWork.{TurnWork}
 use Rattle.scr_core.specs.declared.command.Step.{Step}
-use Rattle.scr_core.specs.declared.command.Step.TheVariants.{Command as Commanded, Begin, End, Drained}
+use Rattle.scr_core.specs.declared.command.Step.TheVariants.{Command as Commanded, Begin}
 use Rattle.scr_core.specs.Worlds.{World}
 
 abbrev pub is_turn_step : Step → Bool

@@ -12,7 +12,9 @@ ghost use Rattle.scr_core.specs.Startings.{IsStarting};
 ghost use Rattle.scr_core.specs.Tables.{Keeps, world_in};
 ghost use Rattle.scr_core.specs.Worlds.{ceased, is_known as is_remembered, remaining};
 
-use crate::bundles::{Bundle, BundleState, bundle_at, bundle_of, is_active, is_stopping, next_number, numbered};
+use crate::bundles::{
+    Bundle, BundleState, bundle_at, bundle_of, is_active, is_stopping, next_number, numbered,
+};
 use crate::command::{Accepted, Command, CoreFault, Reply, Step};
 use crate::command_growth::{grow_by_change, grow_by_install};
 use crate::consequences::keeps_bundle;
@@ -230,10 +232,7 @@ fn is_full(remaining: usize, new: usize) -> bool
     new != 0 && remaining + new > 512
 }
 
-fn both(
-    mut these: Vec<Component>,
-    mut those: Vec<Component>,
-) -> Result<Vec<Component>, OutOfMemory>
+fn both(mut these: Vec<Component>, mut those: Vec<Component>) -> Result<Vec<Component>, OutOfMemory>
     ensures { IfOk result (λ v. v.items ≡ these.items ++ those.items) }
 {
     these.append(&mut those)?;

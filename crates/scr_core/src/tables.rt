@@ -1,10 +1,15 @@
 //! The tables that a core keeps beside its journal.
 
+ghost use Rattle.std.specs.Prelude.{◌≡◌, []};
+ghost use Rattle.scr_core.specs.Tables.{world_in};
+ghost use Rattle.scr_core.specs.Worlds.{empty_world};
+
 use crate::bundles::Bundle;
 use crate::instance::Instance;
 use component_dto::Description;
 use component_state::{Component, OpenPeriod};
 use prop_map::List;
+use std::alloc::Global;
 
 // What the journal says, so that no command reads it again.
 #[derive(Drop)]
@@ -30,4 +35,27 @@ pub(crate) struct Tables {
     pub services: u64,
     // How often the gate of each slot was opened.
     pub generations: Vec<u64>,
+}
+
+// The tables of an empty journal.
+pub(crate) fn no_tables(alloc: Global) -> Tables
+    ensures world { world_in result ≡ empty_world }
+    ensures others { (result.descriptions.items ≡ []) × (result.levels ≡ []) × (result.satisfied ≡ []) }
+{
+    Tables {
+        length: 0,
+        bundles: Vec::new(alloc),
+        descriptions: Vec::new(alloc),
+        levels: List::of(Vec::new(alloc)),
+        components: Vec::new(alloc),
+        came: 0,
+        open_periods: List::of(Vec::new(alloc)),
+        failed: List::of(Vec::new(alloc)),
+        satisfied: List::of(Vec::new(alloc)),
+        instances: Vec::new(alloc),
+        made: 0,
+        turns: 0,
+        services: 0,
+        generations: Vec::new(alloc),
+    }
 }

@@ -66,11 +66,7 @@ pub(crate) fn name_in(
     }
 }
 
-fn site_in(
-    alloc: Global,
-    components: &[Component],
-    configuration: u64,
-) -> Result<Site, OutOfMemory>
+fn site_in(alloc: Global, components: &[Component], configuration: u64) -> Result<Site, OutOfMemory>
     ensures { IfOk result (λ site. site ≡ option_map_or site_of (found_in components.now configuration) empty_site) }
 {
     match component_of(components, configuration) {

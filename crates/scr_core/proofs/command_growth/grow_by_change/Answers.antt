@@ -36,4 +36,3 @@ returns-clause-shut c =
     c.deref-2.result.now (c.deref-2.ensures.value ∙ c.requires.components) c.deref-3.result.now c.deref-3.ensures.value c.requires.room c.in_ok-plan.plan c.in_ok-plan.ensures
     c.append.new.journal c.in_ok-aftermath.ensures.entry c.in_ok-aftermath.aftermath c.in_ok-aftermath.ensures.left c.set_bundle_state.new.tables c.set_bundle_state.ensures.bundles c.set_bundle_state.ensures.others
     c.take_over-shut.new.tables (record c.take_over-shut.new.tables { components = c.args.components; came = c.args.came }) c.take_over-shut.ensures.takes c.args.came c.requires.came refl (sym c.deref-2.ensures.value)
-

@@ -1,5 +1,5 @@
-use Rattle.std.proofs.Common.{◌≡◌, ◌∙◌, refl, sym, None}
-use Rattle.scr_core.proofs.Answering.{install_known, install_cycle, install_full, install_no_room, install_changes, install_answers}
+use Rattle.std.proofs.Common.{◌∙◌, sym}
+use Rattle.scr_core.proofs.Answering.{install_known, install_cycle, install_full, install_no_room, install_changes}
 use Rattle.scr_core.proofs.commands.install.Goals as goal
 
 pub returns-in-Some-clause-answer : goal.returns-in-Some-clause-answer

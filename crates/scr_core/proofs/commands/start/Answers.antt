@@ -23,9 +23,11 @@ pub returns-then-not-has_room-clause-answer : goal.returns-then-not-has_room-cla
 returns-then-not-has_room-clause-answer c =
     let found : bundle_of c.args.tables.now.bundles.items c.args.number ≡ Some c.in-Some.bundle.now = sym (rw c.deref.ensures.value at c.in-Some.ensures) in
     let inactive = sym c.is_active.ensures ∙ c.if-is_active.false in
-    let free = start_may c.args.tables.now c.args.number c.in-Some.bundle.now found c.args.limit c.args.journal.now c.requires inactive c.in-Ok.starting c.in-Ok.ensures in
-    (said c.args.limit c.args.journal.now c.args.tables.now c.requires (Start c.args.number) (Err JournalFull)
-    (reply_full c.args.limit (world_in c.args.tables.now) (Start c.args.number) free (start_effect (world_in c.args.tables.now) c.args.number c.in-Some.bundle.now found _ inactive) (sym c.has_room.ensures ∙ c.if-not-has_room.true)), refl)
+    let free = start_may c.args.tables.now c.args.number c.in-Some.bundle.now found c.args.limit c.args.journal.now c.requires inactive c.in-Ok.starting c.in-Ok.ensures in (
+      said c.args.limit c.args.journal.now c.args.tables.now c.requires (Start c.args.number) (Err JournalFull)
+          (reply_full c.args.limit (world_in c.args.tables.now) (Start c.args.number) free (start_effect (world_in c.args.tables.now) c.args.number c.in-Some.bundle.now found _ inactive) (sym c.has_room.ensures ∙ c.if-not-has_room.true)),
+      refl,
+    )
 
 pub grow_by_change-requires-clause-changes : goal.grow_by_change-requires-clause-changes
 grow_by_change-requires-clause-changes c =

@@ -1,12 +1,9 @@
-use Rattle.std.proofs.Common.{◌≡◌, ◌∙◌, ◌++◌, refl, ap, sym, subst, List, Some, None, Ok, Err}
-use Rattle.component_dto.specs.declared.description.Description.{Description}
-use Rattle.scr_core.specs.declared.bundles.Bundle.{Bundle}
-use Rattle.scr_core.specs.declared.command.Command.TheVariants.{Install, Start, Stop}
-use Rattle.scr_core.specs.declared.command.CoreFault.TheVariants.{NoBundle, BundlesFull, JournalFull}
+use Rattle.std.proofs.Common.{◌≡◌, ◌∙◌, refl, sym, Some}
+use Rattle.scr_core.specs.declared.command.Command.TheVariants.{Stop}
 use Rattle.scr_core.specs.declared.command.Reply.TheVariants.{Done}
 use Rattle.scr_core.specs.Bundles.{bundle_of}
 use Rattle.scr_core.specs.Tables.{world_in}
-use Rattle.scr_core.proofs.Answering.{reply_refused, reply_full, said, answers_nothing, answers_growth, changes_something, stop_unknown, stop_free, stop_effect}
+use Rattle.scr_core.proofs.Answering.{answers_nothing, stop_free, stop_effect}
 use Rattle.scr_core.proofs.commands.stop.Goals as goal
 
 pub returns-then-not-is_active-clause-answer : goal.returns-then-not-is_active-clause-answer

@@ -61,4 +61,3 @@ returns-clause-shut c =
     c.args.limit c.args.tables.now c.args.step c.args.journal.now c.requires.keeps c.requires.turn c.requires.may c.deref.result.now c.deref.ensures.value c.as_slice.result.now c.as_slice.ensures
     c.deref-2.result.now c.deref-2.ensures.value c.deref-3.result.now (c.deref-3.ensures.value ∙ c.in_ok-instances.ensures) c.deref-4.result.now (c.deref-4.ensures.value ∙ c.in_ok-failing.ensures)
     c.requires.room c.in_ok-plan.plan c.in_ok-plan.ensures c.grow.new.journal c.in_ok-shut.ensures.entry c.grow.new.tables (after_turn c) c.in_ok-shut.ensures.takes (turned c)
-

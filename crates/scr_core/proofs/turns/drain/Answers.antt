@@ -1,4 +1,4 @@
-use Rattle.std.proofs.Common.{◌≡◌, ◌∙◌, ℕ, refl, subst, sym, ap, Some}
+use Rattle.std.proofs.Common.{◌≡◌, subst, Some}
 use Rattle.std.specs.Prelude.{find, option_map}
 use Rattle.scr_core.specs.declared.command.Step.TheVariants.{Drained}
 use Rattle.scr_core.specs.declared.instance.Instance.{Instance}
