@@ -134,26 +134,26 @@ unspoken (c ∷ rest) names name held n k =
 -- nothing is held for any of these references
 abbrev pub HoldsNone : List Called → List (List ℕ) → Type 0
 HoldsNone calls [] = Unit {0}
-HoldsNone calls (n ∷ names) = (held_for n calls ≡ []) × HoldsNone calls names
+HoldsNone calls (n ∷ names) = ((s : ℕ) → is_one s (held_for n calls) ≡ false) × HoldsNone calls names
 
-one_of_none : (t : Bool) (calls : List Called) (n name : List ℕ) (rest : Bool) → bytes_eq name n ≡ t → (t || rest) ≡ true → held_for n calls ≡ [] → (rest ≡ true → held_for name calls ≡ [])
-    → held_for name calls ≡ []
-one_of_none true calls n name rest e k h f = subst (λ (x : List ℕ). held_for x calls ≡ []) (sym (text_is name n e)) h
-one_of_none false calls n name rest e k h f = f k
+one_of_none : (t rest : Bool) (calls : List Called) (n name : List ℕ) (s : ℕ) → bytes_eq name n ≡ t → (t || rest) ≡ true → is_one s (held_for n calls) ≡ false
+    → (rest ≡ true → is_one s (held_for name calls) ≡ false) → is_one s (held_for name calls) ≡ false
+one_of_none true rest calls n name s e k h f = subst (λ (x : List ℕ). is_one s (held_for x calls) ≡ false) (sym (text_is name n e)) h
+one_of_none false rest calls n name s e k h f = f k
 
-held_none : (calls : List Called) (names : List (List ℕ)) (name : List ℕ) → list_any (bytes_eq name) names ≡ true → HoldsNone calls names → held_for name calls ≡ []
-held_none calls [] name k h = absurd (false≢true k)
-held_none calls (n ∷ names) name k h =
-    one_of_none (bytes_eq name n) calls n name (list_any (bytes_eq name) names) refl k h.0 (λ k. held_none calls names name k h.1)
+held_none : (calls : List Called) (names : List (List ℕ)) (name : List ℕ) (s : ℕ) → list_any (bytes_eq name) names ≡ true → HoldsNone calls names → is_one s (held_for name calls) ≡ false
+held_none calls [] name s k h = absurd (false≢true k)
+held_none calls (n ∷ names) name s k h =
+    one_of_none (bytes_eq name n) (list_any (bytes_eq name) names) calls n name s refl k (h.0 s) (λ k. held_none calls names name s k h.1)
 
-nothing_held : (t : Bool) (calls : List Called) (names : List (List ℕ)) (name : List ℕ) → list_any (bytes_eq name) names ≡ t → speaks_of names calls ≡ true → HoldsNone calls names
-    → held_for name calls ≡ []
-nothing_held true calls names name k p h = held_none calls names name k h
-nothing_held false calls names name k p h = unspoken calls names name [] k p
+nothing_held : (t : Bool) (calls : List Called) (names : List (List ℕ)) (name : List ℕ) (s : ℕ) → list_any (bytes_eq name) names ≡ t → speaks_of names calls ≡ true → HoldsNone calls names
+    → is_one s (held_for name calls) ≡ false
+nothing_held true calls names name s k p h = held_none calls names name s k h
+nothing_held false calls names name s k p h = ap (is_one s) (unspoken calls names name [] k p)
 
 -- where nothing is held for the references of which the callbacks speak, nothing is bound
 pub destroy_may_come : (calls : List Called) (names : List (List ℕ)) → have_ended calls ≡ true → speaks_of names calls ≡ true → HoldsNone calls names
     → may_come Destroy (bound_end [] calls) ≡ true
 destroy_may_come calls names e p h =
     none_bound (bound_end [] calls)
-    (λ (x : Bound). ap not (bound_is_held calls x.reference x.service e ∙ ap (is_one x.service) (nothing_held (list_any (bytes_eq x.reference) names) calls names x.reference refl p h)))
+    (λ (x : Bound). ap not (bound_is_held calls x.reference x.service e ∙ nothing_held (list_any (bytes_eq x.reference) names) calls names x.reference x.service refl p h))

@@ -1,18 +1,18 @@
 -- What an instance's callbacks so far say of it: how far it is, and what it holds. OSGi Compendium 8, section 112.5 (component life cycle).
-use Rattle.std.specs.Prelude.{◌≡◌, ℕ, ◌==◌, List, [], ◌∷◌, ◌++◌, map, Bool, true, not, Option, Some, is_none, filter, if◌then◌else◌}
-use Rattle.std.specs.List.{list_any, list_all, slice_index_or}
+use Rattle.std.specs.Prelude.{◌≡◌, ℕ, ◌==◌, List, [], ◌∷◌, ◌++◌, Bool, true, not, Option, Some, is_none, filter, if◌then◌else◌}
+use Rattle.std.specs.List.{AllZip, list_any, list_all, slice_index_or}
 use Rattle.std.specs.Str.{bytes_eq}
 use Rattle.callback_orders.specs.declared.callback.Callback.{Callback}
 use Rattle.callback_orders.specs.declared.callback.Callback.TheVariants.{Create, Bind, Updated, Unbind, Activate, Modified, Deactivate, Destroy}
 use Rattle.callback_orders.specs.declared.callback.Outcome.{Outcome}
 use Rattle.callback_orders.specs.declared.due.DueRef.{DueRef}
 use Rattle.callback_orders.specs.declared.due.DueRef.TheVariants.{Create as CreateDue, Bind as BindDue, Updated as UpdatedDue, Unbind as UnbindDue, Activate as ActivateDue, Modified as ModifiedDue, Deactivate as DeactivateDue, Destroy as DestroyDue}
-use Rattle.callback_orders.specs.declared.instance_view.HeldService.{HeldService}
 use Rattle.callback_orders.specs.declared.instance_view.InstanceView.{InstanceView}
 use Rattle.callback_orders.specs.declared.instance_view.Phase.{Phase}
 use Rattle.callback_orders.specs.declared.instance_view.Phase.TheVariants.{Making, Active, Left}
 use Rattle.callback_orders.specs.declared.instance_view.ReferenceView.{ReferenceView}
 use Rattle.callback_orders.specs.declared.word.Called.{Called}
+use Rattle.callback_orders.specs.References.{is_held}
 use Rattle.callback_orders.specs.Sequences.{begun, have_ended, is_done, is_failed, is_outstanding, is_sequence}
 
 -- how far an instance is after a callback: Active from the end of a successful Activate to the end of Deactivate
@@ -75,11 +75,15 @@ callback_of names (ModifiedDue i) = Modified
 callback_of names (DeactivateDue i) = Deactivate
 callback_of names (DestroyDue i) = Destroy
 
+-- a reference's view holds these services, in whatever order
+abbrev pub HoldsThese : ReferenceView → List ℕ → Type 0
+HoldsThese r held = (s : ℕ) → is_held r s ≡ list_any (λ x. x == s) held
+
 -- the view is that of an instance with these callbacks and references
 pub record IsViewOf (names : List (List ℕ)) (calls : List Called) (v : InstanceView) : Type 0 where
   pub phase : v.phase ≡ phase_of calls
   pub outstanding : v.outstanding ≡ is_outstanding calls
-  pub held : map (λ (r : ReferenceView). map (λ (h : HeldService). h.service) r.held) v.references ≡ map (λ n. held_for n calls) names
+  pub held : AllZip (λ (r : ReferenceView) (name : List ℕ). HoldsThese r (held_for name calls)) v.references names
   pub spoken : speaks_of names calls ≡ true
 
 -- a callback may come next: all before it have ended, it may follow them, and the reference that it names is one of these

@@ -114,6 +114,7 @@ fn the_lowest_instance_is_first(rt: HostRuntime) -> Result<(), Fail> {
 #[test]
 fn callbacks_are_kept_in_order(rt: HostRuntime) -> Result<(), Fail> {
     Word::note_grammar();
+    Word::note_due();
     let mut word = Word::new(rt.alloc())?;
     word.push(Callback::Create)?;
     word.end(Outcome::Done);
