@@ -1,9 +1,9 @@
 -- What is bound for a reference is what it holds, where each callback has ended.
-use Rattle.std.proofs.Common.{◌≡◌, ℕ, List, [], ◌∷◌, ◌++◌, Bool, true, false, refl, ap, ◌∙◌, sym, subst}
+use Rattle.std.proofs.Common.{◌≡◌, ℕ, ◌+◌, ◌<◌, suc, add-one, drop, drop-cons, get_or, length, List, [], ◌∷◌, ◌++◌, Bool, true, false, refl, ap, ◌∙◌, sym, subst}
 use Rattle.std.specs.Prelude.{◌&&◌, ◌||◌, ◌==◌, not, filter, Option, Some, None, is_some, if◌then◌else◌}
 use Rattle.std.specs.List.{list_any}
 use Rattle.std.specs.Str.{bytes_eq}
-use Rattle.std.proofs.Math.Bool.{or_comm}
+use Rattle.std.proofs.Math.Bool.{and_comm, or_comm}
 use Rattle.std.proofs.lemmas.Bool.{and_parts, false≢true, eq-eqb, eqb-true}
 use Rattle.std.proofs.lemmas.List.Folds.{list_any-append}
 use Rattle.std.proofs.lemmas.Map.Views.{any-filter_same}
@@ -157,3 +157,34 @@ pub destroy_may_come : (calls : List Called) (names : List (List ℕ)) → have_
 destroy_may_come calls names e p h =
     none_bound (bound_end [] calls)
     (λ (x : Bound). ap not (bound_is_held calls x.reference x.service e ∙ nothing_held (list_any (bytes_eq x.reference) names) calls names x.reference x.service refl p h))
+
+-- one of the services and one more, and one of those without one
+pub is_one-more : (s v : ℕ) (held : List ℕ) (was : Bool) → was ≡ is_one s held → (was || (v == s)) ≡ is_one s (held ++ v ∷ [])
+is_one-more s v held was e =
+    ap (λ b. b || (v == s)) e
+    ∙ ap (λ b. is_one s held || b) (or_comm false (v == s))
+    ∙ sym (list_any-append (λ x. x == s) held (v ∷ []))
+
+pub is_one-less : (s v : ℕ) (held : List ℕ) (was : Bool) → was ≡ is_one s held → (was && not (v == s)) ≡ is_one s (filter (λ x. not (x == v)) held)
+is_one-less s v held was e =
+    and_comm was (not (v == s))
+    ∙ ap (λ b. not b && was) (eq_either_way v s)
+    ∙ ap (λ b. not (s == v) && b) e
+    ∙ sym (is_one-without s v held)
+
+-- what is held from one callback on is held from the next one on, with what that one does
+pub held_after-next : (name held : List ℕ) (calls : List Called) (i : ℕ) (c : Called) → i < length calls → c ≡ get_or calls i c
+    → held_after name held (drop i calls) ≡ held_after name (held_by name c.callback c.outcome held) (drop (i + 1) calls)
+held_after-next name held calls i c h e =
+    ap (held_after name held) (drop-cons calls i c h)
+    ∙ ap (λ (d : Called). held_after name (held_by name d.callback d.outcome held) (drop (suc i) calls)) (sym e)
+    ∙ ap (λ (n : ℕ). held_after name (held_by name c.callback c.outcome held) (drop n calls)) (sym (add-one i))
+
+-- whether a service is still held for a reference after an Unbind for it has ended
+pub held_past_unbind : (name r : List ℕ) (v s : ℕ) (callback : Callback) (o : Option Outcome) (x : Outcome) (held : List ℕ) (was : Bool) → callback ≡ Unbind r v → o ≡ Some x
+    → true ≡ bytes_eq r name → was ≡ is_one s held → (was && not (v == s)) ≡ is_one s (held_by name callback o held)
+held_past_unbind name r v s callback o x held was c p t e =
+    is_one-less s v held was e
+    ∙ ap (λ b. is_one s (if b then filter (λ x. not (x == v)) held else held)) t
+    ∙ ap (λ (d : Callback). is_one s (held_by name d (Some x) held)) (sym c)
+    ∙ ap (λ (q : Option Outcome). is_one s (held_by name callback q held)) (sym p)
