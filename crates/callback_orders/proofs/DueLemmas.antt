@@ -1,14 +1,13 @@
 -- The due callback may come next.
-use Rattle.std.proofs.Common.{◌≡◌, ℕ, ◌+◌, ◌<◌, suc, length, get_or, List, [], ◌∷◌, ◌++◌, Bool, true, false, refl, ap, ◌∙◌, sym, subst, append_assoc, arith}
+use Rattle.std.proofs.Common.{◌≡◌, ℕ, ◌+◌, ◌<◌, length, List, [], ◌∷◌, ◌++◌, Bool, true, false, refl, ap, ◌∙◌, sym, subst, append_assoc, arith}
 use Rattle.std.specs.Prelude.{◌==◌, ◌&&◌, ◌||◌, not, map, filter, find, filter_map, option_map, Option, Some, None, if◌then◌else◌}
 use Rattle.std.specs.List.{AllZip, cons_option, enumerate_from, last_or, list_any, slice_index_or}
-use Rattle.std.specs.Option.{option_map_or, option_or}
 use Rattle.std.specs.Str.{bytes_eq}
-use Rattle.std.proofs.lemmas.Bool.{and_parts, false≢true, eq-eqb, not-true}
+use Rattle.std.proofs.lemmas.Bool.{and_parts, eq-eqb, not-true}
 use Rattle.callback_orders.specs.declared.callback.Callback.{Callback}
-use Rattle.callback_orders.specs.declared.callback.Callback.TheVariants.{Create, Bind, Updated, Unbind, Activate, Modified, Deactivate, Destroy}
+use Rattle.callback_orders.specs.declared.callback.Callback.TheVariants.{Bind, Updated, Unbind, Activate, Modified, Deactivate, Destroy}
 use Rattle.callback_orders.specs.declared.due.DueRef.{DueRef}
-use Rattle.callback_orders.specs.declared.due.DueRef.TheVariants.{Create as CreateDue, Bind as BindDue, Updated as UpdatedDue, Unbind as UnbindDue, Activate as ActivateDue, Modified as ModifiedDue, Deactivate as DeactivateDue, Destroy as DestroyDue}
+use Rattle.callback_orders.specs.declared.due.DueRef.TheVariants.{Bind as BindDue, Updated as UpdatedDue, Unbind as UnbindDue, Activate as ActivateDue, Modified as ModifiedDue, Deactivate as DeactivateDue, Destroy as DestroyDue}
 use Rattle.callback_orders.specs.declared.instance_view.HeldService.{HeldService}
 use Rattle.callback_orders.specs.declared.instance_view.InstanceView.{InstanceView}
 use Rattle.callback_orders.specs.declared.instance_view.Phase.{Phase}
@@ -18,90 +17,12 @@ use Rattle.callback_orders.specs.declared.instance_view.Wish.{Wish}
 use Rattle.callback_orders.specs.declared.word.Called.{Called}
 use Rattle.callback_orders.specs.Sequences.{alternate, bound_by, created, is_bound, is_sequence, have_ended, may_come, one_at_a_time}
 use Rattle.callback_orders.specs.References.{differs, holds_all, is_desired, is_held, to_bind, to_unbind, to_tell, to_let_go}
-use Rattle.callback_orders.specs.Due.{bind_at, unbind_at, tell_at, let_go_at, bind_or_unbind, due_in_making, due_in_phase, due_while_active, due_while_ending, due_of, first_some, modified_if_stale, with_places}
+use Rattle.callback_orders.specs.Due.{bind_at, unbind_at, tell_at, let_go_at, bind_or_unbind, due_in_making, due_in_phase, due_while_active, due_while_ending, due_of, modified_if_stale, with_places}
 use Rattle.callback_orders.specs.Lives.{HoldsThese, IsViewOf, MayComeNext, callback_of, held_for, is_living, names_one_of, phase_of, speaks_of}
+use Rattle.callback_orders.proofs.EachLemmas.{OfSome, Each, of_some-map, of_some-map_or, of_some-or, each-append, each-map, each-filter_map, first_some-each, last_or-each, last_or-none, find-each, find-passes, filter-each, each-weaker}
 use Rattle.callback_orders.proofs.RoundLemmas.{bound_end}
 use Rattle.callback_orders.proofs.FollowLemmas.{may_follow, is_sequence-onto, speaks_of-onto, is_living-onto, none_outstanding}
 use Rattle.callback_orders.proofs.HeldLemmas.{HoldsNone, is_one, bound_is_held, destroy_may_come, text_same}
-
--- what holds of the value, where there is one; what holds of each item
-abbrev OfSome : {X : Type 0} → (X → Type 0) → Option X → Type 0
-OfSome P None = Unit {0}
-OfSome P (Some x) = P x
-
-abbrev Each : {X : Type 0} → (X → Type 0) → List X → Type 0
-Each P [] = Unit {0}
-Each P (x ∷ xs) = P x × Each P xs
-
-of_some-map : {X Y : Type 0} (P : X → Type 0) (Q : Y → Type 0) (f : X → Y) (o : Option X) → OfSome P o → ((x : X) → P x → Q (f x)) → OfSome Q (option_map f o)
-of_some-map P Q f None h k = tt
-of_some-map P Q f (Some x) h k = k x h
-
-of_some-map_or : {X Y : Type 0} (P : X → Type 0) (Q : Y → Type 0) (f : X → Option Y) (o : Option X) (d : Option Y) → OfSome P o → ((x : X) → P x → OfSome Q (f x)) → OfSome Q d
-    → OfSome Q (option_map_or f o d)
-of_some-map_or P Q f None d h k e = e
-of_some-map_or P Q f (Some x) d h k e = k x h
-
-of_some-or : {X : Type 0} (P : X → Type 0) (o p : Option X) → OfSome P o → OfSome P p → OfSome P (option_or o p)
-of_some-or P None p h k = k
-of_some-or P (Some x) p h k = h
-
-each-append : {X : Type 0} (P : X → Type 0) (xs ys : List X) → Each P xs → Each P ys → Each P (xs ++ ys)
-each-append P [] ys h k = k
-each-append P (x ∷ xs) ys h k = (h.0, each-append P xs ys h.1 k)
-
-each-map : {X Y : Type 0} (P : X → Type 0) (Q : Y → Type 0) (f : X → Y) (xs : List X) → Each P xs → ((x : X) → P x → Q (f x)) → Each Q (map f xs)
-each-map P Q f [] h k = tt
-each-map P Q f (x ∷ xs) h k = (k x h.0, each-map P Q f xs h.1 k)
-
-each-cons : {X : Type 0} (P : X → Type 0) (o : Option X) (xs : List X) → OfSome P o → Each P xs → Each P (cons_option o xs)
-each-cons P None xs h k = k
-each-cons P (Some x) xs h k = (h, k)
-
-each-filter_map : {X Y : Type 0} (P : X → Type 0) (Q : Y → Type 0) (f : X → Option Y) (xs : List X) → Each P xs → ((x : X) → P x → OfSome Q (f x)) → Each Q (filter_map f xs)
-each-filter_map P Q f [] h k = tt
-each-filter_map P Q f (x ∷ xs) h k = each-cons Q (f x) (filter_map f xs) (k x h.0) (each-filter_map P Q f xs h.1 k)
-
-first_some-each : {X : Type 0} (P : X → Type 0) (xs : List (Option X)) → Each (OfSome P) xs → OfSome P (first_some xs)
-first_some-each P [] h = tt
-first_some-each P (x ∷ xs) h = of_some-or P x (first_some xs) h.0 (first_some-each P xs h.1)
-
-last_or-each : {X : Type 0} (P : X → Type 0) (o : Option X) (xs : List X) → OfSome P o → Each P xs → OfSome P (last_or o xs)
-last_or-each P o [] h k = h
-last_or-each P o (x ∷ xs) h k = last_or-each P (Some x) xs k.0 k.1
-
-last_or-none : {X : Type 0} (P : X → Type 0) (d : X) (xs : List X) → (xs ≡ [] → P d) → Each P xs → OfSome P (last_or (Some d) xs)
-last_or-none P d [] h k = h refl
-last_or-none P d (x ∷ xs) h k = last_or-each P (Some x) xs k.0 k.1
-
--- what find finds
-find_by-each : {X : Type 0} (P : X → Type 0) (t : Bool) (x : X) (o : Option X) → P x → OfSome P o → OfSome P (if t then Some x else o)
-find_by-each P true x o h k = h
-find_by-each P false x o h k = k
-
-find-each : {X : Type 0} (P : X → Type 0) (p : X → Bool) (xs : List X) → Each P xs → OfSome P (find p xs)
-find-each P p [] h = tt
-find-each P p (x ∷ xs) h = find_by-each P (p x) x (find p xs) h.0 (find-each P p xs h.1)
-
-find_by-passes : {X : Type 0} (p : X → Bool) (t : Bool) (x : X) (o : Option X) → p x ≡ t → OfSome (λ y. p y ≡ true) o → OfSome (λ y. p y ≡ true) (if t then Some x else o)
-find_by-passes p true x o e k = e
-find_by-passes p false x o e k = k
-
-find-passes : {X : Type 0} (p : X → Bool) (xs : List X) → OfSome (λ y. p y ≡ true) (find p xs)
-find-passes p [] = tt
-find-passes p (x ∷ xs) = find_by-passes p (p x) x (find p xs) refl (find-passes p xs)
-
-filter_by-each : {X : Type 0} (P : X → Type 0) (t : Bool) (x : X) (xs : List X) → P x → Each P xs → Each P (if t then x ∷ xs else xs)
-filter_by-each P true x xs h k = (h, k)
-filter_by-each P false x xs h k = k
-
-filter-each : {X : Type 0} (P : X → Type 0) (p : X → Bool) (xs : List X) → Each P xs → Each P (filter p xs)
-filter-each P p [] h = tt
-filter-each P p (x ∷ xs) h = filter_by-each P (p x) x (filter p xs) h.0 (filter-each P p xs h.1)
-
-each-weaker : {X : Type 0} (P Q : X → Type 0) (xs : List X) → ((x : X) → P x → Q x) → Each P xs → Each Q xs
-each-weaker P Q [] f h = tt
-each-weaker P Q (x ∷ xs) f h = (f x h.0, each-weaker P Q xs f h.1)
 
 -- each service that is held is held
 abbrev has_service : ℕ → List HeldService → Bool
@@ -336,7 +257,7 @@ due_may_come names calls view due s l n v d =
     let p = and_parts (created calls && one_at_a_time calls) (alternate [] calls) s in
     let q = and_parts (created calls) (one_at_a_time calls) p.0 in
     let ended : have_ended calls ≡ true =
-        none_outstanding calls q.1 (sym v.outstanding ∙ due_if_ended view.outstanding (if view.ending then due_while_ending view view.phase else due_in_phase view view.phase) due d) in
+    none_outstanding calls q.1 (sym v.outstanding ∙ due_if_ended view.outstanding (if view.ending then due_while_ending view view.phase else due_in_phase view view.phase) due d) in
     let comes : Comes names calls (callback_of names due) = subst (OfSome (DueComes names calls)) d (due_comes names calls view ended v) in
     record {
       ended = ended;

@@ -12,9 +12,9 @@ use Rattle.callback_orders.specs.declared.callback.Callback.{Callback}
 use Rattle.callback_orders.specs.declared.callback.Callback.TheVariants.{Create, Bind, Updated, Unbind, Activate, Modified, Deactivate, Destroy}
 use Rattle.callback_orders.specs.declared.callback.Outcome.{Outcome}
 use Rattle.callback_orders.specs.declared.word.Called.{Called}
-use Rattle.callback_orders.specs.Sequences.{Bound, bound_by, same_bound, is_bound, without, bound_after, may_come, have_ended}
+use Rattle.callback_orders.specs.Sequences.{Bound, bound_by, is_bound, without, bound_after, may_come, have_ended}
 use Rattle.callback_orders.specs.Lives.{held_by, held_after, held_for, names_one_of, speaks_of}
-use Rattle.callback_orders.proofs.RoundLemmas.{same_itself, same_is, without_other, without_itself, none_bound, bound_end}
+use Rattle.callback_orders.proofs.RoundLemmas.{without_other, without_itself, none_bound, bound_end}
 
 -- both tests of equality tell it either way
 same_truth : (a b : Bool) → (a ≡ true → b ≡ true) → (b ≡ true → a ≡ true) → a ≡ b

@@ -68,12 +68,20 @@ fn is_held_after(called: &Called, name: &Str, service: u64, was_held: bool) -> b
     ensures { (held : List ℕ) → was_held ≡ list_any (λ s. s == service) held → result ≡ list_any (λ s. s == service) (held_by name.now called.now.callback called.now.outcome held) }
 {
     match (&called.callback, called.outcome) {
-        (Callback::Bind { reference, service: bound }, _) if reference == name => {
-            was_held || *bound == service
-        }
-        (Callback::Unbind { reference, service: bound }, Some(_)) if reference == name => {
-            was_held && *bound != service
-        }
+        (
+            Callback::Bind {
+                reference,
+                service: bound,
+            },
+            _,
+        ) if reference == name => { was_held || *bound == service }
+        (
+            Callback::Unbind {
+                reference,
+                service: bound,
+            },
+            Some(_),
+        ) if reference == name => { was_held && *bound != service }
         _ => was_held,
     }
 }
