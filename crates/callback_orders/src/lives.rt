@@ -64,24 +64,16 @@ pub fn held_for(alloc: Global, name: &Str, calls: &[Called]) -> Result<Vec<u64>,
     Ok(held)
 }
 
-fn is_held_after(called: &Called, name: &Str, service: u64, was_held: bool) -> bool
-    ensures { (held : List ℕ) → was_held ≡ list_any (λ s. s == service) held → result ≡ list_any (λ s. s == service) (held_by name.now called.now.callback called.now.outcome held) }
+fn is_held_after(called: &Called, name: &Str, sought: u64, was_held: bool) -> bool
+    ensures { (held : List ℕ) → was_held ≡ list_any (λ s. s == sought) held → result ≡ list_any (λ s. s == sought) (held_by name.now called.now.callback called.now.outcome held) }
 {
     match (&called.callback, called.outcome) {
-        (
-            Callback::Bind {
-                reference,
-                service: bound,
-            },
-            _,
-        ) if reference == name => { was_held || *bound == service }
-        (
-            Callback::Unbind {
-                reference,
-                service: bound,
-            },
-            Some(_),
-        ) if reference == name => { was_held && *bound != service }
+        (Callback::Bind { reference, service }, _) if reference == name => {
+            was_held || *service == sought
+        }
+        (Callback::Unbind { reference, service }, Some(_)) if reference == name => {
+            was_held && *service != sought
+        }
         _ => was_held,
     }
 }
