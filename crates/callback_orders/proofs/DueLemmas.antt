@@ -1,14 +1,13 @@
 -- The due callback may come next.
-use Rattle.std.proofs.Common.{◌≡◌, ℕ, ◌+◌, ◌<◌, suc, length, get_or, List, [], ◌∷◌, ◌++◌, Bool, true, false, refl, ap, ◌∙◌, sym, subst, append_assoc, arith}
+use Rattle.std.proofs.Common.{◌≡◌, ℕ, ◌+◌, ◌<◌, length, List, [], ◌∷◌, ◌++◌, Bool, true, false, refl, ap, ◌∙◌, sym, subst, append_assoc, arith}
 use Rattle.std.specs.Prelude.{◌==◌, ◌&&◌, ◌||◌, not, map, filter, find, filter_map, option_map, Option, Some, None, if◌then◌else◌}
-use Rattle.std.specs.List.{cons_option, enumerate_from, last_or, list_any, slice_index_or}
-use Rattle.std.specs.Option.{option_map_or, option_or}
+use Rattle.std.specs.List.{AllZip, cons_option, enumerate_from, last_or, list_any, slice_index_or}
 use Rattle.std.specs.Str.{bytes_eq}
-use Rattle.std.proofs.lemmas.Bool.{and_parts, false≢true, eq-eqb, not-true}
+use Rattle.std.proofs.lemmas.Bool.{and_parts, eq-eqb, not-true}
 use Rattle.callback_orders.specs.declared.callback.Callback.{Callback}
-use Rattle.callback_orders.specs.declared.callback.Callback.TheVariants.{Create, Bind, Updated, Unbind, Activate, Modified, Deactivate, Destroy}
+use Rattle.callback_orders.specs.declared.callback.Callback.TheVariants.{Bind, Updated, Unbind, Activate, Modified, Deactivate, Destroy}
 use Rattle.callback_orders.specs.declared.due.DueRef.{DueRef}
-use Rattle.callback_orders.specs.declared.due.DueRef.TheVariants.{Create as CreateDue, Bind as BindDue, Updated as UpdatedDue, Unbind as UnbindDue, Activate as ActivateDue, Modified as ModifiedDue, Deactivate as DeactivateDue, Destroy as DestroyDue}
+use Rattle.callback_orders.specs.declared.due.DueRef.TheVariants.{Bind as BindDue, Updated as UpdatedDue, Unbind as UnbindDue, Activate as ActivateDue, Modified as ModifiedDue, Deactivate as DeactivateDue, Destroy as DestroyDue}
 use Rattle.callback_orders.specs.declared.instance_view.HeldService.{HeldService}
 use Rattle.callback_orders.specs.declared.instance_view.InstanceView.{InstanceView}
 use Rattle.callback_orders.specs.declared.instance_view.Phase.{Phase}
@@ -18,144 +17,63 @@ use Rattle.callback_orders.specs.declared.instance_view.Wish.{Wish}
 use Rattle.callback_orders.specs.declared.word.Called.{Called}
 use Rattle.callback_orders.specs.Sequences.{alternate, bound_by, created, is_bound, is_sequence, have_ended, may_come, one_at_a_time}
 use Rattle.callback_orders.specs.References.{differs, holds_all, is_desired, is_held, to_bind, to_unbind, to_tell, to_let_go}
-use Rattle.callback_orders.specs.Due.{bind_at, unbind_at, tell_at, let_go_at, bind_or_unbind, due_in_making, due_in_phase, due_while_active, due_while_ending, due_of, first_some, modified_if_stale, with_places}
-use Rattle.callback_orders.specs.Lives.{IsViewOf, MayComeNext, callback_of, held_for, is_living, names_one_of, phase_of, speaks_of}
+use Rattle.callback_orders.specs.Due.{bind_at, unbind_at, tell_at, let_go_at, bind_or_unbind, due_in_making, due_in_phase, due_while_active, due_while_ending, due_of, modified_if_stale, with_places}
+use Rattle.callback_orders.specs.Lives.{HoldsThese, IsViewOf, MayComeNext, callback_of, held_for, is_living, names_one_of, phase_of, speaks_of}
+use Rattle.callback_orders.proofs.EachLemmas.{OfSome, Each, of_some-map, of_some-map_or, of_some-or, each-append, each-map, each-filter_map, first_some-each, last_or-each, last_or-none, find-each, find-passes, filter-each, each-weaker}
 use Rattle.callback_orders.proofs.RoundLemmas.{bound_end}
 use Rattle.callback_orders.proofs.FollowLemmas.{may_follow, is_sequence-onto, speaks_of-onto, is_living-onto, none_outstanding}
 use Rattle.callback_orders.proofs.HeldLemmas.{HoldsNone, is_one, bound_is_held, destroy_may_come, text_same}
 
--- what holds of the value, where there is one; what holds of each item
-abbrev OfSome : {X : Type 0} → (X → Type 0) → Option X → Type 0
-OfSome P None = Unit {0}
-OfSome P (Some x) = P x
-
-abbrev Each : {X : Type 0} → (X → Type 0) → List X → Type 0
-Each P [] = Unit {0}
-Each P (x ∷ xs) = P x × Each P xs
-
-of_some-map : {X Y : Type 0} (P : X → Type 0) (Q : Y → Type 0) (f : X → Y) (o : Option X) → OfSome P o → ((x : X) → P x → Q (f x)) → OfSome Q (option_map f o)
-of_some-map P Q f None h k = tt
-of_some-map P Q f (Some x) h k = k x h
-
-of_some-map_or : {X Y : Type 0} (P : X → Type 0) (Q : Y → Type 0) (f : X → Option Y) (o : Option X) (d : Option Y) → OfSome P o → ((x : X) → P x → OfSome Q (f x)) → OfSome Q d
-    → OfSome Q (option_map_or f o d)
-of_some-map_or P Q f None d h k e = e
-of_some-map_or P Q f (Some x) d h k e = k x h
-
-of_some-or : {X : Type 0} (P : X → Type 0) (o p : Option X) → OfSome P o → OfSome P p → OfSome P (option_or o p)
-of_some-or P None p h k = k
-of_some-or P (Some x) p h k = h
-
-each-append : {X : Type 0} (P : X → Type 0) (xs ys : List X) → Each P xs → Each P ys → Each P (xs ++ ys)
-each-append P [] ys h k = k
-each-append P (x ∷ xs) ys h k = (h.0, each-append P xs ys h.1 k)
-
-each-map : {X Y : Type 0} (P : X → Type 0) (Q : Y → Type 0) (f : X → Y) (xs : List X) → Each P xs → ((x : X) → P x → Q (f x)) → Each Q (map f xs)
-each-map P Q f [] h k = tt
-each-map P Q f (x ∷ xs) h k = (k x h.0, each-map P Q f xs h.1 k)
-
-each-cons : {X : Type 0} (P : X → Type 0) (o : Option X) (xs : List X) → OfSome P o → Each P xs → Each P (cons_option o xs)
-each-cons P None xs h k = k
-each-cons P (Some x) xs h k = (h, k)
-
-each-filter_map : {X Y : Type 0} (P : X → Type 0) (Q : Y → Type 0) (f : X → Option Y) (xs : List X) → Each P xs → ((x : X) → P x → OfSome Q (f x)) → Each Q (filter_map f xs)
-each-filter_map P Q f [] h k = tt
-each-filter_map P Q f (x ∷ xs) h k = each-cons Q (f x) (filter_map f xs) (k x h.0) (each-filter_map P Q f xs h.1 k)
-
-first_some-each : {X : Type 0} (P : X → Type 0) (xs : List (Option X)) → Each (OfSome P) xs → OfSome P (first_some xs)
-first_some-each P [] h = tt
-first_some-each P (x ∷ xs) h = of_some-or P x (first_some xs) h.0 (first_some-each P xs h.1)
-
-last_or-each : {X : Type 0} (P : X → Type 0) (o : Option X) (xs : List X) → OfSome P o → Each P xs → OfSome P (last_or o xs)
-last_or-each P o [] h k = h
-last_or-each P o (x ∷ xs) h k = last_or-each P (Some x) xs k.0 k.1
-
-last_or-none : {X : Type 0} (P : X → Type 0) (d : X) (xs : List X) → (xs ≡ [] → P d) → Each P xs → OfSome P (last_or (Some d) xs)
-last_or-none P d [] h k = h refl
-last_or-none P d (x ∷ xs) h k = last_or-each P (Some x) xs k.0 k.1
-
--- what find finds
-find_by-each : {X : Type 0} (P : X → Type 0) (t : Bool) (x : X) (o : Option X) → P x → OfSome P o → OfSome P (if t then Some x else o)
-find_by-each P true x o h k = h
-find_by-each P false x o h k = k
-
-find-each : {X : Type 0} (P : X → Type 0) (p : X → Bool) (xs : List X) → Each P xs → OfSome P (find p xs)
-find-each P p [] h = tt
-find-each P p (x ∷ xs) h = find_by-each P (p x) x (find p xs) h.0 (find-each P p xs h.1)
-
-find_by-passes : {X : Type 0} (p : X → Bool) (t : Bool) (x : X) (o : Option X) → p x ≡ t → OfSome (λ y. p y ≡ true) o → OfSome (λ y. p y ≡ true) (if t then Some x else o)
-find_by-passes p true x o e k = e
-find_by-passes p false x o e k = k
-
-find-passes : {X : Type 0} (p : X → Bool) (xs : List X) → OfSome (λ y. p y ≡ true) (find p xs)
-find-passes p [] = tt
-find-passes p (x ∷ xs) = find_by-passes p (p x) x (find p xs) refl (find-passes p xs)
-
-filter_by-each : {X : Type 0} (P : X → Type 0) (t : Bool) (x : X) (xs : List X) → P x → Each P xs → Each P (if t then x ∷ xs else xs)
-filter_by-each P true x xs h k = (h, k)
-filter_by-each P false x xs h k = k
-
-filter-each : {X : Type 0} (P : X → Type 0) (p : X → Bool) (xs : List X) → Each P xs → Each P (filter p xs)
-filter-each P p [] h = tt
-filter-each P p (x ∷ xs) h = filter_by-each P (p x) x (filter p xs) h.0 (filter-each P p xs h.1)
-
-each-weaker : {X : Type 0} (P Q : X → Type 0) (xs : List X) → ((x : X) → P x → Q x) → Each P xs → Each Q xs
-each-weaker P Q [] f h = tt
-each-weaker P Q (x ∷ xs) f h = (f x h.0, each-weaker P Q xs f h.1)
-
--- the services of what is held
-abbrev services : List HeldService → List ℕ
-services held = map (λ (h : HeldService). h.service) held
-
-held_one : (s : ℕ) (held : List HeldService) → list_any (λ (h : HeldService). h.service == s) held ≡ is_one s (services held)
-held_one s [] = refl
-held_one s (h ∷ held) = ap (λ b. (h.service == s) || b) (held_one s held)
+-- each service that is held is held
+abbrev has_service : ℕ → List HeldService → Bool
+has_service s held = list_any (λ (h : HeldService). h.service == s) held
 
 or_also : (t b : Bool) → b ≡ true → (t || b) ≡ true
 or_also true b h = refl
 or_also false b h = h
 
-each-held : (held : List HeldService) → Each (λ (h : HeldService). is_one h.service (services held) ≡ true) held
+each-held : (held : List HeldService) → Each (λ (h : HeldService). has_service h.service held ≡ true) held
 each-held [] = tt
 each-held (h ∷ held) = (
-  ap (λ b. b || is_one h.service (services held)) (eq-eqb h.service h.service refl),
-  each-weaker (λ (k : HeldService). is_one k.service (services held) ≡ true) (λ (k : HeldService). is_one k.service (services (h ∷ held)) ≡ true) held
-      (λ k e. or_also (h.service == k.service) (is_one k.service (services held)) e) (each-held held),
+  ap (λ b. b || has_service h.service held) (eq-eqb h.service h.service refl),
+  each-weaker (λ (k : HeldService). has_service k.service held ≡ true) (λ (k : HeldService). has_service k.service (h ∷ held) ≡ true) held
+      (λ k e. or_also (h.service == k.service) (has_service k.service held) e) (each-held held),
 )
 
--- what a reference wants
+-- what a reference wants to bind isn't held, and what it wants to unbind or to be told of is
 abbrev IsHeld : ReferenceView → ℕ → Type 0
-IsHeld r s = is_one s (services r.held) ≡ true
-
-bind-unheld : (r : ReferenceView) → OfSome (λ s. is_one s (services r.held) ≡ false) (to_bind r)
-bind-unheld r =
-    of_some-map (λ (w : Wish). (w.ready && not (is_held r w.service)) ≡ true) (λ s. is_one s (services r.held) ≡ false) (λ (w : Wish). w.service)
-    (find (λ (w : Wish). w.ready && not (is_held r w.service)) r.desired) (find-passes (λ (w : Wish). w.ready && not (is_held r w.service)) r.desired)
-    (λ w e. sym (held_one w.service r.held) ∙ not-true _ (and_parts w.ready (not (is_held r w.service)) e).1)
-
-unbind_by-held : (r : ReferenceView) (t : Bool) (o : Option ℕ) → OfSome (IsHeld r) o → OfSome (IsHeld r) (if t then o else None)
-unbind_by-held r true o h = h
-unbind_by-held r false o h = tt
+IsHeld r s = is_held r s ≡ true
 
 abbrev HasService : ReferenceView → HeldService → Type 0
-HasService r h = is_one h.service (services r.held) ≡ true
+HasService r h = is_held r h.service ≡ true
+
+bind-unheld : (r : ReferenceView) → OfSome (λ s. is_held r s ≡ false) (to_bind r)
+bind-unheld r =
+    of_some-map (λ (w : Wish). (w.ready && not (is_held r w.service)) ≡ true) (λ s. is_held r s ≡ false) (λ (w : Wish). w.service)
+    (find (λ (w : Wish). w.ready && not (is_held r w.service)) r.desired) (find-passes (λ (w : Wish). w.ready && not (is_held r w.service)) r.desired)
+    (λ w e. not-true _ (and_parts w.ready (not (is_held r w.service)) e).1)
+
+only_if-held : (r : ReferenceView) (t : Bool) (o : Option ℕ) → OfSome (IsHeld r) o → OfSome (IsHeld r) (if t then o else None)
+only_if-held r true o h = h
+only_if-held r false o h = tt
 
 unbind-held : (r : ReferenceView) → OfSome (IsHeld r) (to_unbind r)
 unbind-held r =
-    unbind_by-held r (holds_all r) (last_or None (services (filter (λ (h : HeldService). not (is_desired r h.service)) r.held)))
-    (last_or-each (IsHeld r) None (services (filter (λ (h : HeldService). not (is_desired r h.service)) r.held)) tt
-    (each-map (HasService r) (IsHeld r) (λ (h : HeldService). h.service) (filter (λ (h : HeldService). not (is_desired r h.service)) r.held)
+    let undesired = filter (λ (h : HeldService). not (is_desired r h.service)) r.held in
+    only_if-held r (holds_all r) (last_or None (map (λ (h : HeldService). h.service) undesired))
+    (last_or-each (IsHeld r) None (map (λ (h : HeldService). h.service) undesired) tt
+    (each-map (HasService r) (IsHeld r) (λ (h : HeldService). h.service) undesired
     (filter-each (HasService r) (λ (h : HeldService). not (is_desired r h.service)) r.held (each-held r.held)) (λ h e. e)))
 
 tell-held : (r : ReferenceView) → OfSome (IsHeld r) (to_tell r)
 tell-held r =
-    unbind_by-held r r.told (option_map (λ (h : HeldService). h.service) (find (λ (h : HeldService). h.changed) r.held))
+    only_if-held r r.told (option_map (λ (h : HeldService). h.service) (find (λ (h : HeldService). h.changed) r.held))
     (of_some-map (HasService r) (IsHeld r) (λ (h : HeldService). h.service) (find (λ (h : HeldService). h.changed) r.held)
     (find-each (HasService r) (λ (h : HeldService). h.changed) r.held (each-held r.held)) (λ h e. e))
 
 let_go-held : (r : ReferenceView) → OfSome (IsHeld r) (to_let_go r)
 let_go-held r =
-    last_or-each (IsHeld r) None (services r.held) tt
+    last_or-each (IsHeld r) None (map (λ (h : HeldService). h.service) r.held) tt
     (each-map (HasService r) (IsHeld r) (λ (h : HeldService). h.service) r.held (each-held r.held) (λ h e. e))
 
 -- a callback that may follow, and come while these are bound, of these references
@@ -172,11 +90,11 @@ abbrev name_at : List (List ℕ) → ℕ → List ℕ
 name_at names i = slice_index_or names i []
 
 record AtPlace (names : List (List ℕ)) (calls : List Called) (p : ℕ × ReferenceView) : Type 0 where
-  held : services p.1.held ≡ held_for (name_at names p.0) calls
+  held : HoldsThese p.1 (held_for (name_at names p.0) calls)
   named : list_any (bytes_eq (name_at names p.0)) names ≡ true
 
 abbrev Holding : List Called → List ReferenceView → List (List ℕ) → Type 0
-Holding calls rs names = map (λ (r : ReferenceView). services r.held) rs ≡ map (λ n. held_for n calls) names
+Holding calls rs names = AllZip (λ (r : ReferenceView) (name : List ℕ). HoldsThese r (held_for name calls)) rs names
 
 name_at-length : (front : List (List ℕ)) (n : List ℕ) (names : List (List ℕ)) → name_at (front ++ n ∷ names) (length front) ≡ n
 name_at-length [] n names = refl
@@ -190,38 +108,37 @@ length-onto : (front : List (List ℕ)) (n : List ℕ) → length (front ++ n �
 length-onto [] n = refl
 length-onto (x ∷ front) n = let e : length (front ++ n ∷ []) ≡ length front + 1 = length-onto front n in omega arith
 
-at_place : (calls : List Called) (front : List (List ℕ)) (n : List ℕ) (names : List (List ℕ)) (r : ReferenceView) → services r.held ≡ held_for n calls
+at_place : (calls : List Called) (front : List (List ℕ)) (n : List ℕ) (names : List (List ℕ)) (r : ReferenceView) → HoldsThese r (held_for n calls)
     → AtPlace (front ++ n ∷ names) calls (length front, r)
 at_place calls front n names r e = record {
-  held = e ∙ ap (λ (x : List ℕ). held_for x calls) (sym (name_at-length front n names));
+  held = subst (λ (x : List ℕ). HoldsThese r (held_for x calls)) (sym (name_at-length front n names)) e;
   named = subst (λ (x : List ℕ). list_any (bytes_eq x) (front ++ n ∷ names) ≡ true) (sym (name_at-length front n names)) (any_at-length front n names);
 }
 
 at_places : (calls : List Called) (rs : List ReferenceView) (front names all : List (List ℕ)) (k : ℕ) → Holding calls rs names → all ≡ front ++ names → k ≡ length front
     → Each (AtPlace all calls) (enumerate_from k rs)
-at_places calls [] front names all k h e l = tt
-at_places calls (r ∷ rs) front [] all k h e l = cc
+at_places calls [] front [] all k h e l = tt
+at_places calls [] front (n ∷ names) all k h e l = absurd h
+at_places calls (r ∷ rs) front [] all k h e l = absurd h
 at_places calls (r ∷ rs) front (n ∷ names) all k h e l =
-    let same : services r.held ≡ held_for n calls = cc in
-    let others : Holding calls rs names = cc in
-    let place : AtPlace (front ++ n ∷ names) calls (length front, r) = at_place calls front n names r same in
+    let place : AtPlace (front ++ n ∷ names) calls (length front, r) = at_place calls front n names r h.0 in
     let there : AtPlace all calls (k, r) = subst (λ (x : List (List ℕ)). AtPlace x calls (k, r)) (sym e) (subst (λ (i : ℕ). AtPlace (front ++ n ∷ names) calls (i, r)) (sym l) place) in
-    (there, at_places calls rs (front ++ n ∷ []) names all (k + 1) others (e ∙ sym (append_assoc front (n ∷ []) names)) (ap (λ i. i + 1) l ∙ sym (length-onto front n)))
+    (there, at_places calls rs (front ++ n ∷ []) names all (k + 1) h.1 (e ∙ sym (append_assoc front (n ∷ []) names)) (ap (λ i. i + 1) l ∙ sym (length-onto front n)))
 
 -- each reference's place wants what may come
 bind_comes : (names : List (List ℕ)) (calls : List Called) (i : ℕ) (p : ℕ × ReferenceView) → have_ended calls ≡ true
     → ((r : List ℕ) (s : ℕ) → may_follow (phase_of calls) (Bind r s) ≡ true) → AtPlace names calls p → OfSome (DueComes names calls) (bind_at i p)
 bind_comes names calls i p e f at =
-    of_some-map (λ s. is_one s (services p.1.held) ≡ false) (DueComes names calls) (λ s. BindDue i p.0 s) (to_bind p.1) (bind-unheld p.1)
+    of_some-map (λ s. is_held p.1 s ≡ false) (DueComes names calls) (λ s. BindDue i p.0 s) (to_bind p.1) (bind-unheld p.1)
     (λ s h. record {
       follows = f (name_at names p.0) s;
-      comes = ap not (bound_is_held calls (name_at names p.0) s e ∙ ap (is_one s) (sym at.held) ∙ h);
+      comes = ap not (bound_is_held calls (name_at names p.0) s e ∙ sym (at.held s) ∙ h);
       named = at.named;
     })
 
 held_comes : (names : List (List ℕ)) (calls : List Called) (p : ℕ × ReferenceView) (s : ℕ) → have_ended calls ≡ true → AtPlace names calls p → IsHeld p.1 s
     → is_bound (bound_end [] calls) (bound_by (name_at names p.0) s) ≡ true
-held_comes names calls p s e at h = bound_is_held calls (name_at names p.0) s e ∙ ap (is_one s) (sym at.held) ∙ h
+held_comes names calls p s e at h = bound_is_held calls (name_at names p.0) s e ∙ sym (at.held s) ∙ h
 
 unbind_comes : (names : List (List ℕ)) (calls : List Called) (i : ℕ) (p : ℕ × ReferenceView) (o : Option ℕ) → have_ended calls ≡ true
     → ((r : List ℕ) (s : ℕ) → may_follow (phase_of calls) (Unbind r s) ≡ true) → AtPlace names calls p → OfSome (IsHeld p.1) o
@@ -275,24 +192,22 @@ last_some : (s : ℕ) (xs : List ℕ) → (y : ℕ) × (last_or (Some s) xs ≡ 
 last_some s [] = (s, refl)
 last_some s (x ∷ xs) = last_some x xs
 
-nothing_let_go : (f : ℕ → DueRef) (held : List HeldService) (rest : List DueRef) → cons_option (option_map f (last_or None (services held))) rest ≡ [] → (services held ≡ []) × (rest ≡ [])
+nothing_let_go : (f : ℕ → DueRef) (held : List HeldService) (rest : List DueRef) → cons_option (option_map f (last_or None (map (λ (h : HeldService). h.service) held))) rest ≡ []
+    → (held ≡ []) × (rest ≡ [])
 nothing_let_go f [] rest e = (refl, e)
 nothing_let_go f (h ∷ held) rest e =
-    let p = last_some h.service (services held) in
+    let p = last_some h.service (map (λ (h : HeldService). h.service) held) in
     let k : f p.0 ∷ rest ≡ [] = ap (λ o. cons_option (option_map f o) rest) (sym p.1) ∙ e in
     absurd (cc)
 
 holds_none : (calls : List Called) (i k : ℕ) (rs : List ReferenceView) (names : List (List ℕ)) → Holding calls rs names → filter_map (let_go_at i) (enumerate_from k rs) ≡ []
     → HoldsNone calls names
 holds_none calls i k [] [] h e = tt
-holds_none calls i k [] (n ∷ names) h e = cc
-holds_none calls i k (r ∷ rs) [] h e = cc
+holds_none calls i k [] (n ∷ names) h e = absurd h
+holds_none calls i k (r ∷ rs) [] h e = absurd h
 holds_none calls i k (r ∷ rs) (n ∷ names) h e =
     let p = nothing_let_go (λ s. UnbindDue i k s) r.held (filter_map (let_go_at i) (enumerate_from (k + 1) rs)) e in
-    let none : services r.held ≡ [] = p.0 in
-    let same : services r.held ≡ held_for n calls = cc in
-    let others : Holding calls rs names = cc in
-    (sym same ∙ none, holds_none calls i (k + 1) rs names others p.1)
+    (λ s. sym (h.0 s) ∙ ap (has_service s) p.0, holds_none calls i (k + 1) rs names h.1 p.1)
 
 ended_comes : (names : List (List ℕ)) (calls : List Called) (i : ℕ) (rs : List ReferenceView) → have_ended calls ≡ true → speaks_of names calls ≡ true → Holding calls rs names
     → ((r : List ℕ) (s : ℕ) → may_follow (phase_of calls) (Unbind r s) ≡ true) → may_follow (phase_of calls) Destroy ≡ true
@@ -342,7 +257,7 @@ due_may_come names calls view due s l n v d =
     let p = and_parts (created calls && one_at_a_time calls) (alternate [] calls) s in
     let q = and_parts (created calls) (one_at_a_time calls) p.0 in
     let ended : have_ended calls ≡ true =
-        none_outstanding calls q.1 (sym v.outstanding ∙ due_if_ended view.outstanding (if view.ending then due_while_ending view view.phase else due_in_phase view view.phase) due d) in
+    none_outstanding calls q.1 (sym v.outstanding ∙ due_if_ended view.outstanding (if view.ending then due_while_ending view view.phase else due_in_phase view view.phase) due d) in
     let comes : Comes names calls (callback_of names due) = subst (OfSome (DueComes names calls)) d (due_comes names calls view ended v) in
     record {
       ended = ended;
@@ -350,3 +265,19 @@ due_may_come names calls view due s l n v d =
       spoken = speaks_of-onto names calls (callback_of names due) v.spoken comes.named;
       living = is_living-onto calls (callback_of names due) l;
     }
+
+has-map : (s : ℕ) (held : List HeldService) → has_service s held ≡ is_one s (map (λ (h : HeldService). h.service) held)
+has-map s [] = refl
+has-map s (h ∷ held) = ap (λ b. (h.service == s) || b) (has-map s held)
+
+-- where the views hold the very lists, they hold the same services
+pub holding_from_same : (calls : List Called) (rs : List ReferenceView) (names : List (List ℕ))
+    → map (λ (r : ReferenceView). map (λ (h : HeldService). h.service) r.held) rs ≡ map (λ n. held_for n calls) names
+    → AllZip (λ (r : ReferenceView) (name : List ℕ). HoldsThese r (held_for name calls)) rs names
+holding_from_same calls [] [] e = tt
+holding_from_same calls [] (n ∷ names) e = cc
+holding_from_same calls (r ∷ rs) [] e = cc
+holding_from_same calls (r ∷ rs) (n ∷ names) e =
+    let same : map (λ (h : HeldService). h.service) r.held ≡ held_for n calls = cc in
+    let others : map (λ (r : ReferenceView). map (λ (h : HeldService). h.service) r.held) rs ≡ map (λ n. held_for n calls) names = cc in
+    (λ s. has-map s r.held ∙ ap (is_one s) same, holding_from_same calls rs names others)

@@ -1,9 +1,9 @@
 -- What is bound for a reference is what it holds, where each callback has ended.
-use Rattle.std.proofs.Common.{◌≡◌, ℕ, List, [], ◌∷◌, ◌++◌, Bool, true, false, refl, ap, ◌∙◌, sym, subst}
+use Rattle.std.proofs.Common.{◌≡◌, ℕ, ◌+◌, ◌<◌, suc, add-one, drop, drop-cons, get_or, length, List, [], ◌∷◌, ◌++◌, Bool, true, false, refl, ap, ◌∙◌, sym, subst}
 use Rattle.std.specs.Prelude.{◌&&◌, ◌||◌, ◌==◌, not, filter, Option, Some, None, is_some, if◌then◌else◌}
 use Rattle.std.specs.List.{list_any}
 use Rattle.std.specs.Str.{bytes_eq}
-use Rattle.std.proofs.Math.Bool.{or_comm}
+use Rattle.std.proofs.Math.Bool.{and_comm, or_comm}
 use Rattle.std.proofs.lemmas.Bool.{and_parts, false≢true, eq-eqb, eqb-true}
 use Rattle.std.proofs.lemmas.List.Folds.{list_any-append}
 use Rattle.std.proofs.lemmas.Map.Views.{any-filter_same}
@@ -12,9 +12,9 @@ use Rattle.callback_orders.specs.declared.callback.Callback.{Callback}
 use Rattle.callback_orders.specs.declared.callback.Callback.TheVariants.{Create, Bind, Updated, Unbind, Activate, Modified, Deactivate, Destroy}
 use Rattle.callback_orders.specs.declared.callback.Outcome.{Outcome}
 use Rattle.callback_orders.specs.declared.word.Called.{Called}
-use Rattle.callback_orders.specs.Sequences.{Bound, bound_by, same_bound, is_bound, without, bound_after, may_come, have_ended}
+use Rattle.callback_orders.specs.Sequences.{Bound, bound_by, is_bound, without, bound_after, may_come, have_ended}
 use Rattle.callback_orders.specs.Lives.{held_by, held_after, held_for, names_one_of, speaks_of}
-use Rattle.callback_orders.proofs.RoundLemmas.{same_itself, same_is, without_other, without_itself, none_bound, bound_end}
+use Rattle.callback_orders.proofs.RoundLemmas.{without_other, without_itself, none_bound, bound_end}
 
 -- both tests of equality tell it either way
 same_truth : (a b : Bool) → (a ≡ true → b ≡ true) → (b ≡ true → a ≡ true) → a ≡ b
@@ -134,26 +134,57 @@ unspoken (c ∷ rest) names name held n k =
 -- nothing is held for any of these references
 abbrev pub HoldsNone : List Called → List (List ℕ) → Type 0
 HoldsNone calls [] = Unit {0}
-HoldsNone calls (n ∷ names) = (held_for n calls ≡ []) × HoldsNone calls names
+HoldsNone calls (n ∷ names) = ((s : ℕ) → is_one s (held_for n calls) ≡ false) × HoldsNone calls names
 
-one_of_none : (t : Bool) (calls : List Called) (n name : List ℕ) (rest : Bool) → bytes_eq name n ≡ t → (t || rest) ≡ true → held_for n calls ≡ [] → (rest ≡ true → held_for name calls ≡ [])
-    → held_for name calls ≡ []
-one_of_none true calls n name rest e k h f = subst (λ (x : List ℕ). held_for x calls ≡ []) (sym (text_is name n e)) h
-one_of_none false calls n name rest e k h f = f k
+one_of_none : (t rest : Bool) (calls : List Called) (n name : List ℕ) (s : ℕ) → bytes_eq name n ≡ t → (t || rest) ≡ true → is_one s (held_for n calls) ≡ false
+    → (rest ≡ true → is_one s (held_for name calls) ≡ false) → is_one s (held_for name calls) ≡ false
+one_of_none true rest calls n name s e k h f = subst (λ (x : List ℕ). is_one s (held_for x calls) ≡ false) (sym (text_is name n e)) h
+one_of_none false rest calls n name s e k h f = f k
 
-held_none : (calls : List Called) (names : List (List ℕ)) (name : List ℕ) → list_any (bytes_eq name) names ≡ true → HoldsNone calls names → held_for name calls ≡ []
-held_none calls [] name k h = absurd (false≢true k)
-held_none calls (n ∷ names) name k h =
-    one_of_none (bytes_eq name n) calls n name (list_any (bytes_eq name) names) refl k h.0 (λ k. held_none calls names name k h.1)
+held_none : (calls : List Called) (names : List (List ℕ)) (name : List ℕ) (s : ℕ) → list_any (bytes_eq name) names ≡ true → HoldsNone calls names → is_one s (held_for name calls) ≡ false
+held_none calls [] name s k h = absurd (false≢true k)
+held_none calls (n ∷ names) name s k h =
+    one_of_none (bytes_eq name n) (list_any (bytes_eq name) names) calls n name s refl k (h.0 s) (λ k. held_none calls names name s k h.1)
 
-nothing_held : (t : Bool) (calls : List Called) (names : List (List ℕ)) (name : List ℕ) → list_any (bytes_eq name) names ≡ t → speaks_of names calls ≡ true → HoldsNone calls names
-    → held_for name calls ≡ []
-nothing_held true calls names name k p h = held_none calls names name k h
-nothing_held false calls names name k p h = unspoken calls names name [] k p
+nothing_held : (t : Bool) (calls : List Called) (names : List (List ℕ)) (name : List ℕ) (s : ℕ) → list_any (bytes_eq name) names ≡ t → speaks_of names calls ≡ true → HoldsNone calls names
+    → is_one s (held_for name calls) ≡ false
+nothing_held true calls names name s k p h = held_none calls names name s k h
+nothing_held false calls names name s k p h = ap (is_one s) (unspoken calls names name [] k p)
 
 -- where nothing is held for the references of which the callbacks speak, nothing is bound
 pub destroy_may_come : (calls : List Called) (names : List (List ℕ)) → have_ended calls ≡ true → speaks_of names calls ≡ true → HoldsNone calls names
     → may_come Destroy (bound_end [] calls) ≡ true
 destroy_may_come calls names e p h =
     none_bound (bound_end [] calls)
-    (λ (x : Bound). ap not (bound_is_held calls x.reference x.service e ∙ ap (is_one x.service) (nothing_held (list_any (bytes_eq x.reference) names) calls names x.reference refl p h)))
+    (λ (x : Bound). ap not (bound_is_held calls x.reference x.service e ∙ nothing_held (list_any (bytes_eq x.reference) names) calls names x.reference x.service refl p h))
+
+-- one of the services and one more, and one of those without one
+pub is_one-more : (s v : ℕ) (held : List ℕ) (was : Bool) → was ≡ is_one s held → (was || (v == s)) ≡ is_one s (held ++ v ∷ [])
+is_one-more s v held was e =
+    ap (λ b. b || (v == s)) e
+    ∙ ap (λ b. is_one s held || b) (or_comm false (v == s))
+    ∙ sym (list_any-append (λ x. x == s) held (v ∷ []))
+
+pub is_one-less : (s v : ℕ) (held : List ℕ) (was : Bool) → was ≡ is_one s held → (was && not (v == s)) ≡ is_one s (filter (λ x. not (x == v)) held)
+is_one-less s v held was e =
+    and_comm was (not (v == s))
+    ∙ ap (λ b. not b && was) (eq_either_way v s)
+    ∙ ap (λ b. not (s == v) && b) e
+    ∙ sym (is_one-without s v held)
+
+-- what is held from one callback on is held from the next one on, with what that one does
+pub held_after-next : (name held : List ℕ) (calls : List Called) (i : ℕ) (c : Called) → i < length calls → c ≡ get_or calls i c
+    → held_after name held (drop i calls) ≡ held_after name (held_by name c.callback c.outcome held) (drop (i + 1) calls)
+held_after-next name held calls i c h e =
+    ap (held_after name held) (drop-cons calls i c h)
+    ∙ ap (λ (d : Called). held_after name (held_by name d.callback d.outcome held) (drop (suc i) calls)) (sym e)
+    ∙ ap (λ (n : ℕ). held_after name (held_by name c.callback c.outcome held) (drop n calls)) (sym (add-one i))
+
+-- whether a service is still held for a reference after an Unbind for it has ended
+pub held_past_unbind : (name r : List ℕ) (v s : ℕ) (callback : Callback) (o : Option Outcome) (x : Outcome) (held : List ℕ) (was : Bool) → callback ≡ Unbind r v → o ≡ Some x
+    → true ≡ bytes_eq r name → was ≡ is_one s held → (was && not (v == s)) ≡ is_one s (held_by name callback o held)
+held_past_unbind name r v s callback o x held was c p t e =
+    is_one-less s v held was e
+    ∙ ap (λ b. is_one s (if b then filter (λ x. not (x == v)) held else held)) t
+    ∙ ap (λ (d : Callback). is_one s (held_by name d (Some x) held)) (sym c)
+    ∙ ap (λ (q : Option Outcome). is_one s (held_by name callback q held)) (sym p)

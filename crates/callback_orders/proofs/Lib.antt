@@ -1,6 +1,7 @@
 pub mod CycleLemmas
 pub mod CycleTests
 pub mod DueLemmas
+pub mod EachLemmas
 pub mod EndLemmas
 pub mod Examples
 pub mod FirstSome

@@ -13,5 +13,5 @@ mod word;
 pub use callback::{Callback, Outcome};
 pub use due::{DueRef, due_of, first_due};
 pub use instance_view::{HeldService, InstanceView, Key, Phase, ReferenceView, Wish};
-pub use lives::{held_for, is_living, is_outstanding, phase_of};
+pub use lives::{held_for, is_held, is_living, is_outstanding, phase_of};
 pub use word::{Called, Word};

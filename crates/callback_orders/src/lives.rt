@@ -1,7 +1,8 @@
 //! What an instance's callbacks so far say of it (OSGi Compendium 8, section 112.5 "Component Life Cycle").
 ghost use Rattle.callback_orders.specs.Lives.{phase_after, phase_by, phase_of, held_after, held_by, held_for, is_living};
 ghost use Rattle.callback_orders.specs.Sequences.{is_outstanding};
-ghost use Rattle.std.specs.Prelude.{◌≡◌, ◌==◌, IfOk, filter, not};
+ghost use Rattle.std.specs.Prelude.{◌≡◌, ◌==◌, ℕ, List, IfOk, filter, not};
+ghost use Rattle.std.specs.List.{list_any};
 
 use crate::{Callback, Called, Outcome, Phase};
 use prop_map::{OutOfMemory, Str};
@@ -61,6 +62,32 @@ pub fn held_for(alloc: Global, name: &Str, calls: &[Called]) -> Result<Vec<u64>,
         hold(&mut held, name, called)?;
     }
     Ok(held)
+}
+
+fn is_held_after(called: &Called, name: &Str, sought: u64, was_held: bool) -> bool
+    ensures { (held : List ℕ) → was_held ≡ list_any (λ s. s == sought) held → result ≡ list_any (λ s. s == sought) (held_by name.now called.now.callback called.now.outcome held) }
+{
+    match (&called.callback, called.outcome) {
+        (Callback::Bind { reference, service }, _) if reference == name => {
+            was_held || *service == sought
+        }
+        (Callback::Unbind { reference, service }, Some(_)) if reference == name => {
+            was_held && *service != sought
+        }
+        _ => was_held,
+    }
+}
+
+/// Whether an instance holds a service for the reference of a name by its callbacks so far: it is one of
+/// [`held_for`](held_for). It takes no memory.
+pub fn is_held(calls: &[Called], name: &Str, service: u64) -> bool
+    ensures { result ≡ list_any (λ s. s == service) (held_for name.now calls.now) }
+{
+    let mut is_held = false;
+    for called in calls {
+        is_held = is_held_after(called, name, service, is_held);
+    }
+    is_held
 }
 
 /// Whether a callback of an instance has begun and not ended: the last one has no outcome. It takes no memory.

@@ -1,6 +1,6 @@
 use crate::{
     Callback, Called, DueRef, HeldService, InstanceView, Key, Outcome, Phase, ReferenceView, Wish,
-    Word, due_of, first_due, held_for, is_living, is_outstanding, phase_of,
+    Word, due_of, first_due, held_for, is_held, is_living, is_outstanding, phase_of,
 };
 use prop_map::{Copies, List, Str};
 use std::alloc::AllocError;
@@ -114,6 +114,7 @@ fn the_lowest_instance_is_first(rt: HostRuntime) -> Result<(), Fail> {
 #[test]
 fn callbacks_are_kept_in_order(rt: HostRuntime) -> Result<(), Fail> {
     Word::note_grammar();
+    Word::note_due();
     let mut word = Word::new(rt.alloc())?;
     word.push(Callback::Create)?;
     word.end(Outcome::Done);
@@ -134,6 +135,9 @@ fn a_copy_is_equal(rt: HostRuntime) -> Result<(), Fail> {
         service: 3,
     };
     assert_eq!(rt; bind.copy(rt.alloc())?, bind);
+    let mut word = Word::new(rt.alloc())?;
+    word.push(Callback::Create)?;
+    assert_eq!(rt; word.copy(rt.alloc())?.calls(), word.calls());
     Ok(())
 }
 

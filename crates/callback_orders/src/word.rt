@@ -11,7 +11,7 @@ ghost use Rattle.callback_orders.specs.declared.word.Called.{Called};
 ghost use Rattle.std.specs.Prelude.{◌↔◌, ℕ, ◌<◌, length, List, ◌≡◌, ◌++◌, ◌∷◌, [], IfOk, IsTrue, OnOk, OnErr};
 
 use crate::{Callback, Outcome, is_outstanding};
-use prop_map::OutOfMemory;
+use prop_map::{Copies, OutOfMemory};
 use std::alloc::Global;
 use std::marker::Model;
 
@@ -44,6 +44,25 @@ impl Model for Word {
     ghost view = { λ w. w.calls.items };
 
     ghost invariant = { λ w. IsTrue (is_in_order w.calls.items) };
+}
+
+impl Copies for Called {
+    fn copy(&self, alloc: Global) -> Result<Called, OutOfMemory> {
+        Ok(Called {
+            callback: self.callback.copy(alloc)?,
+            outcome: self.outcome,
+        })
+    }
+}
+
+impl Copies for Word {
+    fn copy(&self, alloc: Global) -> Result<Word, OutOfMemory> {
+        let mut calls = Vec::new(alloc);
+        for called in self.calls() {
+            calls.push(called.copy(alloc)?)?;
+        }
+        Ok(Word { calls })
+    }
 }
 
 impl Word {
