@@ -1,3 +1,4 @@
-pub mod EachItem
+pub mod EachRead
+pub mod TargetLemmas
 pub mod TextListLemmas
-pub mod Members
+pub mod Told
