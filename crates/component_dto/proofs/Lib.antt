@@ -1,4 +1,3 @@
 pub mod EachRead
-pub mod TargetLemmas
+pub mod Places
 pub mod TextListLemmas
-pub mod Told

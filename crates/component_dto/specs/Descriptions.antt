@@ -14,14 +14,12 @@ use Rattle.component_dto.specs.declared.description.Reference.{Reference}
 use Rattle.component_dto.specs.declared.description.Scope.TheVariants.{Singleton}
 use Rattle.component_dto.specs.declared.description.ConfigurationPolicy.TheVariants.{Optional}
 use Rattle.component_dto.specs.declared.fault.DescriptionFault.{DescriptionFault}
-use Rattle.component_dto.specs.declared.fault.DescriptionFault.TheVariants.{WrongType, BadProperty, BadTarget, TooManyPids, OutOfMemory}
+use Rattle.component_dto.specs.declared.fault.DescriptionFault.TheVariants.{WrongType, BadProperty, OutOfMemory}
 use Rattle.component_dto.specs.declared.given_fields.GivenFields.{GivenFields}
 use Rattle.component_dto.specs.declared.references.ReferenceFields.{ReferenceFields}
-use Rattle.component_dto.specs.Faults.{Reads}
 use Rattle.component_dto.specs.Fields.{after, flag_at, given, if_given, needed_text_at, or_empty, text_at, texts_at, word_at}
 use Rattle.component_dto.specs.References.{references_at}
 use Rattle.component_dto.specs.Rules.{is_immediate, rules}
-use Rattle.component_dto.specs.Targets.{AreTargets, TellsTarget}
 use Rattle.component_dto.specs.TextLists.{each_once}
 use Rattle.component_dto.specs.Words.{configuration_policy_of, scope_of}
 
@@ -79,10 +77,6 @@ given_fields d =
 abbrev pub of_object : Data → Result (Unit {0}) DescriptionFault
 of_object d = if is_some (as_object d) then Ok tt else Err (WrongType (codes "component"))
 
--- the fields of an object that keep the rules, or what is wrong first
-abbrev pub sound_fields : Data → Result GivenFields DescriptionFault
-sound_fields d = after (of_object d) (λ _. after (given_fields d) (λ f. after (rules f) (λ _. Ok f)))
-
 -- `$` stands for the name
 abbrev pub pid_of : List ℕ → List ℕ → List ℕ
 pid_of name pid = if bytes_eq pid (codes "$") then name else pid
@@ -96,8 +90,8 @@ abbrev pub references_of : GivenFields → List Reference
 references_of f = map (λ (r : ReferenceFields). r.reference) f.references
 
 -- the description that these fields give
-abbrev pub description_of : GivenFields → Description
-description_of f = record {
+abbrev pub described : GivenFields → Description
+described f = record {
   name = f.name;
   scope = f.scope;
   implementation_class = f.implementation_class;
@@ -111,20 +105,6 @@ description_of f = record {
   configuration_pids = pids_of f.name f.configuration_pids;
 }
 
--- Where the fields keep the rules the targets are tested, and then the number of PIDs; Ok gives the one description. Want of
--- memory is free.
-abbrev pub Ends : GivenFields → Result Description DescriptionFault → Type 0
-Ends f (Ok x) = AreTargets (references_of f) × (length f.configuration_pids ≤ 1) × (x ≡ description_of f)
-Ends f (Err (BadTarget name at)) = TellsTarget (references_of f) name at
-Ends f (Err TooManyPids) = AreTargets (references_of f) × (1 < length f.configuration_pids)
-Ends f (Err OutOfMemory) = Unit {0}
-Ends f (Err _) = ⊥
-
--- a fault of the fields is the answer
-abbrev pub Answers : Result GivenFields DescriptionFault → Result Description DescriptionFault → Type 0
-Answers (Ok f) answer = Ends f answer
-Answers (Err fault) answer = Reads answer (Err fault)
-
--- what reading a description answers
-abbrev pub Describes : Data → Result Description DescriptionFault → Type 0
-Describes d answer = Answers (sound_fields d) answer
+-- the description that a value is, or what is wrong with it first: that it is no object, a field, a rule
+abbrev pub description_of : Data → Result Description DescriptionFault
+description_of d = after (of_object d) (λ _. after (given_fields d) (λ f. after (rules f) (λ _. Ok (described f))))

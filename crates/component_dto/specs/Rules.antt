@@ -1,15 +1,16 @@
 -- The rules on a description's fields that say how they go together. Our own words.
-use Rattle.std.specs.Prelude.{ℕ, ◌==◌, ◌&&◌, List, [], ◌∷◌, length, map, find, Bool, true, false, not, Option, Some, None, option_map, if◌then◌else◌, Result, Ok, Err}
+use Rattle.std.specs.Prelude.{ℕ, ◌==◌, ◌&&◌, nat_lt, List, [], ◌∷◌, length, map, find, Bool, true, false, not, Option, Some, None, option_map, if◌then◌else◌, Result, Ok, Err}
 use Rattle.std.specs.Option.{is_some, unwrap_or}
 use Rattle.component_dto.specs.declared.description.Scope.{Scope}
 use Rattle.component_dto.specs.declared.description.Scope.TheVariants.{Singleton, Bundle, Prototype}
 use Rattle.component_dto.specs.declared.fault.DescriptionFault.{DescriptionFault}
-use Rattle.component_dto.specs.declared.fault.DescriptionFault.TheVariants.{FactoryComponent, PrototypeReference, SameReference, ImmediateScope, DelayedWithoutService}
+use Rattle.component_dto.specs.declared.fault.DescriptionFault.TheVariants.{FactoryComponent, PrototypeReference, SameReference, ImmediateScope, DelayedWithoutService, BadTarget, TooManyPids}
 use Rattle.component_dto.specs.declared.given_fields.GivenFields.{GivenFields}
 use Rattle.component_dto.specs.declared.references.ReferenceFields.{ReferenceFields}
 use Rattle.component_dto.specs.declared.references.ReferenceScope.{ReferenceScope}
 use Rattle.component_dto.specs.declared.references.ReferenceScope.TheVariants.{Bundle as ForBundle, Prototype as ForUse, PrototypeRequired}
 use Rattle.component_dto.specs.Fields.{after}
+use Rattle.component_dto.specs.Targets.{bad_target}
 use Rattle.component_dto.specs.TextLists.{first_repeated}
 
 -- an instance is made at once: as is said, by default where there is no service
@@ -47,6 +48,15 @@ refused broken fault = if broken then Err fault else Ok tt
 abbrev pub is_never_made : GivenFields → Bool
 is_never_made f = not (unwrap_or f.immediate true) && (length f.service_interfaces == 0)
 
+abbrev pub first_some : {T : Type 0} → Option T → Option T → Option T
+first_some None other = other
+first_some (Some x) other = Some x
+
+-- what is wrong with the first target that is no filter
+abbrev pub bad_target_of : List ReferenceFields → Option DescriptionFault
+bad_target_of [] = None
+bad_target_of (r ∷ rs) = first_some (option_map (BadTarget r.reference.name) (bad_target r.reference.target)) (bad_target_of rs)
+
 -- the rules in order: the first that is broken tells
 abbrev pub rules : GivenFields → Result (Unit {0}) DescriptionFault
 rules f =
@@ -54,4 +64,6 @@ rules f =
     after (unless (option_map PrototypeReference (first_for_use f.references))) (λ _.
     after (unless (option_map SameReference (first_repeated (names_of f.references)))) (λ _.
     after (refused (is_immediate f && not (is_single f.scope)) ImmediateScope) (λ _.
-    refused (is_never_made f) DelayedWithoutService))))
+    after (refused (is_never_made f) DelayedWithoutService) (λ _.
+    after (unless (bad_target_of f.references)) (λ _.
+    refused (nat_lt 1 (length f.configuration_pids)) TooManyPids))))))

@@ -18,4 +18,5 @@ pub use description::{ConfigurationPolicy, Description, Reference, Scope};
 pub use fault::DescriptionFault;
 pub use fields::given;
 pub use reading::read_description;
+pub use targets::note_bad_place;
 pub use text_lists::first_repeated;

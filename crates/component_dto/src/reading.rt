@@ -1,13 +1,12 @@
 //! A description read from JSON.
 ghost use Rattle.std.specs.Prelude.{◌≡◌, ◌∷◌, [], IfOk, map};
 ghost use Rattle.serde_json.specs.View.{view};
-ghost use Rattle.component_dto.specs.Descriptions.{Describes, Ends, description_of, pid_of, pids_of, sound_fields};
+ghost use Rattle.component_dto.specs.Descriptions.{described, description_of, pid_of, pids_of};
 ghost use Rattle.component_dto.specs.Faults.{Reads};
 ghost use Rattle.component_dto.specs.declared.references.ReferenceFields.{ReferenceFields};
 
 use crate::given_fields::{GivenFields, given_fields};
 use crate::references::ReferenceFields;
-use crate::targets::check_targets;
 use crate::text_lists::spelled;
 use crate::{Description, DescriptionFault, Reference};
 use prop_map::{Copies, List, OutOfMemory, Str};
@@ -29,31 +28,8 @@ use std::alloc::Global;
 /// default, and the scope isn't `singleton`; `DelayedWithoutService` where it is given as not immediate and has no
 /// interface; `BadTarget` of the first reference whose target is no filter; `TooManyPids` where there is more than one
 /// configuration PID. `OutOfMemory` may come at any place.
-#[tactic(auto, using(crate::proofs::Told::answer_fault))]
 pub fn read_description(alloc: Global, json: &Value) -> Result<Description, DescriptionFault>
-    ensures { Describes (view json.now) result }
-{
-    match sound_fields(alloc, json) {
-        Ok(fields) => described(alloc, fields),
-        Err(fault) => Err(fault),
-    }
-}
-
-// The description that fields give which keep the rules.
-fn described(alloc: Global, fields: GivenFields) -> Result<Description, DescriptionFault>
-    ensures { Ends fields result }
-{
-    let pid_count = fields.configuration_pids.as_slice().len();
-    let description = fields.description(alloc)?;
-    check_targets(alloc, description.references.as_slice())?;
-    if pid_count > 1 {
-        return Err(DescriptionFault::TooManyPids);
-    }
-    Ok(description)
-}
-
-fn sound_fields(alloc: Global, json: &Value) -> Result<GivenFields, DescriptionFault>
-    ensures { Reads result (sound_fields (view json.now)) }
+    ensures { Reads result (description_of (view json.now)) }
 {
     if !json.is_object() {
         return Err(DescriptionFault::WrongType {
@@ -62,13 +38,13 @@ fn sound_fields(alloc: Global, json: &Value) -> Result<GivenFields, DescriptionF
     }
     let fields = given_fields(alloc, json)?;
     fields.check_rules(alloc)?;
-    Ok(fields)
+    Ok(fields.description(alloc)?)
 }
 
 impl GivenFields {
     // The description that these fields give.
     fn description(self, alloc: Global) -> Result<Description, OutOfMemory>
-        ensures { IfOk result (λ description. description ≡ description_of self) }
+        ensures { IfOk result (λ description. description ≡ described self) }
     {
         let immediate = self.is_immediate();
         let configuration_pids = pids_of(alloc, &self.name, self.configuration_pids.as_slice())?;

@@ -6,13 +6,14 @@ ghost use Rattle.component_dto.specs.TextLists.{first_repeated};
 
 use crate::given_fields::GivenFields;
 use crate::references::{ReferenceFields, ReferenceScope};
+use crate::targets::bad_target;
 use crate::text_lists::{first_repeated, spelled};
 use crate::{DescriptionFault, Scope};
 use prop_map::{Copies, OutOfMemory, Str};
 use std::alloc::Global;
 
 impl GivenFields {
-    /// Tests the rules on the fields but those of targets and PIDs.
+    /// Tests the rules on the fields.
     ///
     /// # Errors
     /// That of the first rule that is broken.
@@ -33,6 +34,12 @@ impl GivenFields {
         }
         if self.is_never_made() {
             return Err(DescriptionFault::DelayedWithoutService);
+        }
+        if let Some((name, at)) = bad_target(alloc, self.references.as_slice())? {
+            return Err(DescriptionFault::BadTarget { name, at });
+        }
+        if self.configuration_pids.as_slice().len() > 1 {
+            return Err(DescriptionFault::TooManyPids);
         }
         Ok(())
     }
