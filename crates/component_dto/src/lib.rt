@@ -19,4 +19,4 @@ pub use fault::DescriptionFault;
 pub use fields::given;
 pub use reading::read_description;
 pub use targets::note_bad_place;
-pub use text_lists::first_repeated;
+pub use text_lists::{first_repeated, spelled};

@@ -7,8 +7,11 @@ ghost use Rattle.component_dto.specs.TextLists.{each_once, first_repeated, has_t
 use prop_map::{List, OutOfMemory, Str};
 use std::alloc::Global;
 
-/// A text of its own.
-pub(crate) fn spelled(alloc: Global, text: &str) -> Result<Str, OutOfMemory>
+/// A text in memory of its own.
+///
+/// # Errors
+/// Only want of memory.
+pub fn spelled(alloc: Global, text: &str) -> Result<Str, OutOfMemory>
     ensures { IfOk result (λ spelled. spelled ≡ text.now) }
 {
     Ok(Str::of(String::from_str(alloc, text)?))
