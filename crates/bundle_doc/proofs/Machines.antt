@@ -9,11 +9,10 @@ use Rattle.bundle_headers.proofs.ClauseReader.{clauses_reader}
 use Rattle.osgi_version.specs.Readings.{IsBadAt, IsRead, ReadsAs, run}
 use Rattle.osgi_version.specs.Versions.{SpellsVersion}
 use Rattle.osgi_version.specs.VersionSteps.{version_at_end, version_step}
+use Rattle.osgi_version.specs.VersionStart.{version_start}
 use Rattle.osgi_version.specs.declared.fault.VersionFault.{VersionFault}
 use Rattle.osgi_version.specs.declared.fault.VersionFault.TheVariants.{BadVersion}
 use Rattle.osgi_version.specs.declared.version.Version.{Version}
-use Rattle.osgi_version.specs.declared.version_reading.VersionReading.{VersionReading}
-use Rattle.osgi_version.specs.declared.version_reading.VersionReading.TheVariants.{Before}
 use Rattle.osgi_version.proofs.Readers.{IsReader, bad_at_end, bad_in, reads}
 use Rattle.osgi_version.proofs.VersionReader.{version_reader}
 use Rattle.component_dto.specs.Fields.{or_fault}
@@ -77,14 +76,14 @@ module _ {S V : Type 0} {step : S → ℕ → Option S} {at_end : S → Option V
   read_where text v is = record { spelled = reader.sound text v is; only = λ w k. let other = reader.complete text w k in cc }
 
 pub version_ok : (text : List ℕ) (v : Version) → IsRead SpellsVersion text v → version_of text ≡ Ok v
-version_ok text v h = ap (or_fault (BadVersion (reach version_step Before text))) (spelled_is version_reader text v h)
+version_ok text v h = ap (or_fault (BadVersion (reach version_step version_start text))) (spelled_is version_reader text v h)
 
 pub version_bad : (text : List ℕ) (at : ℕ) → IsBadAt SpellsVersion text at → version_of text ≡ Err (BadVersion at)
-version_bad text at h = ap (or_fault (BadVersion (reach version_step Before text))) (none_is version_reader text at h) ∙ ap (λ n. Err (BadVersion n)) (place_is version_reader text at h)
+version_bad text at h = ap (or_fault (BadVersion (reach version_step version_start text))) (none_is version_reader text at h) ∙ ap (λ n. Err (BadVersion n)) (place_is version_reader text at h)
 
 pub version_law : (text : List ℕ) → ReadsAs SpellsVersion text (version_of text)
-version_law text = by_answer (reads version_step version_at_end Before text) refl where
-  by_answer : (o : Option Version) → reads version_step version_at_end Before text ≡ o → ReadsAs SpellsVersion text (or_fault (BadVersion (reach version_step Before text)) o)
+version_law text = by_answer (reads version_step version_at_end version_start text) refl where
+  by_answer : (o : Option Version) → reads version_step version_at_end version_start text ≡ o → ReadsAs SpellsVersion text (or_fault (BadVersion (reach version_step version_start text)) o)
   by_answer (Some v) is = read_where version_reader text v is
   by_answer None is = bad_where version_reader text is
 

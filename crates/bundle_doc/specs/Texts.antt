@@ -5,10 +5,10 @@ use Rattle.bundle_headers.specs.ClauseSteps.{clauses_at_end, clauses_start, clau
 use Rattle.bundle_headers.specs.declared.clauses.Clauses.{Clauses}
 use Rattle.osgi_version.specs.Readings.{run}
 use Rattle.osgi_version.specs.VersionSteps.{version_at_end, version_step}
+use Rattle.osgi_version.specs.VersionStart.{version_start}
 use Rattle.osgi_version.specs.declared.fault.VersionFault.{VersionFault}
 use Rattle.osgi_version.specs.declared.fault.VersionFault.TheVariants.{BadVersion}
 use Rattle.osgi_version.specs.declared.version.Version.{Version}
-use Rattle.osgi_version.specs.declared.version_reading.VersionReading.TheVariants.{Before}
 use Rattle.component_dto.specs.Fields.{or_fault}
 
 -- none behind a step that isn't made, else one more than behind it
@@ -23,7 +23,7 @@ reach step s (b ∷ bs) = reach_behind (λ t. reach step t bs) (step s b)
 
 -- the version that a text is, or the place where it ceases to be one
 abbrev pub version_of : List ℕ → Result Version VersionFault
-version_of text = or_fault (BadVersion (reach version_step Before text)) (option_and_then version_at_end (run version_step Before text))
+version_of text = or_fault (BadVersion (reach version_step version_start text)) (option_and_then version_at_end (run version_step version_start text))
 
 -- the clauses that a text is, if it is a list of clauses
 abbrev pub clauses_of : List ℕ → Option Clauses

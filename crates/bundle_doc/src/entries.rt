@@ -129,9 +129,7 @@ fn with_one(alloc: Global, mut found: List<Str>, entry: &Str) -> Result<List<Str
     ensures { IfOk result (λ now. now ≡ with_one found entry.now) }
 {
     if !has_text(found.as_slice(), entry) {
-        found
-            .push(entry.copy(alloc)?)
-            .map_err(|refused| refused.1)?;
+        found.push(entry.copy(alloc)?).map_err(|refused| refused.1)?;
     }
     Ok(found)
 }

@@ -9,7 +9,9 @@ use crate::entries::{chosen, entries_of};
 use crate::fields::{check_object, needed_text_at, text_at};
 use crate::headers::headers_of;
 use crate::{BundleDoc, DocFault};
-use component_dto::{Description, DescriptionFault, first_repeated, given, read_description, spelled};
+use component_dto::{
+    Description, DescriptionFault, first_repeated, given, read_description, spelled,
+};
 use prop_map::{Copies, List, OutOfMemory, Str};
 use serde_json::{Category, Value};
 use std::alloc::Global;
@@ -84,11 +86,7 @@ fn all_described(
     Ok(List::of(found))
 }
 
-fn described(
-    alloc: Global,
-    components: Option<&Value>,
-    name: &Str,
-) -> Result<Description, DocFault>
+fn described(alloc: Global, components: Option<&Value>, name: &Str) -> Result<Description, DocFault>
     ensures { Reads result (described (option_map (λ v. view v.now) components.entry) name.now) }
 {
     if let Some(value) = components {
@@ -127,10 +125,7 @@ fn check_names(alloc: Global, descriptions: &[Description]) -> Result<(), DocFau
     }
 }
 
-fn names_of<'d>(
-    alloc: Global,
-    descriptions: &'d [Description],
-) -> Result<Vec<&'d str>, OutOfMemory>
+fn names_of<'d>(alloc: Global, descriptions: &'d [Description]) -> Result<Vec<&'d str>, OutOfMemory>
     ensures { IfOk result (λ names. map (λ n. n.now) names.items ≡ names_of descriptions.now) }
 {
     let mut names = Vec::new(alloc);

@@ -3,7 +3,8 @@ use prop_map::Copies;
 use std::alloc::AllocError;
 use std::test::Fail;
 
-const GREETER: &str = "{\"location\":\"file:com.acme.greeter.jar\",\"manifest\":\"Manifest-Version: 1.0\\r\\nBnd-LastModified: \
+const GREETER: &str =
+    "{\"location\":\"file:com.acme.greeter.jar\",\"manifest\":\"Manifest-Version: 1.0\\r\\nBnd-LastModified: \
     1704106800000\\r\\nBundle-ManifestVersion: 2\\r\\nBundle-Name: com.acme.greeter\\r\\nBundle-SymbolicName\
     : com.acme.greeter\\r\\nBundle-Version: 1.2.0.202401011200\\r\\nImport-Package: org.osgi.service.log;ver\
     sion=\\\"[1.4,2)\\\"\\r\\nProvide-Capability: osgi.service;objectClass:List<String>=\\\"com.acme.Gre\\r\
@@ -48,7 +49,10 @@ fn the_greeter_is_read(rt: HostRuntime) -> Result<(), Fail> {
         .ok()
         .ok_or("a document")?;
     assert_eq!(rt; doc.name.as_str(), "com.acme.greeter");
-    assert_eq!(rt; doc.version.text(rt.alloc())?.as_str(), "1.2.0.202401011200");
+    assert_eq!(rt;
+        doc.version.text(rt.alloc())?.as_str(),
+        "1.2.0.202401011200"
+    );
     assert_eq!(rt; doc.manifest.is_some(), true);
     assert_eq!(rt; names(rt, GREETER)?.as_str(), "com.acme.GreeterImpl ");
     assert_eq!(rt; is_built(&doc), false);
@@ -58,10 +62,12 @@ fn the_greeter_is_read(rt: HostRuntime) -> Result<(), Fail> {
 #[test]
 fn a_document_without_manifest_is_read(rt: HostRuntime) -> Result<(), Fail> {
     let text = "{\"location\":\"x\",\"components\":null,\"else\":1}";
-    let expected = "BundleDoc { location: \"x\", name: \"x\", version: Version { major: 0, minor: 0, micro: 0, \
+    let expected =
+        "BundleDoc { location: \"x\", name: \"x\", version: Version { major: 0, minor: 0, micro: 0, \
         qualifier: \"\" }, manifest: None, activator: None, descriptions: [] }";
     assert_eq!(rt; shown(rt, text)?.as_str(), expected);
-    let two = "{\"location\":\"x\",\"components\":{\"b\":{\"implementationClass\":\"A\"},\"a\":{\"implementationClass\":\"B\"}}}";
+    let two =
+        "{\"location\":\"x\",\"components\":{\"b\":{\"implementationClass\":\"A\"},\"a\":{\"implementationClass\":\"B\"}}}";
     assert_eq!(rt; names(rt, two)?.as_str(), "B A ");
     Ok(())
 }
@@ -73,9 +79,18 @@ fn the_first_fault_is_told(rt: HostRuntime) -> Result<(), Fail> {
         ("{\"location\":\"x\"", "NotJson"),
         ("7", "WrongType { field: \"document\" }"),
         ("{}", "MissingField { field: \"location\" }"),
-        ("{\"location\":\"\",\"manifest\":1}", "MissingField { field: \"location\" }"),
-        ("{\"location\":\"x\",\"manifest\":1}", "WrongType { field: \"manifest\" }"),
-        ("{\"location\":\"x\",\"components\":[]}", "WrongType { field: \"components\" }"),
+        (
+            "{\"location\":\"\",\"manifest\":1}",
+            "MissingField { field: \"location\" }",
+        ),
+        (
+            "{\"location\":\"x\",\"manifest\":1}",
+            "WrongType { field: \"manifest\" }",
+        ),
+        (
+            "{\"location\":\"x\",\"components\":[]}",
+            "WrongType { field: \"components\" }",
+        ),
         (
             "{\"location\":\"x\",\"components\":{\"e\":{\"implementationClass\":\"C\",\"factory\":\"f\"}}}",
             "InEntry { name: \"e\", fault: FactoryComponent }",
@@ -102,22 +117,33 @@ fn the_first_fault_is_told(rt: HostRuntime) -> Result<(), Fail> {
 
 // A document of three components, with this manifest.
 fn listed(rt: HostRuntime, manifest: &str) -> Result<String, AllocError> {
-    let text = format!(in rt.alloc(); "{{\"location\":\"x\",\"manifest\":\"{manifest}\",\"components\":{{\
+    let text = format!(in rt.alloc();
+        "{{\"location\":\"x\",\"manifest\":\"{manifest}\",\"components\":{{\
         \"d/a.x\":{{\"implementationClass\":\"A\"}},\"d/b.x\":{{\"implementationClass\":\"B\"}},\
-        \"d/e/a.x\":{{\"implementationClass\":\"E\"}}}}}}")?;
+        \"d/e/a.x\":{{\"implementationClass\":\"E\"}}}}}}"
+    )?;
     names(rt, text.as_str())
 }
 
 #[test]
 fn a_manifest_lists_its_entries(rt: HostRuntime) -> Result<(), Fail> {
     for (manifest, expected) in [
-        ("Bundle-SymbolicName: n\\n", "Header { fault: BadManifestVersion }"),
-        ("Bundle-ManifestVersion: 2\\n", "Header { fault: MissingName }"),
+        (
+            "Bundle-SymbolicName: n\\n",
+            "Header { fault: BadManifestVersion }",
+        ),
+        (
+            "Bundle-ManifestVersion: 2\\n",
+            "Header { fault: MissingName }",
+        ),
         (
             "Bundle-ManifestVersion: 2\\nBundle-SymbolicName: n\\nBundle-Version: x\\n",
             "Header { fault: BadVersion { at: 0 } }",
         ),
-        ("Bundle-ManifestVersion: 2\\nx\\n", "Header { fault: BadHeader { line: 2 } }"),
+        (
+            "Bundle-ManifestVersion: 2\\nx\\n",
+            "Header { fault: BadHeader { line: 2 } }",
+        ),
         ("Bundle-ManifestVersion: 2\\nBundle-SymbolicName: n\\n", ""),
         (
             "Bundle-ManifestVersion: 2\\nBundle-SymbolicName: n;a=1\\nService-Component: d/b.x , d/*.x,d/e/a.x\\n",
@@ -142,7 +168,9 @@ fn a_manifest_lists_its_entries(rt: HostRuntime) -> Result<(), Fail> {
 }
 
 fn built(rt: HostRuntime, fields: &str) -> Result<bool, Fail> {
-    let text = format!(in rt.alloc(); "{{\"location\":\"x\",\"components\":{{\"e\":{{\"implementationClass\":\"C\"{fields}}}}}}}")?;
+    let text = format!(in rt.alloc();
+        "{{\"location\":\"x\",\"components\":{{\"e\":{{\"implementationClass\":\"C\"{fields}}}}}}}"
+    )?;
     let doc: BundleDoc = read_bundle(rt.alloc(), text.as_bytes())
         .ok()
         .ok_or("a document")?;
@@ -153,9 +181,15 @@ fn built(rt: HostRuntime, fields: &str) -> Result<bool, Fail> {
 fn what_is_built_is_told(rt: HostRuntime) -> Result<(), Fail> {
     for (fields, expected) in [
         ("", true),
-        (",\"serviceInterfaces\":[\"A\"],\"references\":[{\"interfaceName\":\"X\"}],\"configurationPid\":[\"C\"]", true),
+        (
+            ",\"serviceInterfaces\":[\"A\"],\"references\":[{\"interfaceName\":\"X\"}],\"configurationPid\":[\"C\"]",
+            true,
+        ),
         (",\"serviceInterfaces\":[\"A\"],\"immediate\":true", false),
-        (",\"references\":[{\"interfaceName\":\"X\",\"target\":\"(a=1)\"}]", false),
+        (
+            ",\"references\":[{\"interfaceName\":\"X\",\"target\":\"(a=1)\"}]",
+            false,
+        ),
         (",\"configurationPid\":[\"D\"]", false),
         (",\"properties\":{\"a\":1}", false),
         (",\"defaultEnabled\":false", false),
@@ -167,9 +201,12 @@ fn what_is_built_is_told(rt: HostRuntime) -> Result<(), Fail> {
 
 #[test]
 fn a_fault_is_printed(rt: HostRuntime) -> Result<(), Fail> {
-    let fault = read_bundle(rt.alloc(), b"{\"location\":\"x\",\"components\":{\"e\":{}}}")
-        .err()
-        .ok_or("a fault")?;
+    let fault = read_bundle(
+        rt.alloc(),
+        b"{\"location\":\"x\",\"components\":{\"e\":{}}}",
+    )
+    .err()
+    .ok_or("a fault")?;
     let printed = format!(in rt.alloc(); "{fault}")?;
     assert_eq!(rt; printed.as_str(), "in e: implementationClass is missing");
     Ok(())

@@ -16,19 +16,16 @@ use std::alloc::{AllocError, Global};
 
 /// For contracts alone: the function that stands for versions gives the one version that a text spells, or the length of
 /// the text's longest prefix that some version continues.
-#[tactic(auto, using(crate::proofs::Machines::version_law))]
 pub fn note_versions()
     ensures { (text : List ℕ) → ReadsAs SpellsVersion text (version_of text) }
 {}
 
 /// For contracts alone: the function that stands for clauses gives the clauses that a text spells, and none where it
 /// spells none.
-#[tactic(auto, using(crate::proofs::Machines::clauses_law))]
 pub fn note_clauses()
     ensures { (text : List ℕ) (clauses : Clauses) → SpellsClauses text clauses ↔ (clauses_of text ≡ Some clauses) }
 {}
 
-#[tactic(auto, using(crate::proofs::Machines::version_ok, crate::proofs::Machines::version_bad))]
 pub(crate) fn version_of(alloc: Global, text: &str) -> Result<Version, DocFault>
     ensures { Reads result (with_version_fault (version_of text.now)) }
 {
@@ -41,7 +38,6 @@ pub(crate) fn version_of(alloc: Global, text: &str) -> Result<Version, DocFault>
     }
 }
 
-#[tactic(auto, using(crate::proofs::Machines::clauses_ok, crate::proofs::Machines::clauses_bad))]
 pub(crate) fn clauses_of(alloc: Global, text: &str) -> Result<Option<Clauses>, OutOfMemory>
     ensures { IfOk result (λ clauses. clauses ≡ clauses_of text.now) }
 {
