@@ -1,6 +1,13 @@
 -- A worked example: a consumer is installed and started before its provider.
-use Rattle.std.specs.Prelude.{◌≡◌, refl, [], ◌∷◌, codes, true, false, Ok, Err}
+use Rattle.std.specs.Prelude.{◌≡◌, ◌==◌, ℕ, List, length, refl, [], ◌∷◌, codes, true, false, None, Ok, Err}
+use Rattle.prop_map.specs.declared.reference_words.Cardinality.TheVariants.{One}
+use Rattle.prop_map.specs.declared.reference_words.Policy.TheVariants.{Static}
+use Rattle.prop_map.specs.declared.reference_words.PolicyOption.TheVariants.{Reluctant}
+use Rattle.osgi_version.specs.Versions.{empty_version}
+use Rattle.component_dto.specs.declared.description.ConfigurationPolicy.TheVariants.{Optional}
 use Rattle.component_dto.specs.declared.description.Description.{Description}
+use Rattle.component_dto.specs.declared.description.Reference.{Reference}
+use Rattle.component_dto.specs.declared.description.Scope.TheVariants.{Singleton}
 use Rattle.bundle_doc.specs.declared.document.BundleDoc.{BundleDoc}
 use Rattle.scr_core.specs.declared.command.Command.TheVariants.{Install, Start}
 use Rattle.scr_core.specs.declared.command.CoreFault.TheVariants.{NoBundle, Cycle}
@@ -11,34 +18,63 @@ use Rattle.scr_core.specs.Replies.{reply, changes}
 use Rattle.scr_core.specs.Legal.{IsLegal}
 use Rattle.scr_core.specs.Readers.{component_lines}
 
-abbrev consumer : Description
-consumer = record {
-  name = codes "c";
-  implementation_class = codes "C";
-  service_interfaces = [];
-  references = record { name = codes "p"; interface_name = codes "P" } ∷ [];
+-- a reference with the defaults in all other fields
+abbrev reference_to : List ℕ → List ℕ → Reference
+reference_to name interface = record {
+  name = name;
+  interface_name = interface;
+  cardinality = One;
+  policy = Static;
+  policy_option = Reluctant;
+  target = None;
+  updated = None;
 }
 
+-- a description with the defaults in all other fields
+abbrev described : List ℕ → List ℕ → List (List ℕ) → List Reference → Description
+described name class interfaces references = record {
+  name = name;
+  scope = Singleton;
+  implementation_class = class;
+  default_enabled = true;
+  immediate = length interfaces == 0;
+  service_interfaces = interfaces;
+  properties = [];
+  references = references;
+  modified = None;
+  configuration_policy = Optional;
+  configuration_pids = name ∷ [];
+}
+
+-- a document of one component, without a manifest
+abbrev document_of : List ℕ → Description → BundleDoc
+document_of location description = record {
+  location = location;
+  name = location;
+  version = empty_version;
+  manifest = None;
+  activator = None;
+  descriptions = description ∷ [];
+}
+
+abbrev consumer : Description
+consumer = described (codes "c") (codes "C") [] (reference_to (codes "p") (codes "P") ∷ [])
+
 abbrev provider : Description
-provider = record { name = codes "p"; implementation_class = codes "P"; service_interfaces = codes "P" ∷ []; references = [] }
+provider = described (codes "p") (codes "P") (codes "P" ∷ []) []
 
 -- provides what it references
 abbrev own_consumer : Description
-own_consumer = record {
-  name = codes "o";
-  implementation_class = codes "O";
-  service_interfaces = codes "Q" ∷ [];
-  references = record { name = codes "q"; interface_name = codes "Q" } ∷ [];
-}
+own_consumer = described (codes "o") (codes "O") (codes "Q" ∷ []) (reference_to (codes "q") (codes "Q") ∷ [])
 
 abbrev document_c : BundleDoc
-document_c = record { location = codes "c"; descriptions = consumer ∷ [] }
+document_c = document_of (codes "c") consumer
 
 abbrev document_p : BundleDoc
-document_p = record { location = codes "p"; descriptions = provider ∷ [] }
+document_p = document_of (codes "p") provider
 
 abbrev document_o : BundleDoc
-document_o = record { location = codes "o"; descriptions = own_consumer ∷ [] }
+document_o = document_of (codes "o") own_consumer
 
 -- the journal, the last entry first
 abbrev past0 : History

@@ -1,7 +1,8 @@
 use crate::{Command, Core, CoreFault, Limits, Reply};
 use bundle_doc::BundleDoc;
-use component_dto::{Description, Reference};
-use prop_map::{List, Str};
+use component_dto::{ConfigurationPolicy, Description, Reference, Scope};
+use osgi_version::Version;
+use prop_map::{Cardinality, List, Policy, PolicyOption, Properties, Str};
 use std::alloc::AllocError;
 use std::test::Fail;
 
@@ -35,17 +36,33 @@ fn document(
         references.push(Reference {
             name: text(rt, need)?,
             interface_name: text(rt, need)?,
+            cardinality: Cardinality::One,
+            policy: Policy::Static,
+            policy_option: PolicyOption::Reluctant,
+            target: None,
+            updated: None,
         })?;
     }
     let mut descriptions = Vec::new(alloc);
     descriptions.push(Description {
         name: text(rt, location)?,
+        scope: Scope::Singleton,
         implementation_class: text(rt, location)?,
+        default_enabled: true,
+        immediate: provided.is_empty(),
         service_interfaces: texts(rt, provided)?,
+        properties: Properties::new(alloc),
         references: List::of(references),
+        modified: None,
+        configuration_policy: ConfigurationPolicy::Optional,
+        configuration_pids: texts(rt, &[location])?,
     })?;
     Ok(BundleDoc {
         location: text(rt, location)?,
+        name: text(rt, location)?,
+        version: Version::empty(alloc),
+        manifest: None,
+        activator: None,
         descriptions: List::of(descriptions),
     })
 }
