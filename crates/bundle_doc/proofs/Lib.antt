@@ -1,2 +1,4 @@
-pub mod MemberValues
+pub mod EachOf
+pub mod Machines
 pub mod Meanings
+pub mod NameLemmas

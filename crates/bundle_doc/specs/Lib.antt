@@ -1,2 +1,7 @@
+pub mod Built
 pub mod Documents
+pub mod Entries
 pub mod Faults
+pub mod Headers
+pub mod Names
+pub mod Texts

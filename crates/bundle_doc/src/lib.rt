@@ -1,14 +1,20 @@
-//! Bundle documents: a bundle as one JSON text.
-//!
-//! A document has a `location` and at most one entry in `components` so far. What has any other field isn't built yet.
+//! Bundle documents: a bundle as one JSON text, with its manifest and the descriptions of its components.
 #![tactic(auto)]
 
+mod built;
 mod document;
+mod entries;
 mod fault;
+mod fields;
+mod headers;
+mod names;
 mod reading;
 #[cfg(test)]
 mod tests;
+mod texts;
 
+pub use built::is_built;
 pub use document::BundleDoc;
 pub use fault::DocFault;
 pub use reading::read_bundle;
+pub use texts::{note_clauses, note_versions};

@@ -1,12 +1,31 @@
 //! Blanks round a text.
-ghost use Rattle.std.specs.Prelude.{◌≡◌};
+ghost use Rattle.std.specs.Prelude.{◌≡◌, IsUtf8};
 ghost use Rattle.bundle_headers.specs.Blanks.{is_blank, trim_end, trim_start, trimmed};
+
+use std::str;
 
 /// The bytes without the blanks before and behind them.
 pub(crate) fn trimmed(bytes: &[u8]) -> &[u8]
     ensures { result.now ≡ trimmed bytes.now }
 {
     trim_end(trim_start(bytes))
+}
+
+/// The text without the blanks before and behind it. It takes no memory.
+pub fn trimmed_text(text: &str) -> &str
+    ensures { result.now ≡ trimmed text.now }
+{
+    text_of(trimmed(text.as_bytes()))
+}
+
+fn text_of(bytes: &[u8]) -> &str
+    requires { IsUtf8 bytes.now }
+    ensures { result.now ≡ bytes.now }
+{
+    match str::from_utf8(bytes) {
+        Ok(text) => text,
+        Err(_) => unreachable!(),
+    }
 }
 
 fn trim_start(bytes: &[u8]) -> &[u8]

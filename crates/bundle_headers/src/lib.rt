@@ -14,6 +14,7 @@ mod pairs;
 #[cfg(test)]
 mod tests;
 
+pub use blanks::trimmed_text;
 pub use clauses::{Clause, Clauses};
 pub use fault::HeaderFault;
 pub use manifest::Manifest;

@@ -11,7 +11,7 @@ use std::alloc::Global;
 use std::marker::Model;
 
 /// The headers of a manifest. Contracts see their names and values, in the order of the text.
-#[derive(Debug, Drop)]
+#[derive(Debug, PartialEq, Eq, Drop)]
 pub struct Manifest {
     headers: List<(Str, Str)>,
 }
@@ -22,6 +22,8 @@ impl Model for Manifest {
     ghost Value = { List (List ℕ × List ℕ) };
 
     ghost view = { λ m. m.headers };
+
+    ghost inverse = { λ headers. record { headers = headers } };
 }
 
 impl Manifest {

@@ -1,3 +1,3 @@
-pub mod EachItem
+pub mod EachRead
+pub mod Places
 pub mod TextListLemmas
-pub mod Members

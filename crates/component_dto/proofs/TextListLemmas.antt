@@ -1,16 +1,17 @@
 -- A list of texts that is taken in text by text.
-use Rattle.std.proofs.Common.{◌≡◌, ℕ, List, [], ◌∷◌, ◌++◌, ap, sym, ◌∙◌, refl, Bool, true, false, cond, not, ◌||◌, append-nil}
+use Rattle.std.proofs.Common.{◌≡◌, ℕ, List, [], ◌∷◌, ◌++◌, ap, sym, ◌∙◌, refl, Bool, true, false, cond, not, ◌||◌, append-nil, Bor, ◌<◌, ◌+◌, suc, length, get_or, take, drop, Some, Option, add-one, drop-cons}
 use Rattle.std.specs.Prelude.{map}
 use Rattle.std.specs.List.{list_any, filter}
 use Rattle.std.specs.Str.{bytes_eq}
 use Rattle.std.proofs.lemmas.Slice.Eq.{bytes_eq-Decides}
 use Rattle.std.proofs.lemmas.List.Elements.{filter-append}
 use Rattle.std.proofs.lemmas.Map.Views.{any-filter_same}
-use Rattle.component_dto.specs.TextLists.{has_text, each_once}
+use Rattle.std.proofs.lemmas.List.{map-append, take_more}
+use Rattle.component_dto.specs.TextLists.{has_text, each_once, repeated_behind}
 
-pub list_any-map : {A B : Type 0} (p : B → Bool) (f : A → B) (xs : List A) → list_any p (map f xs) ≡ list_any (λ x. p (f x)) xs
-list_any-map p f [] = refl
-list_any-map p f (x ∷ xs) = ap (λ b. p (f x) || b) (list_any-map p f xs)
+pub any_mapped : {A B : Type 0} (p : B → Bool) (f : A → B) (xs : List A) → list_any p (map f xs) ≡ list_any (λ x. p (f x)) xs
+any_mapped p f [] = refl
+any_mapped p f (x ∷ xs) = ap (λ b. p (f x) || b) (any_mapped p f xs)
 
 same_text : (a b : List ℕ) → bytes_eq a b ≡ true → a ≡ b
 same_text a b e = (bytes_eq-Decides a b).0 e
@@ -50,3 +51,18 @@ each_once-more (x ∷ xs) t =
           ≡ cond (bytes_eq x t || has_text (filter (λ y. not (bytes_eq y x)) (each_once xs)) t) (x ∷ filter (λ y. not (bytes_eq y x)) (each_once xs)) (x ∷ (filter (λ y. not (bytes_eq y x)) (each_once xs) ++ t ∷ []))
       cases true is = rw (← is) (ap (λ w. x ∷ w) (drops x t (ap (λ w. bytes_eq t w) (same_text x t (sym is)) ∙ text_itself t) (each_once xs) (has_text (each_once xs) t)))
       cases false is = rw (← is, filter_keeps x t (differs x t (sym is)) (each_once xs)) (stays x t (differs x t (sym is)) (each_once xs) (has_text (each_once xs) t))
+
+grown : (texts : List (Bor (List ℕ))) (at : ℕ) (d : Bor (List ℕ)) → at < length texts → map (λ x. x.now) (take at texts) ++ (get_or texts at d).now ∷ [] ≡ map (λ x. x.now) (take (at + 1) texts)
+grown texts at d within = sym (ap (map (λ x. x.now)) (take_more texts at d within) ∙ map-append (λ (x : Bor (List ℕ)). x.now) (take at texts) (get_or texts at d ∷ []))
+
+-- one more text of a list that is looked through for one that was there before
+pub repeated_step : (texts : List (Bor (List ℕ))) (at : ℕ) (d : Bor (List ℕ)) → at < length texts
+    → repeated_behind (map (λ x. x.now) (take at texts)) (map (λ x. x.now) (drop at texts))
+    ≡ cond (has_text (map (λ x. x.now) (take at texts)) (get_or texts at d).now) (Some (get_or texts at d).now)
+    (repeated_behind (map (λ x. x.now) (take (at + 1) texts)) (map (λ x. x.now) (drop (at + 1) texts)))
+repeated_step texts at d within =
+    let found : Option (List ℕ) = Some (get_or texts at d).now in
+    let has : Bool = has_text (map (λ x. x.now) (take at texts)) (get_or texts at d).now in
+    ap (λ (w : List (Bor (List ℕ))). repeated_behind (map (λ x. x.now) (take at texts)) (map (λ x. x.now) w)) (drop-cons texts at d within)
+    ∙ ap (λ w. cond has found (repeated_behind w (map (λ x. x.now) (drop (suc at) texts)))) (grown texts at d within)
+    ∙ ap (λ k. cond has found (repeated_behind (map (λ x. x.now) (take (at + 1) texts)) (map (λ x. x.now) (drop k texts)))) (sym (add-one at))

@@ -1,80 +1,110 @@
--- A description as JSON data: ComponentDescriptionDTO and ReferenceDTO of OSGi Compendium 8, chapter 112. The defaults of
--- the name, of a reference's name and of the lists are our own.
-use Rattle.std.specs.Prelude.{ℕ, ◌==◌, length, List, [], ◌∷◌, codes, Bool, true, not, ◌&&◌, Option, Some, None, option_and_then, option_map, if◌then◌else◌}
-use Rattle.std.specs.List.{list_any}
+-- A description as JSON data: ComponentDescriptionDTO of OSGi Compendium 8, chapter 112. The defaults are those of its
+-- attributes and elements in section 112.4; that of the name is our own.
+use Rattle.std.specs.Prelude.{◌≡◌, ◌≤◌, ◌<◌, ℕ, true, List, [], ◌∷◌, length, map, codes, Option, Some, None, if◌then◌else◌, Result, Ok, Err}
+use Rattle.std.specs.Option.{is_some, unwrap_or}
 use Rattle.std.specs.Str.{bytes_eq}
 use Rattle.serde_json.specs.Data.{Data}
-use Rattle.serde_json.specs.Find.{as_str, as_array}
+use Rattle.serde_json.specs.Find.{as_object}
+use Rattle.prop_map.specs.JsonProperties.{properties_of}
+use Rattle.prop_map.specs.declared.prop_fault.PropFault.{PropFault}
+use Rattle.prop_map.specs.declared.prop_fault.PropFault.TheVariants.{NotObject, FloatValue, NestedValue, MixedList, SameKey, OutOfMemory as NoMemory}
+use Rattle.prop_map.specs.declared.properties.Property.{Property}
 use Rattle.component_dto.specs.declared.description.Description.{Description}
 use Rattle.component_dto.specs.declared.description.Reference.{Reference}
 use Rattle.component_dto.specs.declared.description.Scope.TheVariants.{Singleton}
 use Rattle.component_dto.specs.declared.description.ConfigurationPolicy.TheVariants.{Optional}
-use Rattle.prop_map.specs.declared.reference_words.Cardinality.TheVariants.{One}
-use Rattle.prop_map.specs.declared.reference_words.Policy.TheVariants.{Static}
-use Rattle.prop_map.specs.declared.reference_words.PolicyOption.TheVariants.{Reluctant}
-use Rattle.component_dto.specs.Fields.{given, needed_text, text_or, has_only, each}
+use Rattle.component_dto.specs.declared.fault.DescriptionFault.{DescriptionFault}
+use Rattle.component_dto.specs.declared.fault.DescriptionFault.TheVariants.{WrongType, BadProperty, OutOfMemory}
+use Rattle.component_dto.specs.declared.given_fields.GivenFields.{GivenFields}
+use Rattle.component_dto.specs.declared.references.ReferenceFields.{ReferenceFields}
+use Rattle.component_dto.specs.Fields.{after, flag_at, given, if_given, needed_text_at, or_empty, text_at, texts_at, word_at}
+use Rattle.component_dto.specs.References.{references_at}
+use Rattle.component_dto.specs.Rules.{is_immediate, rules}
 use Rattle.component_dto.specs.TextLists.{each_once}
+use Rattle.component_dto.specs.Words.{configuration_policy_of, scope_of}
 
--- the texts of a list, by default none
-abbrev pub texts_of : Option Data → Option (List (List ℕ))
-texts_of None = Some []
-texts_of (Some d) = option_and_then (each as_str) (as_array d)
+-- what is wrong with properties, as a description's fault
+abbrev pub fault_in : List ℕ → PropFault → DescriptionFault
+fault_in field NotObject = WrongType field
+fault_in field (FloatValue key) = BadProperty (FloatValue key)
+fault_in field (NestedValue key) = BadProperty (NestedValue key)
+fault_in field (MixedList key) = BadProperty (MixedList key)
+fault_in field (SameKey key) = BadProperty (SameKey key)
+fault_in field NoMemory = OutOfMemory
 
--- the interfaces of a component's service, each once
-abbrev pub interfaces_of : Option Data → Option (List (List ℕ))
-interfaces_of d = option_map each_once (texts_of d)
+abbrev pub with_fault_in : List ℕ → Result (List Property) PropFault → Result (List Property) DescriptionFault
+with_fault_in field (Ok properties) = Ok properties
+with_fault_in field (Err fault) = Err (fault_in field fault)
 
--- a reference with this interface; its name is by default that of the interface
-abbrev pub reference_to : Data → List ℕ → Option Reference
-reference_to d interface = option_map (λ name. record { name = name; interface_name = interface; cardinality = One; policy = Static; policy_option = Reluctant; target = None; updated = None }) (text_or interface (given (codes "name") d))
+abbrev pub properties_in : List ℕ → Data → Result (List Property) DescriptionFault
+properties_in field d = with_fault_in field (properties_of d)
 
-abbrev pub referenced : Data → Option Reference
-referenced d = option_and_then (reference_to d) (needed_text (codes "interfaceName") d)
+abbrev pub properties_at : List ℕ → Data → Result (List Property) DescriptionFault
+properties_at field d = after (if_given (properties_in field) (given field d)) (λ properties. Ok (or_empty properties))
 
-abbrev pub reference_fields : List (List ℕ)
-reference_fields = codes "name" ∷ codes "interfaceName" ∷ []
-
--- a reference: an object with these fields alone
-abbrev pub reference_of : Data → Option Reference
-reference_of d = if has_only reference_fields d then referenced d else None
-
--- no two of these references have one name
-abbrev pub differ_in_name : List Reference → Bool
-differ_in_name [] = true
-differ_in_name (r ∷ rs) = not (list_any (λ (s : Reference). bytes_eq s.name r.name) rs) && differ_in_name rs
-
-abbrev pub told_apart : List Reference → Option (List Reference)
-told_apart rs = if differ_in_name rs then Some rs else None
-
--- the references of a list, each with a name of its own; by default none
-abbrev pub references_of : Option Data → Option (List Reference)
-references_of None = Some []
-references_of (Some d) = option_and_then told_apart (option_and_then (each reference_of) (as_array d))
-
--- a description of this class; its name is by default that of the class
-abbrev pub description_with : Data → List ℕ → Option Description
-description_with d class =
-    option_and_then (λ name. option_and_then (λ interfaces. option_map (λ refs. record {
-      name = name;
-      scope = Singleton;
+-- the fields of a description in order, or the first that is at fault
+abbrev pub given_fields : Data → Result GivenFields DescriptionFault
+given_fields d =
+    after (text_at (codes "name") d) (λ name.
+    after (text_at (codes "factory") d) (λ factory.
+    after (word_at scope_of (codes "scope") d) (λ scope.
+    after (needed_text_at (codes "implementationClass") d) (λ class.
+    after (flag_at (codes "defaultEnabled") d) (λ enabled.
+    after (flag_at (codes "immediate") d) (λ immediate.
+    after (texts_at (codes "serviceInterfaces") d) (λ interfaces.
+    after (properties_at (codes "properties") d) (λ properties.
+    after (references_at (codes "references") d) (λ references.
+    after (text_at (codes "activate") d) (λ _.
+    after (text_at (codes "deactivate") d) (λ _.
+    after (text_at (codes "modified") d) (λ modified.
+    after (word_at configuration_policy_of (codes "configurationPolicy") d) (λ policy.
+    after (texts_at (codes "configurationPid") d) (λ pids.
+    Ok (record {
+      name = unwrap_or name class;
+      factory = factory;
+      scope = unwrap_or scope Singleton;
       implementation_class = class;
-      default_enabled = true;
-      immediate = length interfaces == 0;
-      service_interfaces = interfaces;
-      properties = [];
-      references = refs;
-      modified = None;
-      configuration_policy = Optional;
-      configuration_pids = name ∷ [];
-    })
-    (references_of (given (codes "references") d))) (interfaces_of (given (codes "serviceInterfaces") d))) (text_or class (given (codes "name") d))
+      default_enabled = unwrap_or enabled true;
+      immediate = immediate;
+      service_interfaces = each_once interfaces;
+      properties = properties;
+      references = references;
+      modified = modified;
+      configuration_policy = unwrap_or policy Optional;
+      configuration_pids = pids;
+    })))))))))))))))
 
-abbrev pub described : Data → Option Description
-described d = option_and_then (description_with d) (needed_text (codes "implementationClass") d)
+abbrev pub of_object : Data → Result (Unit {0}) DescriptionFault
+of_object d = if is_some (as_object d) then Ok tt else Err (WrongType (codes "component"))
 
-abbrev pub description_fields : List (List ℕ)
-description_fields = codes "name" ∷ codes "implementationClass" ∷ codes "serviceInterfaces" ∷ codes "references" ∷ []
+-- `$` stands for the name
+abbrev pub pid_of : List ℕ → List ℕ → List ℕ
+pid_of name pid = if bytes_eq pid (codes "$") then name else pid
 
--- a description: an object with these fields alone
-abbrev pub description_of : Data → Option Description
-description_of d = if has_only description_fields d then described d else None
+-- the PIDs of a component of this name, by default the name
+abbrev pub pids_of : List ℕ → List (List ℕ) → List (List ℕ)
+pids_of name [] = name ∷ []
+pids_of name (pid ∷ pids) = map (pid_of name) (pid ∷ pids)
+
+abbrev pub references_of : GivenFields → List Reference
+references_of f = map (λ (r : ReferenceFields). r.reference) f.references
+
+-- the description that these fields give
+abbrev pub described : GivenFields → Description
+described f = record {
+  name = f.name;
+  scope = f.scope;
+  implementation_class = f.implementation_class;
+  default_enabled = f.default_enabled;
+  immediate = is_immediate f;
+  service_interfaces = f.service_interfaces;
+  properties = f.properties;
+  references = references_of f;
+  modified = f.modified;
+  configuration_policy = f.configuration_policy;
+  configuration_pids = pids_of f.name f.configuration_pids;
+}
+
+-- the description that a value is, or what is wrong with it first: that it is no object, a field, a rule
+abbrev pub description_of : Data → Result Description DescriptionFault
+description_of d = after (of_object d) (λ _. after (given_fields d) (λ f. after (rules f) (λ _. Ok (described f))))

@@ -1,10 +1,9 @@
--- What a reading of a description answers.
-use Rattle.std.specs.Prelude.{◌≡◌, Option, Some, None, Result, Ok, Err}
+-- What a reading answers, against what is there to be read.
+use Rattle.std.specs.Prelude.{◌≡◌, ◌≢◌, Result, Ok, Err}
 use Rattle.component_dto.specs.declared.fault.DescriptionFault.{DescriptionFault}
-use Rattle.component_dto.specs.declared.fault.DescriptionFault.TheVariants.{NotBuilt, OutOfMemory}
+use Rattle.component_dto.specs.declared.fault.DescriptionFault.TheVariants.{OutOfMemory}
 
--- Ok gives the one meaning, NotBuilt comes exactly where there is none, and want of memory is free
-abbrev pub Reads : {T : Type 0} → Result T DescriptionFault → Option T → Type 0
-Reads (Ok value) meaning = meaning ≡ Some value
-Reads (Err NotBuilt) meaning = meaning ≡ None
-Reads (Err OutOfMemory) meaning = Unit {0}
+-- the answer is the meaning; want of memory is free
+abbrev pub Reads : {T : Type 0} → Result T DescriptionFault → Result T DescriptionFault → Type 0
+Reads (Ok value) meaning = meaning ≡ Ok value
+Reads (Err fault) meaning = fault ≢ OutOfMemory → meaning ≡ Err fault

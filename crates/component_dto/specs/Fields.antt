@@ -1,9 +1,10 @@
--- The fields of a JSON object. Our own words.
-use Rattle.std.specs.Prelude.{ℕ, ◌&&◌, ◌||◌, List, [], ◌∷◌, Bool, true, false, Option, Some, None, option_and_then, option_map}
-use Rattle.serde_json.specs.Data.{Data, null, boolean, number, string, array, object, Items, no_items, item, Members, no_members, member}
-use Rattle.serde_json.specs.Find.{get, as_null, as_str, as_object}
-use Rattle.std.specs.Option.{is_some, option_map_or}
-use Rattle.component_dto.specs.TextLists.{has_text}
+-- The fields of a JSON object, each read by its type. Our own words.
+use Rattle.std.specs.Prelude.{ℕ, List, [], ◌∷◌, Bool, Option, Some, None, option_and_then, Result, Ok, Err}
+use Rattle.serde_json.specs.Data.{Data, null, boolean, number, string, array, object, Items, no_items, item}
+use Rattle.serde_json.specs.Find.{get, as_bool, as_str, as_array}
+use Rattle.prop_map.specs.JsonProperties.{each}
+use Rattle.component_dto.specs.declared.fault.DescriptionFault.{DescriptionFault}
+use Rattle.component_dto.specs.declared.fault.DescriptionFault.TheVariants.{MissingField, WrongType, BadWord}
 
 -- a missing value and null are the same
 abbrev pub not_null : Data → Option Data
@@ -18,30 +19,64 @@ not_null (object ms) = Some (object ms)
 abbrev pub given : List ℕ → Data → Option Data
 given field d = option_and_then not_null (get field d)
 
--- a text that isn't empty
-abbrev pub filled : List ℕ → Option (List ℕ)
-filled [] = None
-filled (b ∷ bs) = Some (b ∷ bs)
+-- what follows, unless there is a fault
+abbrev pub after : {A B F : Type 0} → Result A F → (A → Result B F) → Result B F
+after (Ok x) next = next x
+after (Err fault) next = Err fault
 
--- the text of a field that has to be there and may not be empty
-abbrev pub needed_text : List ℕ → Data → Option (List ℕ)
-needed_text field d = option_and_then filled (option_and_then as_str (given field d))
+-- what is there, or this fault
+abbrev pub or_fault : {T F : Type 0} → F → Option T → Result T F
+or_fault fault None = Err fault
+or_fault fault (Some x) = Ok x
 
--- a text, or the default where none is given
-abbrev pub text_or : List ℕ → Option Data → Option (List ℕ)
-text_or default None = Some default
-text_or default (Some d) = as_str d
+-- what a value is read as, if one is given
+abbrev pub if_given : {T F : Type 0} → (Data → Result T F) → Option Data → Result (Option T) F
+if_given reading None = Ok None
+if_given reading (Some d) = after (reading d) (λ x. Ok (Some x))
 
--- each member has one of these names, or is null
-abbrev pub has_only_members : List (List ℕ) → Members → Bool
-has_only_members fields no_members = true
-has_only_members fields (member name d ms) = (has_text fields name || is_some (as_null d)) && has_only_members fields ms
+-- a text in a field
+abbrev pub text_in : List ℕ → Data → Result (List ℕ) DescriptionFault
+text_in field d = or_fault (WrongType field) (as_str d)
 
--- an object without other fields than these; a field that is null counts as missing
-abbrev pub has_only : List (List ℕ) → Data → Bool
-has_only fields d = option_map_or (has_only_members fields) (as_object d) false
+abbrev pub flag_in : List ℕ → Data → Result Bool DescriptionFault
+flag_in field d = or_fault (WrongType field) (as_bool d)
 
--- what each item of a list means, where all of them mean something
-abbrev pub each : {T : Type 0} → (Data → Option T) → Items → Option (List T)
-each meaning no_items = Some []
-each meaning (item d ds) = option_and_then (λ x. option_map (λ xs. x ∷ xs) (each meaning ds)) (meaning d)
+-- a list of texts
+abbrev pub texts_in : List ℕ → Data → Result (List (List ℕ)) DescriptionFault
+texts_in field d = or_fault (WrongType field) (option_and_then (each as_str) (as_array d))
+
+-- one of a number of words
+abbrev pub word_in : {T : Type 0} → (List ℕ → Option T) → List ℕ → Data → Result T DescriptionFault
+word_in words field d = after (text_in field d) (λ word. or_fault (BadWord field) (words word))
+
+abbrev pub text_at : List ℕ → Data → Result (Option (List ℕ)) DescriptionFault
+text_at field d = if_given (text_in field) (given field d)
+
+abbrev pub flag_at : List ℕ → Data → Result (Option Bool) DescriptionFault
+flag_at field d = if_given (flag_in field) (given field d)
+
+-- the texts of a field, by default none
+abbrev pub or_empty : {T : Type 0} → Option (List T) → List T
+or_empty None = []
+or_empty (Some xs) = xs
+
+abbrev pub texts_at : List ℕ → Data → Result (List (List ℕ)) DescriptionFault
+texts_at field d = after (if_given (texts_in field) (given field d)) (λ texts. Ok (or_empty texts))
+
+abbrev pub word_at : {T : Type 0} → (List ℕ → Option T) → List ℕ → Data → Result (Option T) DescriptionFault
+word_at words field d = if_given (word_in words field) (given field d)
+
+-- a text that is there and isn't empty
+abbrev pub filled : Option (List ℕ) → Option (List ℕ)
+filled None = None
+filled (Some []) = None
+filled (Some (b ∷ bs)) = Some (b ∷ bs)
+
+-- the text of a field that has to be there
+abbrev pub needed_text_at : List ℕ → Data → Result (List ℕ) DescriptionFault
+needed_text_at field d = after (text_at field d) (λ text. or_fault (MissingField field) (filled text))
+
+-- what each item of a list is read as, or the fault of the first that has one
+abbrev pub each_read : {T F : Type 0} → (Data → Result T F) → Items → Result (List T) F
+each_read reading no_items = Ok []
+each_read reading (item d ds) = after (reading d) (λ x. after (each_read reading ds) (λ xs. Ok (x ∷ xs)))

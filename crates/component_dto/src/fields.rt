@@ -1,17 +1,16 @@
-//! The fields of a JSON object.
-ghost use Rattle.std.specs.Prelude.{◌≡◌, ◌&&◌, ◌||◌, map, option_map, string_bytes};
-ghost use Rattle.std.specs.List.{list_all, list_any};
-ghost use Rattle.std.specs.Option.{is_some};
-ghost use Rattle.std.specs.Str.{bytes_eq};
-ghost use Rattle.serde_json.specs.Find.{as_null, get};
-ghost use Rattle.serde_json.specs.View.{view, members_view};
+//! The fields of a JSON object, each read by its type.
+ghost use Rattle.std.specs.Prelude.{◌≡◌, IfOk, option_map};
+ghost use Rattle.serde_json.specs.Find.{as_str};
+ghost use Rattle.serde_json.specs.View.{view, items_view};
+ghost use Rattle.prop_map.specs.JsonProperties.{each};
 ghost use Rattle.component_dto.specs.Faults.{Reads};
-ghost use Rattle.component_dto.specs.Fields.{given, has_only, has_only_members, needed_text, text_or};
-ghost use Rattle.component_dto.specs.TextLists.{has_text};
+ghost use Rattle.component_dto.specs.Fields.{flag_at, given, needed_text_at, text_at, texts_at, texts_in, word_at, word_in};
 
 use crate::DescriptionFault;
-use prop_map::{Copies, Str};
-use serde_json::{Map, Value};
+use crate::text_lists::spelled;
+use crate::words::Word;
+use prop_map::{List, OutOfMemory, Str};
+use serde_json::Value;
 use std::alloc::Global;
 
 /// The value of a field, where it is there and isn't null: a field that is null counts as missing.
@@ -24,71 +23,141 @@ pub fn given<'v>(json: &'v Value, field: &str) -> Option<&'v Value>
     }
 }
 
-/// The text of a field that has to be there and may not be empty.
-///
-/// # Errors
-/// `NotBuilt` exactly where the field is missing, no text or empty.
-pub fn needed_text(alloc: Global, json: &Value, field: &str) -> Result<Str, DescriptionFault>
-    ensures { Reads result (needed_text field.now (view json.now)) }
-{
-    match json.get(field).and_then(Value::as_str) {
-        Some(text) if !text.is_empty() => Ok(Str::of(String::from_str(alloc, text)?)),
-        _ => Err(DescriptionFault::NotBuilt),
-    }
-}
-
 /// The text of a field that may be missing.
 ///
 /// # Errors
-/// `NotBuilt` exactly where the field is there and is no text.
-pub(crate) fn text_or(
+/// `WrongType` exactly where it is there and no text.
+pub(crate) fn text_at(
     alloc: Global,
-    json: Option<&Value>,
-    default: &Str,
-) -> Result<Str, DescriptionFault>
-    ensures { Reads result (text_or default.now (option_map (λ v. view v.now) json.entry)) }
+    json: &Value,
+    field: &str,
+) -> Result<Option<Str>, DescriptionFault>
+    ensures { Reads result (text_at field.now (view json.now)) }
 {
-    match json {
-        None => Ok(default.copy(alloc)?),
+    match given(json, field) {
+        None => Ok(None),
         Some(value) => match value.as_str() {
-            Some(text) => Ok(Str::of(String::from_str(alloc, text)?)),
-            None => Err(DescriptionFault::NotBuilt),
+            Some(text) => Ok(Some(spelled(alloc, text)?)),
+            None => Err(DescriptionFault::WrongType {
+                field: spelled(alloc, field)?,
+            }),
         },
     }
 }
 
-/// Whether the value is an object without other fields than these. A field that is null counts as missing.
-pub fn has_only(json: &Value, fields: &[&str]) -> bool
-    ensures { result ≡ has_only (map (λ f. f.now) fields.now) (view json.now) }
+/// The text of a field that has to be there.
+///
+/// # Errors
+/// `WrongType` exactly where it is no text, `MissingField` exactly where it is missing or empty.
+pub(crate) fn needed_text_at(
+    alloc: Global,
+    json: &Value,
+    field: &str,
+) -> Result<Str, DescriptionFault>
+    ensures { Reads result (needed_text_at field.now (view json.now)) }
 {
-    match json.as_object() {
-        Some(members) => has_only_members(members, fields),
-        None => false,
+    match text_at(alloc, json, field)? {
+        Some(text) if !text.as_str().is_empty() => Ok(text),
+        _ => Err(DescriptionFault::MissingField {
+            field: spelled(alloc, field)?,
+        }),
     }
 }
 
-fn has_only_members(members: &Map<String, Value>, fields: &[&str]) -> bool
-    ensures { result ≡ has_only_members (map (λ f. f.now) fields.now) (members_view members.now.entries) }
+/// The flag of a field that may be missing.
+///
+/// # Errors
+/// `WrongType` exactly where it is there and no flag.
+pub(crate) fn flag_at(
+    alloc: Global,
+    json: &Value,
+    field: &str,
+) -> Result<Option<bool>, DescriptionFault>
+    ensures { Reads result (flag_at field.now (view json.now)) }
 {
-    are_fields(members, fields)
+    match given(json, field) {
+        None => Ok(None),
+        Some(value) => match value.as_bool() {
+            Some(flag) => Ok(Some(flag)),
+            None => Err(DescriptionFault::WrongType {
+                field: spelled(alloc, field)?,
+            }),
+        },
+    }
 }
 
-fn are_fields(members: &Map<String, Value>, fields: &[&str]) -> bool
-    ensures { result ≡ list_all (λ e. has_text (map (λ f. f.now) fields.now) (string_bytes e.0) || is_some (as_null (view e.1))) members.now.entries }
+/// The texts of a field, none where it is missing.
+///
+/// # Errors
+/// `WrongType` exactly where it is there and no list of texts.
+pub(crate) fn texts_at(
+    alloc: Global,
+    json: &Value,
+    field: &str,
+) -> Result<List<Str>, DescriptionFault>
+    ensures { Reads result (texts_at field.now (view json.now)) }
 {
-    members
-        .iter()
-        .all(|(name, value)| is_field(name, fields) || value.is_null())
+    match given(json, field) {
+        None => Ok(List::of(Vec::new(alloc))),
+        Some(value) => texts_in(alloc, value, field),
+    }
 }
 
-fn is_field(name: &String, fields: &[&str]) -> bool
-    ensures { result ≡ has_text (map (λ f. f.now) fields.now) (string_bytes name.now) }
+fn texts_in(alloc: Global, value: &Value, field: &str) -> Result<List<Str>, DescriptionFault>
+    ensures { Reads result (texts_in field.now (view value.now)) }
 {
-    is_among(name.as_str(), fields)
+    if let Some(items) = value.as_array() {
+        if let Some(texts) = each_text(alloc, items.as_slice())? {
+            return Ok(texts);
+        }
+    }
+    Err(DescriptionFault::WrongType {
+        field: spelled(alloc, field)?,
+    })
 }
 
-fn is_among(name: &str, fields: &[&str]) -> bool
-    ensures { result ≡ list_any (λ f. bytes_eq f.now name.now) fields.now }
+fn each_text(alloc: Global, items: &[Value]) -> Result<Option<List<Str>>, OutOfMemory>
+    ensures { IfOk result (λ found. found ≡ each as_str (items_view items.now)) }
 {
-    fields.iter().any(|field| *field == name)
+    let mut found = Vec::new(alloc);
+    for item in items {
+        match item.as_str() {
+            Some(text) => found.push(spelled(alloc, text)?)?,
+            None => return Ok(None),
+        }
+    }
+    Ok(Some(List::of(found)))
+}
+
+/// The word of a field that may be missing.
+///
+/// # Errors
+/// `WrongType` exactly where it is there and no text, `BadWord` exactly where it is a text that is none of the words.
+pub(crate) fn word_at<W: Word>(
+    alloc: Global,
+    json: &Value,
+    field: &str,
+) -> Result<Option<W>, DescriptionFault>
+    ensures { Reads result (word_at W.word field.now (view json.now)) }
+{
+    match given(json, field) {
+        None => Ok(None),
+        Some(value) => Ok(Some(word_in(alloc, value, field)?)),
+    }
+}
+
+fn word_in<W: Word>(alloc: Global, value: &Value, field: &str) -> Result<W, DescriptionFault>
+    ensures { Reads result (word_in W.word field.now (view value.now)) }
+{
+    match value.as_str() {
+        Some(text) => match W::of_word(text) {
+            Some(word) => Ok(word),
+            None => Err(DescriptionFault::BadWord {
+                field: spelled(alloc, field)?,
+            }),
+        },
+        None => Err(DescriptionFault::WrongType {
+            field: spelled(alloc, field)?,
+        }),
+    }
 }

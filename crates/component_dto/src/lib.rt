@@ -1,18 +1,22 @@
-//! Descriptions of components, read from JSON (OSGi Compendium 8, chapter 112: `ComponentDescriptionDTO`).
-//!
-//! A description has the fields `name`, `implementationClass`, `serviceInterfaces` and `references` so far, and a
-//! reference has `name` and `interfaceName`. What has any other field isn't built yet.
+//! Descriptions of components, read from JSON (OSGi Compendium 8, chapter 112: `ComponentDescriptionDTO`, `ReferenceDTO`).
 #![tactic(auto)]
 
 mod description;
 mod fault;
 mod fields;
+mod given_fields;
 mod reading;
+mod references;
+mod rules;
+mod targets;
 #[cfg(test)]
 mod tests;
 mod text_lists;
+mod words;
 
 pub use description::{ConfigurationPolicy, Description, Reference, Scope};
 pub use fault::DescriptionFault;
-pub use fields::{given, has_only, needed_text};
+pub use fields::given;
 pub use reading::read_description;
+pub use targets::note_bad_place;
+pub use text_lists::{first_repeated, spelled};

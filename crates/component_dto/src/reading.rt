@@ -1,173 +1,107 @@
 //! A description read from JSON.
-ghost use Rattle.std.specs.Prelude.{◌≡◌, ◌∷◌, [], IfOk, option_map};
-ghost use Rattle.std.specs.List.{list_any};
-ghost use Rattle.std.specs.Str.{bytes_eq};
-ghost use Rattle.serde_json.specs.Find.{as_str};
-ghost use Rattle.serde_json.specs.View.{view, items_view};
+ghost use Rattle.std.specs.Prelude.{◌≡◌, ◌∷◌, [], IfOk, map};
+ghost use Rattle.serde_json.specs.View.{view};
+ghost use Rattle.component_dto.specs.Descriptions.{described, description_of, pid_of, pids_of};
 ghost use Rattle.component_dto.specs.Faults.{Reads};
-ghost use Rattle.component_dto.specs.Descriptions.{described, description_of, differ_in_name, interfaces_of, reference_of, referenced, references_of, texts_of, told_apart};
-ghost use Rattle.component_dto.specs.Fields.{each};
+ghost use Rattle.component_dto.specs.declared.references.ReferenceFields.{ReferenceFields};
 
-use crate::fields::{given, has_only, needed_text, text_or};
-use crate::text_lists::each_once;
-use crate::{ConfigurationPolicy, Description, DescriptionFault, Reference, Scope};
-use prop_map::{Cardinality, Copies, List, OutOfMemory, Policy, PolicyOption, Properties, Str};
+use crate::given_fields::{GivenFields, given_fields};
+use crate::references::ReferenceFields;
+use crate::text_lists::spelled;
+use crate::{Description, DescriptionFault, Reference};
+use prop_map::{Copies, List, OutOfMemory, Str};
 use serde_json::Value;
 use std::alloc::Global;
 
-/// Reads a description from a JSON value.
+/// Reads a description from a JSON value. A field that is null counts as missing, and fields that no rule names are passed
+/// over. Repeated interfaces count once, the empty target is none, and `$` among the configuration PIDs stands for the name.
 ///
 /// # Errors
-/// `NotBuilt` exactly where the value is no description of the kind that is built so far; `OutOfMemory`.
+/// The first fault, in this order. `WrongType` of `component` where the value is no object. Those of the fields: name,
+/// factory, scope, implementationClass, defaultEnabled, immediate, serviceInterfaces, properties, references, activate,
+/// deactivate, modified, configurationPolicy, configurationPid, and in each reference name, interfaceName, cardinality,
+/// policy, policyOption, target, updated, scope: `WrongType` exactly where a field is given that isn't of its type (a list
+/// as a whole before its items), `BadWord` where it is a text that is none of its words, `MissingField` where
+/// implementationClass or interfaceName is missing or empty, `BadProperty` where a property is at fault. Then
+/// `FactoryComponent` where a factory is named; `PrototypeReference` where a reference has another scope than `bundle`;
+/// `SameReference` where a reference has the name of one before it; `ImmediateScope` where it is immediate, be it by
+/// default, and the scope isn't `singleton`; `DelayedWithoutService` where it is given as not immediate and has no
+/// interface; `BadTarget` of the first reference whose target is no filter; `TooManyPids` where there is more than one
+/// configuration PID. `OutOfMemory` may come at any place.
 pub fn read_description(alloc: Global, json: &Value) -> Result<Description, DescriptionFault>
     ensures { Reads result (description_of (view json.now)) }
 {
-    let fields = [
-        "name",
-        "implementationClass",
-        "serviceInterfaces",
-        "references",
-    ];
-    if !has_only(json, &fields) {
-        return Err(DescriptionFault::NotBuilt);
+    if !json.is_object() {
+        return Err(DescriptionFault::WrongType {
+            field: spelled(alloc, "component")?,
+        });
     }
-    described(alloc, json)
+    let fields = given_fields(alloc, json)?;
+    fields.check_rules(alloc)?;
+    Ok(fields.description(alloc)?)
 }
 
-fn described(alloc: Global, json: &Value) -> Result<Description, DescriptionFault>
-    ensures { Reads result (described (view json.now)) }
-{
-    let implementation_class = needed_text(alloc, json, "implementationClass")?;
-    let name = text_or(alloc, given(json, "name"), &implementation_class)?;
-    let service_interfaces = interfaces(alloc, given(json, "serviceInterfaces"))?;
-    let references = references(alloc, given(json, "references"))?;
-    let configuration_pids = just(alloc, name.copy(alloc)?)?;
-    Ok(Description {
-        name,
-        scope: Scope::Singleton,
-        implementation_class,
-        default_enabled: true,
-        immediate: service_interfaces.as_slice().is_empty(),
-        service_interfaces,
-        properties: Properties::new(alloc),
-        references,
-        modified: None,
-        configuration_policy: ConfigurationPolicy::Optional,
-        configuration_pids,
-    })
-}
-
-fn just(alloc: Global, text: Str) -> Result<List<Str>, OutOfMemory>
-    ensures { IfOk result (λ texts. texts ≡ text ∷ []) }
-{
-    let mut texts = List::of(Vec::new(alloc));
-    texts.push(text).map_err(|refused| refused.1)?;
-    Ok(texts)
-}
-
-fn interfaces(alloc: Global, json: Option<&Value>) -> Result<List<Str>, DescriptionFault>
-    ensures { Reads result (interfaces_of (option_map (λ v. view v.now) json.entry)) }
-{
-    let texts = texts(alloc, json)?;
-    Ok(each_once(alloc, texts)?)
-}
-
-fn texts(alloc: Global, json: Option<&Value>) -> Result<List<Str>, DescriptionFault>
-    ensures { Reads result (texts_of (option_map (λ v. view v.now) json.entry)) }
-{
-    match json {
-        None => Ok(List::of(Vec::new(alloc))),
-        Some(value) => match value.as_array() {
-            Some(items) => each_text(alloc, items.as_slice()),
-            None => Err(DescriptionFault::NotBuilt),
-        },
+impl GivenFields {
+    // The description that these fields give.
+    fn description(self, alloc: Global) -> Result<Description, OutOfMemory>
+        ensures { IfOk result (λ description. description ≡ described self) }
+    {
+        let immediate = self.is_immediate();
+        let configuration_pids = pids_of(alloc, &self.name, self.configuration_pids.as_slice())?;
+        Ok(Description {
+            name: self.name,
+            scope: self.scope,
+            implementation_class: self.implementation_class,
+            default_enabled: self.default_enabled,
+            immediate,
+            service_interfaces: self.service_interfaces,
+            properties: self.properties,
+            references: references(alloc, self.references)?,
+            modified: self.modified,
+            configuration_policy: self.configuration_policy,
+            configuration_pids,
+        })
     }
 }
 
-fn each_text(alloc: Global, items: &[Value]) -> Result<List<Str>, DescriptionFault>
-    ensures { Reads result (each as_str (items_view items.now)) }
+fn references(alloc: Global, fields: List<ReferenceFields>) -> Result<List<Reference>, OutOfMemory>
+    ensures { IfOk result (λ references. references ≡ map (λ (r : ReferenceFields). r.reference) fields) }
 {
-    let mut found = Vec::new(alloc);
-    for item in items {
-        match item.as_str() {
-            Some(text) => found.push(Str::of(String::from_str(alloc, text)?))?,
-            None => return Err(DescriptionFault::NotBuilt),
-        }
+    let mut references = Vec::new(alloc);
+    for fields in fields.items() {
+        references.push(fields.reference)?;
     }
-    Ok(List::of(found))
+    Ok(List::of(references))
 }
 
-fn references(alloc: Global, json: Option<&Value>) -> Result<List<Reference>, DescriptionFault>
-    ensures { Reads result (references_of (option_map (λ v. view v.now) json.entry)) }
+// The PIDs of a component of this name, which is the default.
+fn pids_of(alloc: Global, name: &Str, given: &[Str]) -> Result<List<Str>, OutOfMemory>
+    ensures { IfOk result (λ pids. pids ≡ pids_of name.now given.now) }
 {
-    match json {
-        None => Ok(List::of(Vec::new(alloc))),
-        Some(value) => match value.as_array() {
-            Some(items) => told_apart(each_reference(alloc, items.as_slice())?),
-            None => Err(DescriptionFault::NotBuilt),
-        },
+    if !given.is_empty() {
+        return each_pid(alloc, name, given);
     }
+    let mut pids = Vec::new(alloc);
+    pids.push(name.copy(alloc)?)?;
+    Ok(List::of(pids))
 }
 
-// These references, where each has a name of its own.
-fn told_apart(references: List<Reference>) -> Result<List<Reference>, DescriptionFault>
-    ensures { Reads result (told_apart references) }
+fn each_pid(alloc: Global, name: &Str, given: &[Str]) -> Result<List<Str>, OutOfMemory>
+    ensures { IfOk result (λ pids. pids ≡ map (pid_of name.now) given.now) }
 {
-    if differ_in_name(references.as_slice()) {
-        Ok(references)
+    let mut pids = Vec::new(alloc);
+    for pid in given {
+        pids.push(pid_of(alloc, name, pid)?)?;
+    }
+    Ok(List::of(pids))
+}
+
+fn pid_of(alloc: Global, name: &Str, pid: &Str) -> Result<Str, OutOfMemory>
+    ensures { IfOk result (λ found. found ≡ pid_of name.now pid.now) }
+{
+    if pid.as_str() == "$" {
+        name.copy(alloc)
     } else {
-        Err(DescriptionFault::NotBuilt)
+        pid.copy(alloc)
     }
-}
-
-fn differ_in_name(references: &[Reference]) -> bool
-    ensures { result ≡ differ_in_name references.now }
-{
-    match references {
-        [] => true,
-        [first, rest @ ..] => !has_name(rest, &first.name) && differ_in_name(rest),
-    }
-}
-
-fn has_name(references: &[Reference], name: &Str) -> bool
-    ensures { result ≡ list_any (λ r. bytes_eq r.name name.now) references.now }
-{
-    references
-        .iter()
-        .any(|reference| reference.name.as_str() == name.as_str())
-}
-
-fn each_reference(alloc: Global, items: &[Value]) -> Result<List<Reference>, DescriptionFault>
-    ensures { Reads result (each reference_of (items_view items.now)) }
-{
-    let mut found = Vec::new(alloc);
-    for item in items {
-        found.push(reference(alloc, item)?)?;
-    }
-    Ok(List::of(found))
-}
-
-fn reference(alloc: Global, json: &Value) -> Result<Reference, DescriptionFault>
-    ensures { Reads result (reference_of (view json.now)) }
-{
-    if !has_only(json, &["name", "interfaceName"]) {
-        return Err(DescriptionFault::NotBuilt);
-    }
-    referenced(alloc, json)
-}
-
-fn referenced(alloc: Global, json: &Value) -> Result<Reference, DescriptionFault>
-    ensures { Reads result (referenced (view json.now)) }
-{
-    let interface_name = needed_text(alloc, json, "interfaceName")?;
-    let name = text_or(alloc, given(json, "name"), &interface_name)?;
-    Ok(Reference {
-        name,
-        interface_name,
-        cardinality: Cardinality::One,
-        policy: Policy::Static,
-        policy_option: PolicyOption::Reluctant,
-        target: None,
-        updated: None,
-    })
 }

@@ -147,7 +147,7 @@ take_more (x ∷ xs) b ys zero h = absurd (omega arith)
 take_more (x ∷ xs) b ys (suc n) h = let k = take_more xs b ys n (omega arith) in (k.0, ap (λ zs. x ∷ zs) k.1)
 
 -- a byte with which the machine doesn't go on
-bad_byte : (text : List ℕ) (b : ℕ) (rest : List ℕ) (at : ℕ) (frames : List Frame) (mode : Mode) → SoFar text (b ∷ rest) at frames mode → step frames mode b ≡ None → IsBadAt text at false
+pub bad_byte : (text : List ℕ) (b : ℕ) (rest : List ℕ) (at : ℕ) (frames : List Frame) (mode : Mode) → SoFar text (b ∷ rest) at frames mode → step frames mode b ≡ None → IsBadAt text at false
 bad_byte text b rest at frames mode h e =
     let stops : (ys : List ℕ) → run (h.front ++ b ∷ ys) start ≡ None = λ ys. run_stops h.front b ys (frames, mode) h.is e in
     let front_is : take at text ≡ h.front = ap (λ k. take k text) h.place ∙ ap (take (length h.front)) h.whole ∙ take_front h.front (b ∷ rest) in
@@ -201,7 +201,7 @@ byte_at : (xs : List ℕ) (b : ℕ) (ys : List ℕ) → slice_get (xs ++ b ∷ y
 byte_at [] b ys = refl
 byte_at (x ∷ xs) b ys = byte_at xs b ys
 
-opens_bracket : (mode : Mode) (c : ℕ) → opens mode c ≡ true → c ≡ 40
+pub opens_bracket : (mode : Mode) (c : ℕ) → opens mode c ≡ true → c ≡ 40
 opens_bracket Wanted c e = eqb-true c 40 e
 opens_bracket Opened c e = absurd (false≢true e)
 opens_bracket (Attribute name blanks) c e = absurd (false≢true e)

@@ -16,4 +16,5 @@ mod tests;
 pub use comparison::Comparison;
 pub use filter::Filter;
 pub use filter_fault::FilterFault;
+pub use matching::consists_of;
 pub use steps::Steps;

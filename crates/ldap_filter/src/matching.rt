@@ -136,7 +136,9 @@ fn ends_with_parts(first: &Str, others: &[Str], text: &[u8]) -> bool
     find_in_order(first, others, text)
 }
 
-fn consists_of(parts: &[Str], text: &[u8]) -> bool
+/// Whether a text is made of the parts in order, with any bytes between them. Where there is one part it is the text. It takes
+/// no memory.
+pub fn consists_of(parts: &[Str], text: &[u8]) -> bool
     ensures { result ≡ consists_of parts.now text.now }
 {
     match parts {

@@ -5,7 +5,8 @@ use Rattle.std.specs.Str.{bytes_eq, is_utf8}
 use Rattle.fault_count.specs.DecimalText.{decimal_of}
 use Rattle.bundle_doc.specs.declared.document.BundleDoc.{BundleDoc}
 use Rattle.bundle_doc.specs.declared.fault.DocFault.{DocFault}
-use Rattle.bundle_doc.specs.declared.fault.DocFault.TheVariants.{NotJson as NoJson, NotBuilt as Unbuilt, OutOfMemory}
+use Rattle.bundle_doc.specs.declared.fault.DocFault.TheVariants.{NotJson as NoJson}
+use Rattle.bundle_doc.specs.Built.{is_built}
 use Rattle.bundle_doc.specs.Documents.{bundle_of}
 use Rattle.scr_core.specs.declared.command.Command.TheVariants.{Install, Start}
 use Rattle.platform_shell.specs.declared.shell_line.LineFault.TheVariants.{NotJson, NotBuilt}
@@ -26,10 +27,9 @@ bare_line word = if bytes_eq word (codes "quit") then Quit else (if bytes_eq wor
 
 -- what an install asks whose document means this; no bytes mean want of memory
 abbrev pub installing : Result BundleDoc DocFault → ShellLine
-installing (Ok doc) = Commanded (Install doc)
+installing (Ok doc) = if is_built doc then Commanded (Install doc) else Refused NotBuilt
 installing (Err NoJson) = Refused NotJson
-installing (Err Unbuilt) = Refused NotBuilt
-installing (Err OutOfMemory) = Refused NotBuilt
+installing (Err _) = Refused NotBuilt
 
 abbrev pub install_line : List ℕ → ShellLine
 install_line rest = installing (bundle_of rest)

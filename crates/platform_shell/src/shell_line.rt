@@ -3,7 +3,7 @@ ghost use Rattle.std.specs.Prelude.{◌≡◌, IfOk, MatchOption, true, false};
 ghost use Rattle.std.specs.Str.{is_utf8};
 ghost use Rattle.platform_shell.specs.ShellLines.{bare_line, install_line, is_silent, shell_line, start_line, text_line, worded_line};
 
-use bundle_doc::{DocFault, read_bundle};
+use bundle_doc::{DocFault, is_built, read_bundle};
 use fault_count::decimal;
 use prop_map::OutOfMemory;
 use scr_core::Command;
@@ -106,10 +106,23 @@ fn install_line(alloc: Global, document: &str) -> Result<ShellLine, OutOfMemory>
     ensures { IfOk result (λ asked. asked ≡ install_line document.now) }
 {
     match read_bundle(alloc, document.as_bytes()) {
-        Ok(doc) => Ok(ShellLine::Command(Command::Install { doc })),
+        Ok(doc) => {
+            if is_built(&doc) {
+                Ok(ShellLine::Command(Command::Install { doc }))
+            } else {
+                Ok(ShellLine::Refused(LineFault::NotBuilt))
+            }
+        }
         Err(DocFault::NotJson) => Ok(ShellLine::Refused(LineFault::NotJson)),
-        Err(DocFault::NotBuilt) => Ok(ShellLine::Refused(LineFault::NotBuilt)),
         Err(DocFault::OutOfMemory) => Err(AllocError),
+        Err(
+            DocFault::MissingField { .. }
+            | DocFault::WrongType { .. }
+            | DocFault::MissingEntry { .. }
+            | DocFault::SameComponent { .. }
+            | DocFault::Header { .. }
+            | DocFault::InEntry { .. },
+        ) => Ok(ShellLine::Refused(LineFault::NotBuilt)),
     }
 }
 

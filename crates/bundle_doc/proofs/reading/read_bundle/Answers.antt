@@ -7,4 +7,4 @@ pub returns-in-Ok : goal.returns-in-Ok
 returns-in-Ok c = json_answer c.args.bytes.now (view c.in-Ok.json) c.document.result c.in-Ok.ensures.ok.0 c.in-Ok.ensures.ok.1 c.document.ensures
 
 pub returns-else-eq : goal.returns-else-eq
-returns-else-eq c = json_none c.args.bytes.now (λ text. search rules)
+returns-else-eq c = λ _. json_none c.args.bytes.now (λ text. search rules)

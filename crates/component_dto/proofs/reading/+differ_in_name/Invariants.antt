@@ -1,5 +1,0 @@
-use Rattle.std.proofs.Common.{length}
-use Rattle.component_dto.proofs.reading.+differ_in_name.Given as goal
-
-abbrev pub decreases-differ_in_name : goal.decreases-differ_in_name
-decreases-differ_in_name l = length l.references.now
