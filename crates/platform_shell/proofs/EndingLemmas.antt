@@ -3,7 +3,7 @@ use Rattle.std.proofs.Common.{◌≡◌, ◌≢◌, ℕ, List, [], ◌∷◌, Bo
 use Rattle.std.specs.declared.option.Option.{Option}
 use Rattle.fault_count.specs.Steps.{next_count}
 use Rattle.platform_shell.specs.declared.status.Status.{Status}
-use Rattle.platform_shell.specs.declared.status.Status.TheVariants.{Done, Usage, ReadFault, WriteFault, NoMemory, LineTooLong}
+use Rattle.platform_shell.specs.declared.status.Status.TheVariants.{Done, Usage, ReadFault, WriteFault, NoMemory, JournalFull, LineTooLong}
 use Rattle.platform_shell.specs.Lines.{Line, is_too_long, lines_of}
 use Rattle.platform_shell.specs.Runs.{EndsScript, Entries, HasRunOver, are_short, ending}
 use Rattle.platform_shell.specs.ShellLines.{shell_line, is_quit}
@@ -25,15 +25,16 @@ ending_short number [] short = refl
 ending_short number (line ∷ lines) short = short_step number line lines (ending_short (next_count number) lines) (is_too_long line) refl short
 
 -- a status without a cause is an ending
-pub ends_without_cause : (status : Status) (fault : Option ℕ) (R W : Type 0) → HasCause status fault R W → fault ≡ None → (R → ⊥) → (W → ⊥) → status ≢ NoMemory → IsEnding status
-ends_without_cause Done fault R W cause form reads writes memory = tt
-ends_without_cause (Usage at) fault R W cause form reads writes memory = let no = sym form ∙ cause in absurd cc
-ends_without_cause ReadFault fault R W cause form reads writes memory = absurd (reads cause)
-ends_without_cause WriteFault fault R W cause form reads writes memory = absurd (writes cause)
-ends_without_cause NoMemory fault R W cause form reads writes memory = absurd (memory refl)
-ends_without_cause (LineTooLong line) fault R W cause form reads writes memory = tt
+pub ends_without_cause : (status : Status) (fault : Option ℕ) (R W : Type 0) → HasCause status fault R W → fault ≡ None → (R → ⊥) → (W → ⊥) → status ≢ NoMemory → status ≢ JournalFull → IsEnding status
+ends_without_cause Done fault R W cause form reads writes memory room = tt
+ends_without_cause (Usage at) fault R W cause form reads writes memory room = let no = sym form ∙ cause in absurd cc
+ends_without_cause ReadFault fault R W cause form reads writes memory room = absurd (reads cause)
+ends_without_cause WriteFault fault R W cause form reads writes memory room = absurd (writes cause)
+ends_without_cause NoMemory fault R W cause form reads writes memory room = absurd (memory refl)
+ends_without_cause JournalFull fault R W cause form reads writes memory room = absurd (room refl)
+ends_without_cause (LineTooLong line) fault R W cause form reads writes memory room = tt
 
 -- a run that comes to an end of its script
-pub run_ends_script : (left written written' : Option (List ℕ)) (before after : Entries) (status : Status) → HasRunOver left before after written written' status → IsEnding status → EndsScript left status
-run_ends_script left written written' before after status (bytes, told, ran) at_end =
+pub run_ends_script : (limit : ℕ) (left written written' : Option (List ℕ)) (before after : Entries) (status : Status) → HasRunOver limit left before after written written' status → IsEnding status → EndsScript left status
+run_ends_script limit left written written' before after status (bytes, told, ran) at_end =
     let ended = ran.ended at_end in (bytes, told, record { at_end = at_end; which = ended.0; short = λ short. ended.0 ∙ ending_short 1 (lines_of bytes) short })

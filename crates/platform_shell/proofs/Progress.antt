@@ -1,5 +1,5 @@
 -- How far a run has come, and how it goes on.
-use Rattle.std.proofs.Common.{◌≡◌, ◌<◌, ◌≤◌, ℕ, List, [], ◌∷◌, ◌++◌, ◌+◌, length, take, ap, sym, ◌∙◌, refl, append_assoc, append-nil, true, false, subst, arith}
+use Rattle.std.proofs.Common.{◌≡◌, ◌≢◌, ◌<◌, ◌≤◌, ℕ, List, [], ◌∷◌, ◌++◌, ◌+◌, length, take, ap, sym, ◌∙◌, refl, append_assoc, append-nil, true, false, subst, arith}
 use Rattle.std.proofs.lemmas.Bool.Decides.{nat_tests}
 use Rattle.std.proofs.lemmas.List.{take_all}
 use Rattle.std.proofs.Math.Seq.{take-append-add}
@@ -12,10 +12,10 @@ use Rattle.platform_shell.specs.declared.line_input.LineStep.TheVariants.{Line a
 use Rattle.platform_shell.specs.declared.shell_line.ShellLine.{ShellLine}
 use Rattle.platform_shell.specs.declared.shell_line.ShellLine.TheVariants.{Silent, Quit, Components, Command as Commanded, Refused}
 use Rattle.platform_shell.specs.declared.status.Status.{Status}
-use Rattle.platform_shell.specs.declared.status.Status.TheVariants.{Done, LineTooLong}
+use Rattle.platform_shell.specs.declared.status.Status.TheVariants.{Done, JournalFull, LineTooLong}
 use Rattle.platform_shell.specs.Lines.{Line, is_too_long, lines_of, longest_line}
 use Rattle.platform_shell.specs.Reading.{Tells, NextLine}
-use Rattle.platform_shell.specs.Runs.{Answered, Entries, HasRunOver, Ran, ending, script_lines}
+use Rattle.platform_shell.specs.Runs.{Answered, Entries, FindsNoRoom, HasRunOver, Ran, ending, script_lines}
 use Rattle.platform_shell.specs.ShellLines.{shell_line, is_quit}
 use Rattle.platform_shell.specs.Statuses.{IsEnding}
 use Rattle.platform_shell.proofs.Growth.{grew_ran}
@@ -28,26 +28,26 @@ GoesOn left left' pending lines number =
     × (script_lines (lines_of bytes) ≡ lines ++ script_lines (lines_of (pending ++ more))) × (ending 1 (lines_of bytes) ≡ ending number (lines_of (pending ++ more)))
 
 -- so far: these lines ran, all their text is written, and whatever comes stands behind them
-pub record Progress (left left' : Option (List ℕ)) (pending : List ℕ) (before after : Entries) (written written' : Option (List ℕ)) (number : ℕ) : Type 0 where
+pub record Progress (limit : ℕ) (left left' : Option (List ℕ)) (pending : List ℕ) (before after : Entries) (written written' : Option (List ℕ)) (number : ℕ) : Type 0 where
   pub lines : List (List ℕ)
   pub commands : List Command
   pub text : List ℕ
-  pub ran : Ran lines before after commands text
+  pub ran : Ran limit lines before after commands text
   pub wrote : Appends written written' text
   pub reads : GoesOn left left' pending lines number
 
 -- one line more
-pub Ran_snoc : (lines : List (List ℕ)) (line : List ℕ) (before between after : Entries) (commands now : List Command) (text reply : List ℕ)
-    → Ran lines before between commands text → Answered line between after now reply → Ran (lines ++ line ∷ []) before after (commands ++ now) (text ++ reply)
-Ran_snoc [] line before between after commands now text reply (same, none, nothing) answered =
-    let P : Entries → Type 0 = λ j. Answered line j after now reply in
+pub Ran_snoc : (limit : ℕ) (lines : List (List ℕ)) (line : List ℕ) (before between after : Entries) (commands now : List Command) (text reply : List ℕ)
+    → Ran limit lines before between commands text → Answered limit line between after now reply → Ran limit (lines ++ line ∷ []) before after (commands ++ now) (text ++ reply)
+Ran_snoc limit [] line before between after commands now text reply (same, none, nothing) answered =
+    let P : Entries → Type 0 = λ j. Answered limit line j after now reply in
     (after, now, [], reply, [], subst P same answered, (refl, refl, refl), ap (λ w. w ++ now) none ∙ sym (append-nil now), ap (λ w. w ++ reply) nothing ∙ sym (append-nil reply))
-Ran_snoc (first ∷ lines) line before between after commands now text reply (middle, done, later, head, rest, answer, ran, all, whole) answered =
-    (middle, done, later ++ now, head, rest ++ reply, answer, Ran_snoc lines line middle between after later now rest reply ran answered, ap (λ w. w ++ now) all ∙ append_assoc done later now, ap (λ w. w ++ reply) whole ∙ append_assoc head rest reply)
+Ran_snoc limit (first ∷ lines) line before between after commands now text reply (middle, done, later, head, rest, answer, ran, all, whole) answered =
+    (middle, done, later ++ now, head, rest ++ reply, answer, Ran_snoc limit lines line middle between after later now rest reply ran answered, ap (λ w. w ++ now) all ∙ append_assoc done later now, ap (λ w. w ++ reply) whole ∙ append_assoc head rest reply)
 
 -- nothing ran yet
-pub progress_start : (left written : Option (List ℕ)) (before : Entries) → Progress left left [] before before written written 1
-progress_start left written before = record {
+pub progress_start : (limit : ℕ) (left written : Option (List ℕ)) (before : Entries) → Progress limit left left [] before before written written 1
+progress_start limit left written before = record {
   lines = [];
   commands = [];
   text = [];
@@ -93,25 +93,25 @@ goes_on left left' left'' pending pending' lines number line so_far (size, short
     (all.0, all.1, all.2 ∙ ap (λ w. lines ++ w) step.0 ∙ sym (append_assoc lines (line ∷ []) (script_lines (lines_of (pending' ++ more)))), all.3 ∙ step.1)
 
 -- a line ran, and its reply is written
-pub progress_line : {left left' : Option (List ℕ)} {pending : List ℕ} {before now : Entries} {written written' : Option (List ℕ)} {number : ℕ} →
-    Progress left left' pending before now written written' number →
+pub progress_line : {limit : ℕ} {left left' : Option (List ℕ)} {pending : List ℕ} {before now : Entries} {written written' : Option (List ℕ)} {number : ℕ} →
+    Progress limit left left' pending before now written written' number →
     (left'' : Option (List ℕ)) (pending' : List ℕ) (after : Entries) (written'' : Option (List ℕ)) (line : List ℕ) (commands : List Command) (reply : List ℕ)
-    → NextLine left' left'' pending pending' (OfLine line) → is_quit (shell_line line) ≡ false → Answered line now after commands reply
-    → Appends written' written'' reply → Progress left left'' pending' before after written written'' (next_count number)
-progress_line {left} {left'} {pending} {before} {now} {written} {written'} {number} so_far left'' pending' after written'' line commands reply next other answered wrote = record {
+    → NextLine left' left'' pending pending' (OfLine line) → is_quit (shell_line line) ≡ false → Answered limit line now after commands reply
+    → Appends written' written'' reply → Progress limit left left'' pending' before after written written'' (next_count number)
+progress_line {limit} {left} {left'} {pending} {before} {now} {written} {written'} {number} so_far left'' pending' after written'' line commands reply next other answered wrote = record {
   lines = so_far.lines ++ line ∷ [];
   commands = so_far.commands ++ commands;
   text = so_far.text ++ reply;
-  ran = Ran_snoc so_far.lines line before now after so_far.commands commands so_far.text reply so_far.ran answered;
+  ran = Ran_snoc limit so_far.lines line before now after so_far.commands commands so_far.text reply so_far.ran answered;
   wrote = Appends-trans written written' written'' so_far.text reply so_far.wrote wrote;
   reads = goes_on left left' left'' pending pending' so_far.lines number line so_far.reads next other;
 }
 
 -- a run that stops before its end, with these lines run and these bytes written
-stopped : (left left' : Option (List ℕ)) (pending : List ℕ) (before after : Entries) (written written' : Option (List ℕ)) (number : ℕ)
-    (lines : List (List ℕ)) (commands : List Command) (text : List ℕ) (count : ℕ) (status : Status) → (IsEnding status → ⊥)
-    → GoesOn left left' pending lines number → Ran lines before after commands text → Appends written written' (take count text) → HasRunOver left before after written written' status
-stopped left left' pending before after written written' number lines commands text count status other reads ran wrote =
+stopped : (limit : ℕ) (left left' : Option (List ℕ)) (pending : List ℕ) (before after : Entries) (written written' : Option (List ℕ)) (number : ℕ)
+    (lines : List (List ℕ)) (commands : List Command) (text : List ℕ) (count : ℕ) (status : Status) → (IsEnding status → ⊥) → status ≢ JournalFull
+    → GoesOn left left' pending lines number → Ran limit lines before after commands text → Appends written written' (take count text) → HasRunOver limit left before after written written' status
+stopped limit left left' pending before after written written' number lines commands text count status other roomy reads ran wrote =
     let more = some_told left' in
     let all = reads more.0 more.1 in (
       all.0,
@@ -124,21 +124,22 @@ stopped left left' pending before after written written' number lines commands t
         count = count;
         first = all.2;
         ran = ran;
-        grew = grew_ran lines before after commands text ran;
+        grew = grew_ran limit lines before after commands text ran;
         wrote = wrote;
         ended = λ e. absurd (other e);
+        full = λ e. absurd (roomy e);
       },
     )
 
 -- a line ran, and the front of its reply is written
-pub run_stops_in_line : {left left' : Option (List ℕ)} {pending : List ℕ} {before now : Entries} {written written' : Option (List ℕ)} {number : ℕ} →
-    Progress left left' pending before now written written' number →
+pub run_stops_in_line : {limit : ℕ} {left left' : Option (List ℕ)} {pending : List ℕ} {before now : Entries} {written written' : Option (List ℕ)} {number : ℕ} →
+    Progress limit left left' pending before now written written' number →
     (left'' : Option (List ℕ)) (pending' : List ℕ) (after : Entries) (written'' : Option (List ℕ)) (line : List ℕ) (commands : List Command) (reply : List ℕ) (status : Status) (count : ℕ)
-    → (IsEnding status → ⊥) → NextLine left' left'' pending pending' (OfLine line) → is_quit (shell_line line) ≡ false
-    → Answered line now after commands reply → Appends written' written'' (take count reply) → HasRunOver left before after written written'' status
-run_stops_in_line {left} {left'} {pending} {before} {now} {written} {written'} {number} so_far left'' pending' after written'' line commands reply status count other next not_quit answered wrote =
-    stopped left left'' pending' before after written written'' (next_count number) (so_far.lines ++ line ∷ []) (so_far.commands ++ commands) (so_far.text ++ reply) (length so_far.text + count) status other
-    (goes_on left left' left'' pending pending' so_far.lines number line so_far.reads next not_quit) (Ran_snoc so_far.lines line before now after so_far.commands commands so_far.text reply so_far.ran answered)
+    → (IsEnding status → ⊥) → status ≢ JournalFull → NextLine left' left'' pending pending' (OfLine line) → is_quit (shell_line line) ≡ false
+    → Answered limit line now after commands reply → Appends written' written'' (take count reply) → HasRunOver limit left before after written written'' status
+run_stops_in_line {limit} {left} {left'} {pending} {before} {now} {written} {written'} {number} so_far left'' pending' after written'' line commands reply status count other roomy next not_quit answered wrote =
+    stopped limit left left'' pending' before after written written'' (next_count number) (so_far.lines ++ line ∷ []) (so_far.commands ++ commands) (so_far.text ++ reply) (length so_far.text + count) status other roomy
+    (goes_on left left' left'' pending pending' so_far.lines number line so_far.reads next not_quit) (Ran_snoc limit so_far.lines line before now after so_far.commands commands so_far.text reply so_far.ran answered)
     (let P : List ℕ → Type 0 = λ w. Appends written written'' w in
     subst P (sym (take-append-add so_far.text reply count)) (Appends-trans written written' written'' so_far.text (take count reply) so_far.wrote wrote))
 
@@ -146,15 +147,15 @@ all_written : (written written' : Option (List ℕ)) (text : List ℕ) → Appen
 all_written written written' text wrote = let P : List ℕ → Type 0 = λ w. Appends written written' w in subst P (sym (take_all (length text) text (omega arith))) wrote
 
 -- the run stops between two lines
-pub run_stops : {left left' : Option (List ℕ)} {pending : List ℕ} {before now : Entries} {written written' : Option (List ℕ)} {number : ℕ} → Progress left left' pending before now written written' number
-    → (status : Status) → (IsEnding status → ⊥) → HasRunOver left before now written written' status
-run_stops {left} {left'} {pending} {before} {now} {written} {written'} {number} so_far status other =
-    stopped left left' pending before now written written' number so_far.lines so_far.commands so_far.text (length so_far.text) status other so_far.reads so_far.ran (all_written written written' so_far.text so_far.wrote)
+pub run_stops : {limit : ℕ} {left left' : Option (List ℕ)} {pending : List ℕ} {before now : Entries} {written written' : Option (List ℕ)} {number : ℕ} → Progress limit left left' pending before now written written' number
+    → (status : Status) → (IsEnding status → ⊥) → status ≢ JournalFull → HasRunOver limit left before now written written' status
+run_stops {limit} {left} {left'} {pending} {before} {now} {written} {written'} {number} so_far status other roomy =
+    stopped limit left left' pending before now written written' number so_far.lines so_far.commands so_far.text (length so_far.text) status other roomy so_far.reads so_far.ran (all_written written written' so_far.text so_far.wrote)
 
 -- the run comes to the end of the script
-run_ends : {left left' : Option (List ℕ)} {pending : List ℕ} {before now : Entries} {written written' : Option (List ℕ)} {number : ℕ} → Progress left left' pending before now written written' number
-    → (status : Status) (more : List ℕ) → Tells left' more → (script_lines (lines_of (pending ++ more)) ≡ []) × (ending number (lines_of (pending ++ more)) ≡ status) → HasRunOver left before now written written' status
-run_ends {left} {left'} {pending} {before} {now} {written} {written'} so_far status more told (ends, is) =
+run_ends : {limit : ℕ} {left left' : Option (List ℕ)} {pending : List ℕ} {before now : Entries} {written written' : Option (List ℕ)} {number : ℕ} → Progress limit left left' pending before now written written' number
+    → (status : Status) (more : List ℕ) → status ≢ JournalFull → Tells left' more → (script_lines (lines_of (pending ++ more)) ≡ []) × (ending number (lines_of (pending ++ more)) ≡ status) → HasRunOver limit left before now written written' status
+run_ends {limit} {left} {left'} {pending} {before} {now} {written} {written'} so_far status more roomy told (ends, is) =
     let all = so_far.reads more told in (
       all.0,
       all.1,
@@ -166,28 +167,56 @@ run_ends {left} {left'} {pending} {before} {now} {written} {written'} so_far sta
         count = length so_far.text;
         first = all.2 ∙ ap (λ w. so_far.lines ++ w) ends;
         ran = so_far.ran;
-        grew = grew_ran so_far.lines before now so_far.commands so_far.text so_far.ran;
+        grew = grew_ran limit so_far.lines before now so_far.commands so_far.text so_far.ran;
         wrote = all_written written written' so_far.text so_far.wrote;
         ended = λ e. (sym (all.3 ∙ is), refl, take_all (length so_far.text) so_far.text (omega arith));
+        full = λ e. absurd (roomy e);
       },
     )
 
 -- at a line that is too long
-pub run_ends_long : {left left' : Option (List ℕ)} {pending : List ℕ} {before now : Entries} {written written' : Option (List ℕ)} {number : ℕ} → Progress left left' pending before now written written' number
-    → (left'' : Option (List ℕ)) (pending' : List ℕ) → NextLine left' left'' pending pending' TooLong → HasRunOver left before now written written' (LineTooLong number)
-run_ends_long {left} {left'} {pending} {before} {now} {written} {written'} {number} so_far left'' pending' (more, line, lines, told, long, is) =
-    run_ends so_far (LineTooLong number) more told (script_long number (lines_of (pending ++ more)) lines line is long)
+pub run_ends_long : {limit : ℕ} {left left' : Option (List ℕ)} {pending : List ℕ} {before now : Entries} {written written' : Option (List ℕ)} {number : ℕ} → Progress limit left left' pending before now written written' number
+    → (left'' : Option (List ℕ)) (pending' : List ℕ) → NextLine left' left'' pending pending' TooLong → HasRunOver limit left before now written written' (LineTooLong number)
+run_ends_long {limit} {left} {left'} {pending} {before} {now} {written} {written'} {number} so_far left'' pending' (more, line, lines, told, long, is) =
+    run_ends so_far (LineTooLong number) more (λ e. cc) told (script_long number (lines_of (pending ++ more)) lines line is long)
 
 -- behind the last line
-pub run_ends_here : {left left' : Option (List ℕ)} {pending : List ℕ} {before now : Entries} {written written' : Option (List ℕ)} {number : ℕ} → Progress left left' pending before now written written' number
-    → (left'' : Option (List ℕ)) (pending' : List ℕ) → NextLine left' left'' pending pending' End → HasRunOver left before now written written' Done
-run_ends_here {left} {left'} {pending} {before} {now} {written} {written'} {number} so_far left'' pending' (more, told, none) =
-    run_ends so_far Done more told (ap script_lines none, ap (ending number) none)
+pub run_ends_here : {limit : ℕ} {left left' : Option (List ℕ)} {pending : List ℕ} {before now : Entries} {written written' : Option (List ℕ)} {number : ℕ} → Progress limit left left' pending before now written written' number
+    → (left'' : Option (List ℕ)) (pending' : List ℕ) → NextLine left' left'' pending pending' End → HasRunOver limit left before now written written' Done
+run_ends_here {limit} {left} {left'} {pending} {before} {now} {written} {written'} {number} so_far left'' pending' (more, told, none) =
+    run_ends so_far Done more (λ e. cc) told (ap script_lines none, ap (ending number) none)
 
 -- at `quit`
-pub run_quits : {left left' : Option (List ℕ)} {pending : List ℕ} {before now : Entries} {written written' : Option (List ℕ)} {number : ℕ} → Progress left left' pending before now written written' number
-    → (left'' : Option (List ℕ)) (pending' line : List ℕ) → NextLine left' left'' pending pending' (OfLine line) → is_quit (shell_line line) ≡ true → HasRunOver left before now written written' Done
-run_quits {left} {left'} {pending} {before} {now} {written} {written'} {number} so_far left'' pending' line (size, short, next) quits =
+pub run_quits : {limit : ℕ} {left left' : Option (List ℕ)} {pending : List ℕ} {before now : Entries} {written written' : Option (List ℕ)} {number : ℕ} → Progress limit left left' pending before now written written' number
+    → (left'' : Option (List ℕ)) (pending' line : List ℕ) → NextLine left' left'' pending pending' (OfLine line) → is_quit (shell_line line) ≡ true → HasRunOver limit left before now written written' Done
+run_quits {limit} {left} {left'} {pending} {before} {now} {written} {written'} {number} so_far left'' pending' line (size, short, next) quits =
     let more = some_told left'' in
     let here = next more.0 more.1 in
-    run_ends so_far Done here.0 here.1 (script_quit number (lines_of (pending ++ here.0)) (lines_of (pending' ++ more.0)) (record { text = line; size = size }) here.2 short quits)
+    run_ends so_far Done here.0 (λ e. cc) here.1 (script_quit number (lines_of (pending ++ here.0)) (lines_of (pending' ++ more.0)) (record { text = line; size = size }) here.2 short quits)
+
+-- just before a command that finds no room
+pub run_meets_full : {limit : ℕ} {left left' : Option (List ℕ)} {pending : List ℕ} {before now : Entries} {written written' : Option (List ℕ)} {number : ℕ} →
+    Progress limit left left' pending before now written written' number →
+    (left'' : Option (List ℕ)) (pending' line : List ℕ) (command : Command) → NextLine left' left'' pending pending' (OfLine line) → shell_line line ≡ Commanded command
+    → FindsNoRoom limit now command → HasRunOver limit left before now written written' JournalFull
+run_meets_full {limit} {left} {left'} {pending} {before} {now} {written} {written'} {number} so_far left'' pending' line command (size, short, next) asked full =
+    let more = some_told left'' in
+    let here = next more.0 more.1 in
+    let all = so_far.reads here.0 here.1 in
+    let step = script_line number (lines_of (pending ++ here.0)) (lines_of (pending' ++ more.0)) (record { text = line; size = size }) here.2 short (ap is_quit asked) in (
+      all.0,
+      all.1,
+      record {
+        lines = so_far.lines;
+        unread = line ∷ script_lines (lines_of (pending' ++ more.0));
+        commands = so_far.commands;
+        text = so_far.text;
+        count = length so_far.text;
+        first = all.2 ∙ ap (λ w. so_far.lines ++ w) step.0;
+        ran = so_far.ran;
+        grew = grew_ran limit so_far.lines before now so_far.commands so_far.text so_far.ran;
+        wrote = all_written written written' so_far.text so_far.wrote;
+        ended = λ e. absurd e;
+        full = λ e. ((command, asked, full), take_all (length so_far.text) so_far.text (omega arith));
+      },
+    )

@@ -39,10 +39,12 @@ impl Platform {
 
     /// Takes a command, and answers as the core does.
     ///
+    /// The drains of the gates that are shut with it aren't posted yet: no line runs a turn yet, so no instance has a gate.
+    ///
     /// # Errors
     /// Those of [`Core::command`]. A refused command leaves all as it was.
     pub fn command(&mut self, alloc: Global, command: Command) -> Result<Reply, CoreFault>
-        ensures answer { TakesCommand self.old.journal command result self.new.journal }
+        ensures answer { TakesCommand self.old.limits.journal self.old.journal command result self.new.journal }
         ensures limits { self.new.limits ≡ self.old.limits }
     {
         match self.core.command(alloc, command) {
@@ -54,7 +56,7 @@ impl Platform {
     /// The core, whose journal is legal.
     pub fn core(&self) -> &Core
         ensures core { result.now ≡ self.now }
-        ensures legal { IsLegal (history_of self.now.journal) }
+        ensures legal { IsLegal self.now.limits.journal (history_of self.now.journal) }
     {
         self.core.note_legal();
         &self.core

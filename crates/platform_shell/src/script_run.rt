@@ -2,6 +2,7 @@
 ghost use Rattle.std.specs.Prelude.{◌≡◌, ◌≢◌, IfOk, ℕ, MatchOption, None, map, string_bytes};
 ghost use Rattle.std.specs.Io.KnownBytes.{Keeps};
 ghost use Rattle.fault_count.specs.Steps.{Rose};
+ghost use Rattle.scr_core.specs.Calls.{world_at};
 ghost use Rattle.scr_core.specs.Legal.{IsLegal};
 ghost use Rattle.scr_core.specs.Readers.{component_lines};
 ghost use Rattle.scr_core.specs.Steps.{history_of};
@@ -11,7 +12,7 @@ ghost use Rattle.platform_shell.specs.Statuses.{HasCause, IsEnding, words_fault}
 
 use crate::line_input::{LineStep, ReadAhead, next_line};
 use crate::reply_output::write_all;
-use crate::reply_text::{answer_text, components_text, line_fault_text, refusal_text};
+use crate::reply_text::{NoReply, answer_text, components_text, line_fault_text, refusal_text};
 use crate::shell_line::{ShellLine, read_line};
 use crate::status::words_fault;
 use crate::{Platform, Status};
@@ -23,8 +24,10 @@ use std::alloc::Global;
 /// Runs the lines of the input and writes their replies, each before it waits for the next line.
 ///
 /// Where the words are the one form, `script`, the lines are run up to `quit`, to a line that is too long or to the end
-/// of the input. Other words end the run before anything is read. Where neither end fails and memory suffices, the run
-/// ends with all replies written: `LineTooLong` where a line before `quit` is too long, else `Done`.
+/// of the input. Other words end the run before anything is read. `JournalFull` ends the run just before a command that
+/// finds no room in the journal, with all replies before it written, and comes nowhere else. Where neither end fails, memory
+/// suffices and the journal isn't full, the run ends with all replies written: `LineTooLong` where a line before `quit` is too
+/// long, else `Done`.
 pub fn run_script<In: Source, Out: Sink>(
     alloc: Global,
     platform: &mut Platform,
@@ -33,13 +36,13 @@ pub fn run_script<In: Source, Out: Sink>(
     output: &mut Out,
 ) -> Status
     ensures run { MatchOption (words_fault (map (λ word. word.now) words.now))
-        (HasRunOver (In.left input.old) platform.old.journal platform.new.journal (Out.written output.old) (Out.written output.new) result)
+        (HasRunOver platform.old.limits.journal (In.left input.old) platform.old.journal platform.new.journal (Out.written output.old) (Out.written output.new) result)
         (λ at. (result ≡ Status.Usage at) × (platform.new ≡ platform.old) × Keeps (In.left input.old) (In.left input.new) × Keeps (Out.written output.old) (Out.written output.new)) }
     ensures cause { HasCause result (words_fault (map (λ word. word.now) words.now))
         (Rose (In.fault_count input.old) (In.fault_count input.new)) (Rose (Out.fault_count output.old) (Out.fault_count output.new)) }
     ensures complete { words_fault (map (λ word. word.now) words.now) ≡ None → ¬ Rose (In.fault_count input.old) (In.fault_count input.new) → ¬ Rose (Out.fault_count output.old) (Out.fault_count output.new)
-        → result ≢ Status.NoMemory → EndsScript (In.left input.old) result }
-    ensures legal { IsLegal (history_of platform.new.journal) }
+        → result ≢ Status.NoMemory → result ≢ Status.JournalFull → EndsScript (In.left input.old) result }
+    ensures legal { IsLegal platform.new.limits.journal (history_of platform.new.journal) }
     ensures limits { platform.new.limits ≡ platform.old.limits }
 {
     if let Some(at) = words_fault(words) {
@@ -58,7 +61,7 @@ fn run_lines<In: Source, Out: Sink>(
     input: &mut In,
     output: &mut Out,
 ) -> Status
-    ensures run { HasRunOver (In.left input.old) platform.old.journal platform.new.journal (Out.written output.old) (Out.written output.new) result }
+    ensures run { HasRunOver platform.old.limits.journal (In.left input.old) platform.old.journal platform.new.journal (Out.written output.old) (Out.written output.new) result }
     ensures cause { HasCause result None (Rose (In.fault_count input.old) (In.fault_count input.new)) (Rose (Out.fault_count output.old) (Out.fault_count output.new)) }
     ensures limits { platform.new.limits ≡ platform.old.limits }
 {
@@ -84,7 +87,8 @@ fn run_lines<In: Source, Out: Sink>(
         }
         let text = match run_asked(alloc, platform, asked) {
             Ok(text) => text,
-            Err(_) => return Status::NoMemory,
+            Err(NoReply::JournalFull) => return Status::JournalFull,
+            Err(NoReply::OutOfMemory) => return Status::NoMemory,
         };
         if !write_all(output, text.as_bytes()) {
             return Status::WriteFault;
@@ -98,20 +102,20 @@ fn run_asked(
     alloc: Global,
     platform: &mut Platform,
     asked: ShellLine,
-) -> Result<String, OutOfMemory>
-    ensures asked { RunsAsked asked platform.old.journal result platform.new.journal }
+) -> Result<String, NoReply>
+    ensures asked { RunsAsked platform.old.limits.journal asked platform.old.journal result platform.new.journal }
     ensures limits { platform.new.limits ≡ platform.old.limits }
 {
     match asked {
         ShellLine::Silent | ShellLine::Quit => Ok(String::new(alloc)),
-        ShellLine::Refused(fault) => line_fault_text(alloc, fault),
-        ShellLine::Components => run_components(alloc, platform),
+        ShellLine::Refused(fault) => Ok(line_fault_text(alloc, fault)?),
+        ShellLine::Components => Ok(run_components(alloc, platform)?),
         ShellLine::Command(command) => run_command(alloc, platform, command),
     }
 }
 
 fn run_components(alloc: Global, platform: &Platform) -> Result<String, OutOfMemory>
-    ensures { IfOk result (λ text. string_bytes text ≡ components_text (component_lines (history_of platform.now.journal))) }
+    ensures { IfOk result (λ text. string_bytes text ≡ components_text (component_lines (world_at platform.now.journal))) }
 {
     let rows = platform.core().component_rows(alloc)?;
     components_text(alloc, rows.as_slice())
@@ -121,12 +125,12 @@ fn run_command(
     alloc: Global,
     platform: &mut Platform,
     command: Command,
-) -> Result<String, OutOfMemory>
-    ensures asked { RunsAsked (ShellLine.Command command) platform.old.journal result platform.new.journal }
+) -> Result<String, NoReply>
+    ensures asked { RunsAsked platform.old.limits.journal (ShellLine.Command command) platform.old.journal result platform.new.journal }
     ensures limits { platform.new.limits ≡ platform.old.limits }
 {
     match platform.command(alloc, command) {
-        Ok(reply) => answer_text(alloc, reply),
+        Ok(reply) => Ok(answer_text(alloc, reply)?),
         Err(fault) => refusal_text(alloc, fault),
     }
 }

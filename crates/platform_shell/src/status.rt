@@ -18,6 +18,8 @@ pub enum Status {
     WriteFault,
     /// There was no memory.
     NoMemory,
+    /// The journal has no room for a command of the script.
+    JournalFull,
     /// A line has more than 1,048,576 bytes before its end.
     LineTooLong {
         /// Its number, from 1 on.
@@ -36,6 +38,7 @@ impl Status {
             Status::ReadFault => 2,
             Status::WriteFault => 3,
             Status::NoMemory => 4,
+            Status::JournalFull => 5,
             Status::LineTooLong { .. } => 6,
         }
     }

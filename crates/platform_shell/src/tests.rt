@@ -21,8 +21,18 @@ fn run(
     source: &mut MemorySource,
     sink: &mut MemorySink,
 ) -> Result<Status, Fail> {
+    run_within(alloc, 100, words, source, sink)
+}
+
+fn run_within(
+    alloc: Global,
+    journal: u64,
+    words: &[&str],
+    source: &mut MemorySource,
+    sink: &mut MemorySink,
+) -> Result<Status, Fail> {
     let limits = Limits {
-        journal: 100,
+        journal,
         turns: 100,
     };
     let mut platform = Platform::new(alloc, limits).ok().ok_or("no memory")?;
@@ -104,5 +114,32 @@ fn a_line_is_too_long(rt: HostRuntime) -> Result<(), Fail> {
     let status = run(alloc, &["script"], &mut input, &mut output)?;
     assert_eq!(rt; status, Status::LineTooLong { line: 1 });
     assert_eq!(rt; output.written(), b"".as_slice());
+    Ok(())
+}
+
+#[test]
+fn a_full_journal_ends_the_run(rt: HostRuntime) -> Result<(), Fail> {
+    let alloc = rt.alloc();
+    let script =
+        "install {\"location\":\"d\"}\nstart 1\ninstall {\"location\":\"e\"}\ncomponents\n";
+    let mut input = source(alloc, script, 100, &[])?;
+    let mut output = sink(alloc, 100, &[])?;
+    let status = run_within(alloc, 2, &["script"], &mut input, &mut output)?;
+    assert_eq!(rt; status, Status::JournalFull);
+    assert_eq!(rt; status.code(), 5);
+    assert_eq!(rt; output.written(), b"ok bundle 1\nok\n".as_slice());
+    Ok(())
+}
+
+#[test]
+fn a_full_journal_still_answers_what_needs_no_room(rt: HostRuntime) -> Result<(), Fail> {
+    let alloc = rt.alloc();
+    let script =
+        "install {\"location\":\"d\"}\nstart 1\ninstall {\"location\":\"d\"}\nstart 1\nstart 7\ncomponents\n";
+    let mut input = source(alloc, script, 100, &[])?;
+    let mut output = sink(alloc, 100, &[])?;
+    let status = run_within(alloc, 2, &["script"], &mut input, &mut output)?;
+    assert_eq!(rt; status, Status::Done);
+    assert_eq!(rt; output.written(), b"ok bundle 1\nok\nok bundle 1\nok\nrefused NoBundle 7\nok 0\n".as_slice());
     Ok(())
 }

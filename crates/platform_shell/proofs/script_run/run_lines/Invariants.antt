@@ -5,7 +5,7 @@ use Rattle.platform_shell.proofs.script_run.run_lines.Given as goal
 
 abbrev pub invariant-loop-line : goal.invariant-loop-line
 invariant-loop-line g l = record {
-  progress : Progress (g.In.Source.left l.initial.input) (coming l.ahead.ended (g.In.Source.left l.input)) l.ahead.bytes.items l.initial.platform.journal l.platform.journal (g.Out.Sink.written l.initial.output) (g.Out.Sink.written l.output) l.number;
+  progress : Progress l.initial.platform.limits.journal (g.In.Source.left l.initial.input) (coming l.ahead.ended (g.In.Source.left l.input)) l.ahead.bytes.items l.initial.platform.journal l.platform.journal (g.Out.Sink.written l.initial.output) (g.Out.Sink.written l.output) l.number;
   limits : l.platform.limits ≡ l.initial.platform.limits;
   reads_later : g.In.Source.fault_count l.initial.input ≤ g.In.Source.fault_count l.input;
   writes_later : g.Out.Sink.fault_count l.initial.output ≤ g.Out.Sink.fault_count l.output;
