@@ -45,7 +45,7 @@ known_after s p c there known =
     (λ was kept. known) (λ was may. known_more s.components p.«open» (fresh s p.next_service c) known (fresh_known s p.next_service c there)) (λ was quiet. known)
 
 -- a period of what isn't consumed offers nothing that is referenced
-not_offered : (cs : List Component) → are_numbered cs ≡ true → (c d : Component) → Among cs d → consumes c.description d.description ≡ false
+pub not_offered : (cs : List Component) → are_numbered cs ≡ true → (c d : Component) → Among cs d → consumes c.description d.description ≡ false
     → (r : Reference) → Among c.description.references r → (o : OpenPeriod) → IsPeriodOf cs o → o.configuration ≡ d.number → offers r.interface_name o ≡ false
 not_offered cs numbered c d there unused r here o of_one is =
     let interfaces = of_one.interfaces ∙ ap (interfaces_of cs) is ∙ interfaces_are cs numbered d there in

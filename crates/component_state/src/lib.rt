@@ -9,9 +9,15 @@ mod open_period;
 mod pass;
 mod pass_order;
 mod pass_steps;
+#[cfg(test)]
+mod pass_tests;
 mod reasons;
+#[cfg(test)]
+mod samples;
 mod satisfaction;
 mod target_services;
+#[cfg(test)]
+mod tests;
 mod words;
 
 pub use component::{Component, interfaces_of, lives};
