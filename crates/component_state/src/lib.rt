@@ -5,6 +5,7 @@
 mod component;
 mod life;
 mod marks;
+mod one_pass;
 mod open_period;
 mod pass;
 mod pass_order;
@@ -23,6 +24,7 @@ mod words;
 pub use component::{Component, interfaces_of, lives};
 pub use life::{Choice, Life, choice_at};
 pub use marks::failed_after;
+pub use one_pass::note_one_pass;
 pub use open_period::{OpenPeriod, is_current, is_open};
 pub use pass::{PassEnd, plain_pass};
 pub use target_services::{chosen, desired, targets};

@@ -45,4 +45,4 @@ pub plain_pass-requires-2 : goal.plain_pass-requires-2
 plain_pass-requires-2 c =
     rw (c.as_slice-2.ensures, c.deref-2.ensures.value, c.as_slice-before.ensures)
     (ready_second c.args.descriptions.now _ c.in_ok-components.components.items c.in-Ok.ensures c.in_ok-components.ensures.numbered c.in_ok-components.ensures.described c.in_ok-first.first
-    (rw (c.as_slice.ensures, c.deref.ensures.value) at c.in_ok-first.ensures) c.args.life.now (sym (rw c.as_slice-before.ensures at c.is_current.ensures) ∙ ?) c.args.failing.now)
+    (rw (c.as_slice.ensures, c.deref.ensures.value) at c.in_ok-first.ensures) c.args.life.now (sym (rw c.as_slice-before.ensures at c.is_current.ensures) ∙ c.if-not-is_current.false) c.args.failing.now)
