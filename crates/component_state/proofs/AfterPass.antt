@@ -1,8 +1,8 @@
 -- What a pass leaves is what the next one begins with: its open periods are known, the living instances of what is open are of its period, and nothing open is failed.
-use Rattle.std.proofs.Common.{inl, inr, ◌⊎◌, ◌≡◌, ℕ, List, [], ◌∷◌, ◌++◌, ap, sym, ◌∙◌, refl, Bool, true, false, ◌&&◌, ◌||◌}
+use Rattle.std.proofs.Common.{inl, inr, ◌≡◌, ℕ, List, [], ◌∷◌, ap, sym, ◌∙◌, refl, true, false, ◌&&◌}
 use Rattle.std.specs.Prelude.{filter, map, not, ◌==◌}
 use Rattle.std.specs.List.{Contains}
-use Rattle.std.proofs.lemmas.Bool.{and_parts, false≢true, not-true, not_from_false, or_parts, false_from_ne_true, true_from_ne_false, eq-eqb}
+use Rattle.std.proofs.lemmas.Bool.{and_parts, false≢true, not-true, not_from_false, or_parts, true_from_ne_false, eq-eqb}
 use Rattle.std.proofs.lemmas.List.Folds.{list_any-append}
 use Rattle.journal_core.specs.declared.entry.Opened.{Opened}
 use Rattle.component_state.specs.declared.component.Component.{Component}
@@ -10,10 +10,10 @@ use Rattle.component_state.specs.declared.life.Life.{Life}
 use Rattle.component_state.specs.declared.open_period.OpenPeriod.{OpenPeriod}
 use Rattle.component_state.specs.declared.pass.PassEnd.{PassEnd}
 use Rattle.component_state.specs.Marks.{with_leaving}
-use Rattle.component_state.specs.Passes.{Stage, IsPeriodOf, HasPassed, IsReady, in_order, out_of, satisfied_in, opening_ones, opened_one, opened_from, next_after}
+use Rattle.component_state.specs.Passes.{Stage, IsPeriodOf, HasPassed, IsReady, in_order, out_of, satisfied_in, opening_ones, opened_from, next_after}
 use Rattle.component_state.specs.Periods.{is_open, is_current, opened_at}
 use Rattle.component_state.specs.Words.{has}
-use Rattle.component_state.proofs.Among.{Among, among_contains, contains_among, among_append, among_filter, among_kept, among_map, among_mapped, any_from, any_map}
+use Rattle.component_state.proofs.Among.{Among, among_contains, contains_among, among_append, among_filter, among_kept, among_map, any_from, any_map}
 use Rattle.component_state.proofs.Numbers.{has_number}
 use Rattle.component_state.proofs.Order.{among_order}
 

@@ -1,25 +1,23 @@
 -- After a pass just those are open that stand and aren't held back.
-use Rattle.std.proofs.Common.{inl, inr, ◌⊎◌, ◌≡◌, ℕ, List, [], ◌∷◌, ◌++◌, ap, sym, ◌∙◌, refl, Bool, true, false, ◌&&◌, ◌||◌}
+use Rattle.std.proofs.Common.{inl, inr, ◌≡◌, ℕ, List, [], ◌∷◌, ap, sym, ◌∙◌, refl, Bool, true, false, ◌&&◌, ◌||◌}
 use Rattle.std.specs.Prelude.{filter, map, not, ◌==◌, nat_lt}
-use Rattle.std.specs.List.{list_any}
-use Rattle.std.proofs.lemmas.Bool.{eqb-true, eq-eqb, false_from_ne_true, false≢true, true_from_ne_false, not_from_false, not-true, and_parts, and_from, cases_Bool, both_ways}
+use Rattle.std.proofs.lemmas.Bool.{eqb-true, eq-eqb, false_from_ne_true, false≢true, not_from_false, not-true, and_parts, and_from, cases_Bool}
 use Rattle.std.proofs.lemmas.List.Folds.{list_any-append}
 use Rattle.journal_core.specs.declared.entry.Opened.{Opened}
 use Rattle.component_state.specs.declared.component.Component.{Component}
 use Rattle.component_state.specs.declared.life.Life.{Life}
 use Rattle.component_state.specs.declared.open_period.OpenPeriod.{OpenPeriod}
 use Rattle.component_state.specs.declared.pass.PassEnd.{PassEnd}
-use Rattle.component_state.specs.Components.{numbers_of, lives, are_numbered}
+use Rattle.component_state.specs.Components.{numbers_of, lives}
 use Rattle.component_state.specs.Marks.{with_leaving}
-use Rattle.component_state.specs.Passes.{Stage, in_order, out_of, opened_one, opened_from, next_after, IsReady}
+use Rattle.component_state.specs.Passes.{Stage, in_order, out_of, opened_from, next_after, IsReady}
 use Rattle.component_state.specs.Periods.{is_open, is_current, opened_at, open_after}
 use Rattle.component_state.specs.Reasons.{chose_outdated}
-use Rattle.component_state.specs.Runs.{stands, is_misled, has_life, must_close}
+use Rattle.component_state.specs.Runs.{stands, is_misled, has_life}
 use Rattle.component_state.specs.Words.{has}
 use Rattle.component_state.proofs.Among.{Among, among_contains, among_left, among_filter, among_kept, among_map, among_mapped, any_witness, any_from, any_map}
 use Rattle.component_state.proofs.Decisions.{closes, opens}
-use Rattle.component_state.proofs.Numbers.{has_number, has_filtered}
-use Rattle.component_state.proofs.Reading.{ReadsAs}
+use Rattle.component_state.proofs.Numbers.{has_filtered}
 
 -- ---- which numbers are open
 

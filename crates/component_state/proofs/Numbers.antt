@@ -1,5 +1,5 @@
 -- Component configurations by their numbers.
-use Rattle.std.proofs.Common.{◌⊎◌, inl, inr, ◌≡◌, ◌<◌, ℕ, List, [], ◌∷◌, ◌++◌, arith, ap, sym, ◌∙◌, refl, Bool, true, false, Option, Some, None}
+use Rattle.std.proofs.Common.{inl, inr, ◌≡◌, ◌<◌, ℕ, List, [], ◌∷◌, ◌++◌, arith, ap, sym, ◌∙◌, refl, Bool, true, false, Some}
 use Rattle.std.specs.Prelude.{filter, find, not, ◌==◌}
 use Rattle.std.specs.Option.{option_map_or}
 use Rattle.std.proofs.lemmas.Bool.{cases_Bool, cond-true, cond-false, eqb-true, eq-eqb, and_parts, and_from, not_from_false, not-true, false≢true, false_from_ne_true}

@@ -18,7 +18,7 @@ use Rattle.component_state.specs.Marks.{with_leaving}
 use Rattle.component_state.specs.Passes.{Stage, in_order, out_of, satisfied_in, closing, opening_ones, opened_one, opened_from, next_after, next_from, HasPassed, IsReady, IsPeriodOf}
 use Rattle.component_state.specs.Periods.{is_open, is_current, opened_at, open_after}
 use Rattle.component_state.specs.Reasons.{has_reason}
-use Rattle.component_state.specs.Runs.{begun, step, run, stands, is_misled, has_life, may_open}
+use Rattle.component_state.specs.Runs.{begun, step, run, stands, is_misled, has_life}
 use Rattle.component_state.specs.Scratch.{is_satisfied, offering, satisfied_below}
 use Rattle.component_state.specs.Targets.{offers}
 use Rattle.component_state.specs.Words.{has}
@@ -29,7 +29,7 @@ use Rattle.component_state.proofs.FinallyOpen.{leaving_if_ended, not_leaving_wit
 use Rattle.component_state.proofs.FromScratch.{stands_next}
 use Rattle.component_state.proofs.Numbers.{same_component, has_filtered, number_witness, has_number}
 use Rattle.component_state.proofs.OpenAfter.{IsOpenSoFar, step_so_far, begun_so_far}
-use Rattle.component_state.proofs.Order.{Ordered, among_level, among_below, in_below, among_order, in_order_each, order_ordered}
+use Rattle.component_state.proofs.Order.{Ordered, among_level, among_below, in_below, among_order, order_ordered}
 use Rattle.component_state.proofs.Reading.{ReadsAs, step_closed, step_opened, step_next, step_satisfied, numbers_more, opened_more, next_more, not_consumed}
 use Rattle.component_state.proofs.Stability.{not_offered}
 

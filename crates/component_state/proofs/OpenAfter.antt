@@ -1,5 +1,5 @@
 -- What is open during a pass is what was open, without what closed so far, and with what opened so far.
-use Rattle.std.proofs.Common.{inl, inr, ◌⊎◌, ◌≡◌, ℕ, List, [], ◌∷◌, ◌++◌, ap, sym, ◌∙◌, refl, Bool, true, false, append-nil, append_assoc, ◌&&◌, ◌||◌}
+use Rattle.std.proofs.Common.{inl, inr, ◌⊎◌, ◌≡◌, ℕ, List, [], ◌∷◌, ◌++◌, ap, sym, ◌∙◌, refl, Bool, true, false, append_assoc, ◌&&◌, ◌||◌}
 use Rattle.std.specs.Prelude.{filter, fold, map, not, ◌==◌}
 use Rattle.std.proofs.lemmas.Bool.{eqb-true, eq-eqb, false_from_ne_true, false≢true, not_from_false, cases_Bool}
 use Rattle.std.proofs.lemmas.List.{map-append}

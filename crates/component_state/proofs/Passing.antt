@@ -1,7 +1,6 @@
 -- The steps of a pass over all component configurations are a pass.
-use Rattle.std.proofs.Common.{inl, inr, ◌≡◌, ◌<◌, ℕ, suc, List, [], ◌∷◌, ◌++◌, length, ap, sym, ◌∙◌, refl, Bool, true, false, ◌&&◌, ◌||◌}
-use Rattle.std.specs.Prelude.{filter, fold, map, not, ◌==◌}
-use Rattle.std.specs.List.{list_any}
+use Rattle.std.proofs.Common.{inl, inr, ◌≡◌, ℕ, suc, List, [], ◌∷◌, length, ap, sym, ◌∙◌, refl, Bool, true, false, ◌&&◌, ◌||◌}
+use Rattle.std.specs.Prelude.{filter, fold, not}
 use Rattle.std.proofs.lemmas.Bool.{cases_Bool, false_from_ne_true, false≢true}
 use Rattle.std.proofs.lemmas.List.{length-map}
 use Rattle.component_dto.specs.declared.description.Description.{Description}
@@ -9,7 +8,7 @@ use Rattle.level_order.specs.Levels.{AreLevels, level_from}
 use Rattle.component_state.specs.declared.component.Component.{Component}
 use Rattle.component_state.specs.declared.open_period.OpenPeriod.{OpenPeriod}
 use Rattle.component_state.specs.declared.pass.PassEnd.{PassEnd}
-use Rattle.component_state.specs.Components.{numbers_of, top, in_order_below}
+use Rattle.component_state.specs.Components.{numbers_of, top}
 use Rattle.component_state.specs.Passes.{Stage, in_order, out_of, satisfied_in, closing, opening_ones, opened_from, next_from, HasPassed, IsReady}
 use Rattle.component_state.specs.Periods.{is_open}
 use Rattle.component_state.specs.Reasons.{has_reason}

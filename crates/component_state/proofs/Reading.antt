@@ -1,18 +1,14 @@
 -- What a pass closed, opened and noted is judged by what is open in the end.
-use Rattle.std.proofs.Common.{inl, inr, ◌≡◌, ◌≤◌, ◌<◌, ℕ, List, [], ◌∷◌, ◌++◌, ap, sym, ◌∙◌, refl, cond, Bool, true, false, append-nil, append_assoc, ◌&&◌, ◌||◌, arith}
-use Rattle.std.specs.Prelude.{filter, fold, map, not, ◌==◌}
-use Rattle.std.specs.List.{Contains}
+use Rattle.std.proofs.Common.{inl, inr, ◌≡◌, ◌≤◌, ℕ, List, [], ◌∷◌, ◌++◌, ap, sym, ◌∙◌, refl, cond, Bool, true, false, append-nil, append_assoc, arith}
+use Rattle.std.specs.Prelude.{filter, fold}
 use Rattle.std.proofs.lemmas.Bool.{false_from_ne_true}
 use Rattle.journal_core.specs.declared.entry.Opened.{Opened}
-use Rattle.level_order.specs.Levels.{consumes, AreLevels, level_from}
-use Rattle.component_dto.specs.declared.description.Description.{Description}
+use Rattle.level_order.specs.Levels.{consumes}
 use Rattle.component_state.specs.declared.component.Component.{Component}
-use Rattle.component_state.specs.declared.open_period.OpenPeriod.{OpenPeriod}
 use Rattle.component_state.specs.declared.pass.PassEnd.{PassEnd}
-use Rattle.component_state.specs.Components.{numbers_of, are_numbered, rank}
+use Rattle.component_state.specs.Components.{numbers_of, rank}
 use Rattle.component_state.specs.Passes.{Stage, opened_one, opened_from, next_after, next_from, IsReady}
-use Rattle.component_state.specs.Periods.{is_open}
-use Rattle.component_state.specs.Runs.{step, stands, must_close, may_open, noted, with_closed, with_opened}
+use Rattle.component_state.specs.Runs.{step, stands}
 use Rattle.component_state.proofs.Among.{Among, among_contains, contains_among}
 use Rattle.component_state.proofs.Decisions.{OfferSame, step_cases, closes, opens, closes_same, opens_same, stands_same}
 use Rattle.component_state.proofs.Order.{Ordered, consumed_lower}

@@ -1,6 +1,6 @@
 -- A pass that goes up the levels changes nothing of what the references of those below can take.
-use Rattle.std.proofs.Common.{inl, inr, ◌≡◌, ℕ, List, [], ◌∷◌, ◌++◌, ap, sym, ◌∙◌, refl, Bool, true, false, append-nil, ◌&&◌}
-use Rattle.std.specs.Prelude.{filter, fold, map, not, ◌==◌}
+use Rattle.std.proofs.Common.{inl, inr, ◌≡◌, ℕ, List, [], ◌∷◌, ◌++◌, ap, sym, ◌∙◌, refl, true, false, append-nil, ◌&&◌}
+use Rattle.std.specs.Prelude.{filter, fold, not, ◌==◌}
 use Rattle.std.proofs.lemmas.Bool.{cases_Bool, eqb-true, false_from_ne_true, false≢true, and_right}
 use Rattle.std.proofs.lemmas.List.Elements.{filter-append}
 use Rattle.component_dto.specs.declared.description.Reference.{Reference}
@@ -9,10 +9,10 @@ use Rattle.level_order.specs.Levels.{consumes, provides}
 use Rattle.component_state.specs.declared.component.Component.{Component}
 use Rattle.component_state.specs.declared.open_period.OpenPeriod.{OpenPeriod}
 use Rattle.component_state.specs.declared.pass.PassEnd.{PassEnd}
-use Rattle.component_state.specs.Components.{numbers_of, interfaces_of, are_numbered}
+use Rattle.component_state.specs.Components.{interfaces_of, are_numbered}
 use Rattle.component_state.specs.Passes.{Stage, IsPeriodOf, opened_one}
 use Rattle.component_state.specs.Periods.{opened_at}
-use Rattle.component_state.specs.Runs.{step, noted, with_closed, with_opened}
+use Rattle.component_state.specs.Runs.{step}
 use Rattle.component_state.specs.Targets.{offers}
 use Rattle.component_state.proofs.Among.{Among, among_append, among_filter, filter_same, filter_none, filter_twice}
 use Rattle.component_state.proofs.Decisions.{OfferSame, step_cases}

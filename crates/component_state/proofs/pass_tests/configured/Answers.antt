@@ -1,9 +1,8 @@
-use Rattle.std.proofs.Common.{inl, inr, ◌≡◌, ◌≤◌, ◌+◌, ℕ, List, [], ◌∷◌, ◌++◌, ap, sym, refl, arith, ◌∙◌, true}
+use Rattle.std.proofs.Common.{inl, inr, ◌≡◌, ◌≤◌, ◌+◌, ℕ, List, [], ◌∷◌, ◌++◌, ap, sym, refl, arith, true}
 use Rattle.std.specs.List.{Contains}
 use Rattle.component_dto.specs.declared.description.Description.{Description}
 use Rattle.component_state.specs.declared.component.Component.{Component}
-use Rattle.component_state.specs.Components.{are_numbered}
-use Rattle.component_state.proofs.Among.{Among, among_append, among_contains, contains_among}
+use Rattle.component_state.proofs.Among.{among_append, among_contains, contains_among}
 use Rattle.component_state.proofs.Numbers.{numbered_push}
 use Rattle.component_state.proofs.pass_tests.configured.Goals as goal
 
