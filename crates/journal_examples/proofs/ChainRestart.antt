@@ -16,7 +16,7 @@ use Rattle.scr_core.specs.Replies.{reply}
 use Rattle.scr_core.specs.Steps.{History}
 use Rattle.scr_core.specs.Worlds.{world_of, satisfied_in}
 use Rattle.journal_examples.proofs.Words.{reference, component, document, entry, plain, opens, chose, worlds, each, always, some_of}
-use Rattle.journal_examples.proofs.Views.{told_lines, line, marks, keys, gates, held_services, bundle_states, right_lists, lists_of, entries_reserved, shuts, reopens, all_scratch, all_in_order, all_have_room, are_passes_ready, ends_of_pass, ends_in_world}
+use Rattle.journal_examples.proofs.Views.{told_lines, line, marks, keys, gates, held_services, bundle_states, right_lists, lists_of, entries_reserved, shuts, reopens, all_scratch, all_in_order, all_have_room, are_passes_ready, ends_of_pass, ends_in_world, quiet, right, run_ends, lists_and_satisfied}
 use Rattle.journal_examples.proofs.Tests.{follows}
 
 abbrev pub doc1 : BundleDoc
@@ -227,6 +227,12 @@ held_40 = refl
 room_40 : map entries_reserved (worlds past40) ≡ (0 ∷ 1 ∷ 0 ∷ 1 ∷ 0 ∷ 1 ∷ 0 ∷ 1 ∷ 0 ∷ 1 ∷ 0 ∷ 1 ∷ 0 ∷ 1 ∷ 0 ∷ 1 ∷ 0 ∷ 1 ∷ 2 ∷ 3 ∷ 3 ∷ 4 ∷ 2 ∷ 3 ∷ 2 ∷ 3 ∷ 1 ∷ 2 ∷ 1 ∷ 2 ∷ 0 ∷ 1 ∷ 0 ∷ 1 ∷ 0 ∷ 1 ∷ 0 ∷ 0 ∷ 0 ∷ 0 ∷ 0 ∷ [])
 room_40 = refl
 
+quiet_ones_40 : map quiet (worlds past40) ≡ (true ∷ false ∷ false ∷ false ∷ false ∷ false ∷ false ∷ false ∷ false ∷ false ∷ false ∷ false ∷ false ∷ false ∷ false ∷ false ∷ false ∷ false ∷ false ∷ false ∷ true ∷ false ∷ false ∷ false ∷ false ∷ false ∷ false ∷ false ∷ false ∷ false ∷ false ∷ false ∷ false ∷ false ∷ false ∷ false ∷ false ∷ true ∷ true ∷ true ∷ true ∷ [])
+quiet_ones_40 = refl
+
+right_ones_40 : map (right 6) (worlds past40) ≡ (true ∷ false ∷ false ∷ false ∷ false ∷ false ∷ false ∷ false ∷ false ∷ false ∷ false ∷ false ∷ false ∷ false ∷ false ∷ false ∷ false ∷ false ∷ false ∷ false ∷ true ∷ false ∷ false ∷ false ∷ false ∷ false ∷ false ∷ false ∷ false ∷ false ∷ false ∷ false ∷ false ∷ false ∷ false ∷ false ∷ false ∷ true ∷ true ∷ true ∷ true ∷ [])
+right_ones_40 = refl
+
 lists_40 : each right_lists past40 (worlds past40) ≡ map lists_of past40
 lists_40 = refl
 
@@ -250,6 +256,9 @@ followed_40 = refl
 
 ready_40 : always are_passes_ready past40 (worlds past40) ≡ true
 ready_40 = refl
+
+runs_40 : each run_ends past40 (worlds past40) ≡ each lists_and_satisfied past40 (worlds past40)
+runs_40 = refl
 
 ends_40 : each ends_of_pass past40 (worlds past40) ≡ each ends_in_world past40 (worlds past40)
 ends_40 = refl
@@ -281,6 +290,12 @@ held_57 = refl
 room_57 : map entries_reserved (take 17 (worlds past57)) ≡ (3 ∷ 4 ∷ 2 ∷ 3 ∷ 2 ∷ 3 ∷ 1 ∷ 2 ∷ 1 ∷ 2 ∷ 0 ∷ 1 ∷ 0 ∷ 1 ∷ 0 ∷ 1 ∷ 0 ∷ [])
 room_57 = refl
 
+quiet_ones_57 : map quiet (take 17 (worlds past57)) ≡ (true ∷ false ∷ false ∷ false ∷ false ∷ false ∷ false ∷ false ∷ false ∷ false ∷ false ∷ false ∷ false ∷ false ∷ false ∷ false ∷ false ∷ [])
+quiet_ones_57 = refl
+
+right_ones_57 : map (right 6) (take 17 (worlds past57)) ≡ (true ∷ false ∷ false ∷ false ∷ false ∷ false ∷ false ∷ false ∷ false ∷ false ∷ false ∷ false ∷ false ∷ false ∷ false ∷ false ∷ false ∷ [])
+right_ones_57 = refl
+
 lists_57 : each right_lists (take 17 past57) (take 18 (worlds past57)) ≡ map lists_of (take 17 past57)
 lists_57 = refl
 
@@ -304,6 +319,9 @@ followed_57 = refl
 
 ready_57 : always are_passes_ready (take 17 past57) (take 18 (worlds past57)) ≡ true
 ready_57 = refl
+
+runs_57 : each run_ends (take 17 past57) (take 18 (worlds past57)) ≡ each lists_and_satisfied (take 17 past57) (take 18 (worlds past57))
+runs_57 = refl
 
 ends_57 : each ends_of_pass (take 17 past57) (take 18 (worlds past57)) ≡ each ends_in_world (take 17 past57) (take 18 (worlds past57))
 ends_57 = refl

@@ -1,6 +1,7 @@
 mod Words
 mod Views
 mod Tests
+mod Limits
 mod FirstSatisfaction
 mod WrongFirstSatisfaction
 mod StopOfProvider
@@ -22,6 +23,8 @@ mod WrongRefusedCycle
 mod FullJournal
 mod WrongFullJournal
 mod OtherReferences
+mod BindBeforeUnbind
+mod EndedBeforeItFailed
 mod LegalFirstSatisfaction
 mod LegalStopOfProvider
 mod LegalChainRestart

@@ -1,5 +1,5 @@
 -- The limits of a platform: 128 bundles, and 512 component configurations.
-use Rattle.std.specs.Prelude.{◌≡◌, refl, ℕ, zero, suc, List, [], ◌∷◌, ◌++◌, codes, map, Bool, true, false, Ok, Err}
+use Rattle.std.specs.Prelude.{◌≡◌, refl, ℕ, zero, suc, List, [], ◌∷◌, codes, Bool, true, false, Ok, Err}
 use Rattle.bundle_doc.specs.declared.document.BundleDoc.{BundleDoc}
 use Rattle.callback_orders.specs.declared.callback.Callback.TheVariants.{Create}
 use Rattle.callback_orders.specs.Sequences.{begun}
@@ -14,7 +14,7 @@ use Rattle.scr_core.specs.declared.command.CoreFault.{CoreFault as F}
 use Rattle.scr_core.specs.declared.command.Reply.{Reply as R}
 use Rattle.scr_core.specs.declared.command.Step.TheVariants.{Command as Commanded}
 use Rattle.scr_core.specs.declared.instance.Instance.{Instance}
-use Rattle.scr_core.specs.Replies.{reply, changes}
+use Rattle.scr_core.specs.Replies.{reply}
 use Rattle.scr_core.specs.Steps.{History}
 use Rattle.scr_core.specs.Worlds.{World, empty_world, world_of}
 use Rattle.journal_examples.proofs.Words.{reference, component, document, plain}
@@ -29,7 +29,7 @@ installs (suc n) = plain (Commanded (Install (numbered_document n))) ∷ install
 
 -- a component that references what it provides
 abbrev own_consumer : BundleDoc
-own_consumer = document (codes "s") (component (codes "s") false (codes "S" ∷ []) (reference (codes "s") (codes "S") ZeroOrMore Dynamic Reluctant ∷ []) ∷ [])
+own_consumer = document (codes "own") (component (codes "s") false (codes "S" ∷ []) (reference (codes "s") (codes "S") ZeroOrMore Dynamic Reluctant ∷ []) ∷ [])
 
 -- the last bundle that there may be, one more, a known location, and a cycle, which is told first
 bundles_full :

@@ -16,7 +16,7 @@ use Rattle.scr_core.specs.Replies.{reply}
 use Rattle.scr_core.specs.Steps.{History}
 use Rattle.scr_core.specs.Worlds.{world_of, satisfied_in}
 use Rattle.journal_examples.proofs.Words.{reference, component, document, entry, plain, opens, chose, worlds, each, always, some_of}
-use Rattle.journal_examples.proofs.Views.{told_lines, line, marks, keys, gates, held_services, bundle_states, right_lists, lists_of, entries_reserved, shuts, reopens, all_scratch, all_in_order, all_have_room, are_passes_ready, ends_of_pass, ends_in_world}
+use Rattle.journal_examples.proofs.Views.{told_lines, line, marks, keys, gates, held_services, bundle_states, right_lists, lists_of, entries_reserved, shuts, reopens, all_scratch, all_in_order, all_have_room, are_passes_ready, ends_of_pass, ends_in_world, quiet, right, run_ends, lists_and_satisfied}
 use Rattle.journal_examples.proofs.Tests.{follows}
 
 abbrev pub doc1 : BundleDoc
@@ -362,6 +362,12 @@ held_40 = refl
 room_40 : map entries_reserved (worlds past40) ≡ (4 ∷ 5 ∷ 4 ∷ 5 ∷ 4 ∷ 5 ∷ 3 ∷ 4 ∷ 3 ∷ 4 ∷ 3 ∷ 4 ∷ 3 ∷ 4 ∷ 3 ∷ 4 ∷ 3 ∷ 4 ∷ 3 ∷ 4 ∷ 4 ∷ 5 ∷ 3 ∷ 4 ∷ 3 ∷ 4 ∷ 2 ∷ 3 ∷ 2 ∷ 3 ∷ 1 ∷ 2 ∷ 1 ∷ 2 ∷ 0 ∷ 1 ∷ 0 ∷ 0 ∷ 0 ∷ 0 ∷ 0 ∷ [])
 room_40 = refl
 
+quiet_ones_40 : map quiet (worlds past40) ≡ (false ∷ false ∷ false ∷ false ∷ false ∷ false ∷ false ∷ false ∷ false ∷ false ∷ false ∷ false ∷ false ∷ false ∷ false ∷ false ∷ false ∷ false ∷ false ∷ false ∷ true ∷ false ∷ false ∷ false ∷ false ∷ false ∷ false ∷ false ∷ false ∷ false ∷ false ∷ false ∷ false ∷ false ∷ false ∷ false ∷ false ∷ true ∷ true ∷ true ∷ true ∷ [])
+quiet_ones_40 = refl
+
+right_ones_40 : map (right 10) (worlds past40) ≡ (false ∷ false ∷ false ∷ false ∷ false ∷ false ∷ false ∷ false ∷ false ∷ false ∷ false ∷ false ∷ false ∷ false ∷ false ∷ false ∷ false ∷ false ∷ false ∷ false ∷ true ∷ false ∷ false ∷ false ∷ false ∷ false ∷ false ∷ false ∷ false ∷ false ∷ false ∷ false ∷ false ∷ false ∷ false ∷ false ∷ false ∷ true ∷ true ∷ true ∷ true ∷ [])
+right_ones_40 = refl
+
 lists_40 : each right_lists past40 (worlds past40) ≡ map lists_of past40
 lists_40 = refl
 
@@ -385,6 +391,9 @@ followed_40 = refl
 
 ready_40 : always are_passes_ready past40 (worlds past40) ≡ true
 ready_40 = refl
+
+runs_40 : each run_ends past40 (worlds past40) ≡ each lists_and_satisfied past40 (worlds past40)
+runs_40 = refl
 
 ends_40 : each ends_of_pass past40 (worlds past40) ≡ each ends_in_world past40 (worlds past40)
 ends_40 = refl
@@ -416,6 +425,12 @@ held_80 = refl
 room_80 : map entries_reserved (take 40 (worlds past80)) ≡ (6 ∷ 5 ∷ 6 ∷ 5 ∷ 6 ∷ 5 ∷ 6 ∷ 5 ∷ 6 ∷ 5 ∷ 6 ∷ 5 ∷ 6 ∷ 5 ∷ 6 ∷ 5 ∷ 6 ∷ 5 ∷ 6 ∷ 7 ∷ 8 ∷ 8 ∷ 9 ∷ 8 ∷ 9 ∷ 7 ∷ 8 ∷ 7 ∷ 7 ∷ 8 ∷ 6 ∷ 7 ∷ 6 ∷ 7 ∷ 5 ∷ 6 ∷ 5 ∷ 6 ∷ 4 ∷ 5 ∷ [])
 room_80 = refl
 
+quiet_ones_80 : map quiet (take 40 (worlds past80)) ≡ (false ∷ false ∷ false ∷ false ∷ false ∷ false ∷ false ∷ false ∷ false ∷ false ∷ false ∷ false ∷ false ∷ false ∷ false ∷ false ∷ false ∷ false ∷ false ∷ false ∷ false ∷ true ∷ false ∷ false ∷ false ∷ false ∷ false ∷ false ∷ true ∷ false ∷ false ∷ false ∷ false ∷ false ∷ false ∷ false ∷ false ∷ false ∷ false ∷ false ∷ [])
+quiet_ones_80 = refl
+
+right_ones_80 : map (right 10) (take 40 (worlds past80)) ≡ (false ∷ false ∷ false ∷ false ∷ false ∷ false ∷ false ∷ false ∷ false ∷ false ∷ false ∷ false ∷ false ∷ false ∷ false ∷ false ∷ false ∷ false ∷ false ∷ false ∷ false ∷ true ∷ true ∷ false ∷ false ∷ false ∷ false ∷ false ∷ true ∷ false ∷ false ∷ false ∷ false ∷ false ∷ false ∷ false ∷ false ∷ false ∷ false ∷ false ∷ [])
+right_ones_80 = refl
+
 lists_80 : each right_lists (take 40 past80) (take 41 (worlds past80)) ≡ map lists_of (take 40 past80)
 lists_80 = refl
 
@@ -439,6 +454,9 @@ followed_80 = refl
 
 ready_80 : always are_passes_ready (take 40 past80) (take 41 (worlds past80)) ≡ true
 ready_80 = refl
+
+runs_80 : each run_ends (take 40 past80) (take 41 (worlds past80)) ≡ each lists_and_satisfied (take 40 past80) (take 41 (worlds past80))
+runs_80 = refl
 
 ends_80 : each ends_of_pass (take 40 past80) (take 41 (worlds past80)) ≡ each ends_in_world (take 40 past80) (take 41 (worlds past80))
 ends_80 = refl
@@ -470,6 +488,12 @@ held_101 = refl
 room_101 : map entries_reserved (take 21 (worlds past101)) ≡ (7 ∷ 8 ∷ 6 ∷ 7 ∷ 6 ∷ 7 ∷ 6 ∷ 7 ∷ 5 ∷ 6 ∷ 5 ∷ 6 ∷ 5 ∷ 6 ∷ 5 ∷ 6 ∷ 5 ∷ 6 ∷ 5 ∷ 6 ∷ 5 ∷ [])
 room_101 = refl
 
+quiet_ones_101 : map quiet (take 21 (worlds past101)) ≡ (true ∷ false ∷ false ∷ false ∷ false ∷ false ∷ false ∷ false ∷ false ∷ false ∷ false ∷ false ∷ false ∷ false ∷ false ∷ false ∷ false ∷ false ∷ false ∷ false ∷ false ∷ [])
+quiet_ones_101 = refl
+
+right_ones_101 : map (right 10) (take 21 (worlds past101)) ≡ (true ∷ false ∷ false ∷ false ∷ false ∷ false ∷ false ∷ false ∷ false ∷ false ∷ false ∷ false ∷ false ∷ false ∷ false ∷ false ∷ false ∷ false ∷ false ∷ false ∷ false ∷ [])
+right_ones_101 = refl
+
 lists_101 : each right_lists (take 21 past101) (take 22 (worlds past101)) ≡ map lists_of (take 21 past101)
 lists_101 = refl
 
@@ -493,6 +517,9 @@ followed_101 = refl
 
 ready_101 : always are_passes_ready (take 21 past101) (take 22 (worlds past101)) ≡ true
 ready_101 = refl
+
+runs_101 : each run_ends (take 21 past101) (take 22 (worlds past101)) ≡ each lists_and_satisfied (take 21 past101) (take 22 (worlds past101))
+runs_101 = refl
 
 ends_101 : each ends_of_pass (take 21 past101) (take 22 (worlds past101)) ≡ each ends_in_world (take 21 past101) (take 22 (worlds past101))
 ends_101 = refl

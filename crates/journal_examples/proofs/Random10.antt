@@ -17,7 +17,7 @@ use Rattle.scr_core.specs.Replies.{reply}
 use Rattle.scr_core.specs.Steps.{History}
 use Rattle.scr_core.specs.Worlds.{world_of, satisfied_in}
 use Rattle.journal_examples.proofs.Words.{reference, component, document, entry, plain, opens, chose, worlds, each, always, some_of}
-use Rattle.journal_examples.proofs.Views.{told_lines, line, marks, keys, gates, held_services, bundle_states, right_lists, lists_of, entries_reserved, shuts, reopens, all_scratch, all_in_order, all_have_room, are_passes_ready, ends_of_pass, ends_in_world}
+use Rattle.journal_examples.proofs.Views.{told_lines, line, marks, keys, gates, held_services, bundle_states, right_lists, lists_of, entries_reserved, shuts, reopens, all_scratch, all_in_order, all_have_room, are_passes_ready, ends_of_pass, ends_in_world, quiet, right}
 use Rattle.journal_examples.proofs.Tests.{follows}
 
 abbrev pub doc1 : BundleDoc
@@ -390,6 +390,12 @@ held_40 = refl
 room_40 : map entries_reserved (worlds past40) ≡ (1 ∷ 1 ∷ 2 ∷ 3 ∷ 2 ∷ 3 ∷ 2 ∷ 1 ∷ 2 ∷ 1 ∷ 2 ∷ 1 ∷ 2 ∷ 2 ∷ 3 ∷ 4 ∷ 5 ∷ 4 ∷ 5 ∷ 4 ∷ 5 ∷ 5 ∷ 6 ∷ 4 ∷ 5 ∷ 6 ∷ 7 ∷ 6 ∷ 5 ∷ 3 ∷ 4 ∷ 3 ∷ 2 ∷ 1 ∷ 1 ∷ 1 ∷ 0 ∷ 0 ∷ 0 ∷ 0 ∷ 0 ∷ [])
 room_40 = refl
 
+quiet_ones_40 : map quiet (worlds past40) ≡ (true ∷ true ∷ false ∷ false ∷ false ∷ false ∷ false ∷ false ∷ false ∷ false ∷ false ∷ false ∷ false ∷ false ∷ false ∷ false ∷ false ∷ false ∷ false ∷ false ∷ false ∷ false ∷ false ∷ false ∷ false ∷ false ∷ false ∷ false ∷ false ∷ false ∷ false ∷ false ∷ false ∷ false ∷ false ∷ false ∷ false ∷ false ∷ false ∷ true ∷ true ∷ [])
+quiet_ones_40 = refl
+
+right_ones_40 : map (right 32) (worlds past40) ≡ (true ∷ true ∷ false ∷ false ∷ false ∷ false ∷ false ∷ false ∷ false ∷ false ∷ false ∷ false ∷ false ∷ false ∷ false ∷ false ∷ false ∷ false ∷ false ∷ false ∷ false ∷ false ∷ false ∷ false ∷ false ∷ false ∷ false ∷ false ∷ false ∷ false ∷ false ∷ false ∷ false ∷ false ∷ false ∷ false ∷ false ∷ false ∷ false ∷ true ∷ true ∷ [])
+right_ones_40 = refl
+
 lists_40 : each right_lists past40 (worlds past40) ≡ map lists_of past40
 lists_40 = refl
 
@@ -444,6 +450,12 @@ held_80 = refl
 room_80 : map entries_reserved (take 40 (worlds past80)) ≡ (0 ∷ 0 ∷ 1 ∷ 0 ∷ 1 ∷ 0 ∷ 1 ∷ 2 ∷ 2 ∷ 2 ∷ 3 ∷ 4 ∷ 4 ∷ 4 ∷ 3 ∷ 4 ∷ 5 ∷ 3 ∷ 2 ∷ 3 ∷ 4 ∷ 5 ∷ 4 ∷ 4 ∷ 4 ∷ 3 ∷ 2 ∷ 1 ∷ 2 ∷ 1 ∷ 0 ∷ 0 ∷ 0 ∷ 0 ∷ 1 ∷ 0 ∷ 1 ∷ 1 ∷ 0 ∷ 1 ∷ [])
 room_80 = refl
 
+quiet_ones_80 : map quiet (take 40 (worlds past80)) ≡ (false ∷ true ∷ false ∷ false ∷ false ∷ false ∷ false ∷ false ∷ false ∷ false ∷ false ∷ false ∷ false ∷ false ∷ false ∷ false ∷ false ∷ false ∷ false ∷ false ∷ false ∷ false ∷ false ∷ false ∷ false ∷ false ∷ false ∷ false ∷ false ∷ false ∷ false ∷ false ∷ true ∷ true ∷ false ∷ false ∷ false ∷ false ∷ false ∷ false ∷ [])
+quiet_ones_80 = refl
+
+right_ones_80 : map (right 32) (take 40 (worlds past80)) ≡ (false ∷ true ∷ false ∷ false ∷ false ∷ false ∷ false ∷ false ∷ false ∷ false ∷ false ∷ false ∷ false ∷ false ∷ false ∷ false ∷ false ∷ false ∷ false ∷ false ∷ false ∷ false ∷ false ∷ false ∷ false ∷ false ∷ false ∷ false ∷ false ∷ false ∷ false ∷ false ∷ true ∷ true ∷ false ∷ false ∷ false ∷ false ∷ false ∷ false ∷ [])
+right_ones_80 = refl
+
 lists_80 : each right_lists (take 40 past80) (take 41 (worlds past80)) ≡ map lists_of (take 40 past80)
 lists_80 = refl
 
@@ -497,6 +509,12 @@ held_110 = refl
 
 room_110 : map entries_reserved (take 30 (worlds past110)) ≡ (0 ∷ 1 ∷ 2 ∷ 2 ∷ 2 ∷ 1 ∷ 2 ∷ 1 ∷ 2 ∷ 3 ∷ 3 ∷ 4 ∷ 5 ∷ 6 ∷ 5 ∷ 4 ∷ 3 ∷ 4 ∷ 4 ∷ 5 ∷ 6 ∷ 5 ∷ 4 ∷ 3 ∷ 2 ∷ 1 ∷ 1 ∷ 2 ∷ 0 ∷ 1 ∷ [])
 room_110 = refl
+
+quiet_ones_110 : map quiet (take 30 (worlds past110)) ≡ (false ∷ false ∷ false ∷ false ∷ false ∷ false ∷ false ∷ false ∷ false ∷ false ∷ false ∷ false ∷ false ∷ false ∷ false ∷ false ∷ false ∷ false ∷ false ∷ false ∷ false ∷ false ∷ false ∷ false ∷ false ∷ false ∷ true ∷ false ∷ false ∷ false ∷ [])
+quiet_ones_110 = refl
+
+right_ones_110 : map (right 32) (take 30 (worlds past110)) ≡ (false ∷ false ∷ false ∷ false ∷ false ∷ false ∷ false ∷ false ∷ false ∷ false ∷ false ∷ false ∷ false ∷ false ∷ false ∷ false ∷ false ∷ false ∷ false ∷ false ∷ false ∷ false ∷ false ∷ false ∷ false ∷ false ∷ true ∷ false ∷ false ∷ false ∷ [])
+right_ones_110 = refl
 
 lists_110 : each right_lists (take 30 past110) (take 31 (worlds past110)) ≡ map lists_of (take 30 past110)
 lists_110 = refl

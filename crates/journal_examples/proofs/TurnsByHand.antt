@@ -17,7 +17,7 @@ use Rattle.scr_core.specs.Replies.{reply}
 use Rattle.scr_core.specs.Steps.{History}
 use Rattle.scr_core.specs.Worlds.{world_of, satisfied_in}
 use Rattle.journal_examples.proofs.Words.{reference, component, document, entry, plain, opens, chose, worlds, each, always, some_of}
-use Rattle.journal_examples.proofs.Views.{told_lines, line, marks, keys, gates, held_services, bundle_states, right_lists, lists_of, entries_reserved, shuts, reopens, all_scratch, all_in_order, all_have_room, are_passes_ready, ends_of_pass, ends_in_world}
+use Rattle.journal_examples.proofs.Views.{told_lines, line, marks, keys, gates, held_services, bundle_states, right_lists, lists_of, entries_reserved, shuts, reopens, all_scratch, all_in_order, all_have_room, are_passes_ready, ends_of_pass, ends_in_world, quiet, right, run_ends, lists_and_satisfied}
 use Rattle.journal_examples.proofs.Tests.{follows}
 
 abbrev pub doc1 : BundleDoc
@@ -156,6 +156,12 @@ held = refl
 room : map entries_reserved (worlds past33) ≡ (2 ∷ 3 ∷ 1 ∷ 2 ∷ 1 ∷ 2 ∷ 0 ∷ 1 ∷ 0 ∷ 1 ∷ 0 ∷ 0 ∷ 1 ∷ 0 ∷ 1 ∷ 0 ∷ 1 ∷ 0 ∷ 1 ∷ 0 ∷ 1 ∷ 2 ∷ 2 ∷ 1 ∷ 2 ∷ 0 ∷ 1 ∷ 0 ∷ 1 ∷ 0 ∷ 0 ∷ 0 ∷ 0 ∷ 0 ∷ [])
 room = refl
 
+quiet_ones : map quiet (worlds past33) ≡ (true ∷ false ∷ false ∷ false ∷ false ∷ false ∷ false ∷ false ∷ false ∷ false ∷ false ∷ true ∷ false ∷ false ∷ false ∷ false ∷ false ∷ false ∷ false ∷ false ∷ false ∷ false ∷ false ∷ false ∷ false ∷ false ∷ false ∷ false ∷ false ∷ false ∷ true ∷ true ∷ true ∷ true ∷ [])
+quiet_ones = refl
+
+right_ones : map (right 5) (worlds past33) ≡ (true ∷ false ∷ false ∷ false ∷ false ∷ false ∷ false ∷ false ∷ false ∷ false ∷ false ∷ true ∷ false ∷ false ∷ false ∷ false ∷ false ∷ false ∷ false ∷ false ∷ false ∷ false ∷ false ∷ false ∷ false ∷ false ∷ false ∷ false ∷ false ∷ false ∷ true ∷ true ∷ true ∷ true ∷ [])
+right_ones = refl
+
 lists : each right_lists past33 (worlds past33) ≡ map lists_of past33
 lists = refl
 
@@ -179,6 +185,9 @@ followed = refl
 
 ready : always are_passes_ready past33 (worlds past33) ≡ true
 ready = refl
+
+runs : each run_ends past33 (worlds past33) ≡ each lists_and_satisfied past33 (worlds past33)
+runs = refl
 
 ends : each ends_of_pass past33 (worlds past33) ≡ each ends_in_world past33 (worlds past33)
 ends = refl

@@ -1,12 +1,12 @@
 -- What the examples look at in a world, and in an entry with the worlds before and after it.
-use Rattle.std.specs.Prelude.{ℕ, ◌+◌, ◌&&◌, ◌||◌, List, [], ◌∷◌, map, Bool, not, filter}
-use Rattle.std.specs.List.{list_all}
+use Rattle.std.specs.Prelude.{ℕ, ◌+◌, ◌&&◌, ◌||◌, List, [], ◌∷◌, map, Bool, not, filter, is_none}
+use Rattle.std.specs.List.{list_all, list_any, range_with_len}
 use Rattle.std.specs.Option.{option_map_or}
 use Rattle.callback_orders.specs.declared.instance_view.HeldService.{HeldService}
 use Rattle.callback_orders.specs.declared.instance_view.InstanceView.{InstanceView}
 use Rattle.callback_orders.specs.declared.instance_view.Key.{Key}
 use Rattle.callback_orders.specs.declared.instance_view.ReferenceView.{ReferenceView}
-use Rattle.callback_orders.specs.Sequences.{is_sequence}
+use Rattle.callback_orders.specs.Sequences.{is_outstanding, is_sequence}
 use Rattle.component_dto.specs.declared.description.Description.{Description}
 use Rattle.component_dto.specs.TextLists.{has_text}
 use Rattle.component_state.specs.declared.component.Component.{Component}
@@ -15,7 +15,9 @@ use Rattle.component_state.specs.declared.open_period.OpenPeriod.{OpenPeriod}
 use Rattle.component_state.specs.Components.{numbers_of, lives, interfaces_of, are_numbered}
 use Rattle.component_state.specs.Passes.{Stage, closing, opening_ones, opened_from, next_from, satisfied_in as satisfied_at}
 use Rattle.component_state.specs.Periods.{is_open, is_current}
-use Rattle.component_state.specs.Words.{has}
+use Rattle.component_state.specs.Runs.{run}
+use Rattle.component_state.specs.Scratch.{scratch}
+use Rattle.component_state.specs.Words.{has, is_empty, with_places}
 use Rattle.journal_core.specs.declared.entry.Entry.{Entry}
 use Rattle.journal_core.specs.declared.entry.GateKey.{GateKey}
 use Rattle.journal_core.specs.declared.entry.Opened.{Opened}
@@ -26,14 +28,18 @@ use Rattle.scr_core.specs.declared.command.Step.TheVariants.{End}
 use Rattle.scr_core.specs.declared.component_rows.ComponentLine.{ComponentLine}
 use Rattle.scr_core.specs.declared.instance.Instance.{Instance}
 use Rattle.scr_core.specs.Consequences.{stage_of, stopping, shut_between, reopened_by}
-use Rattle.scr_core.specs.Dues.{missing}
+use Rattle.scr_core.specs.Bundles.{descriptions_of}
+use Rattle.scr_core.specs.Dues.{due_in, missing}
+use Rattle.scr_core.specs.Instances.{is_active}
+use Rattle.scr_core.specs.Legal.{awaits_drain}
+use Rattle.scr_core.specs.Quiet.{holds_right}
 use Rattle.level_order.specs.Levels.{level_from}
-use Rattle.scr_core.specs.Levels.{same_numbers}
+use Rattle.scr_core.specs.Levels.{same_numbers, levels_of}
 use Rattle.scr_core.specs.Readers.{component_lines}
 use Rattle.scr_core.specs.Room.{has_room, needed_by, reserved}
-use Rattle.scr_core.specs.Views.{views_of}
+use Rattle.scr_core.specs.Views.{is_ending, references_of, views_of}
 use Rattle.scr_core.specs.Worlds.{World, instances_told, satisfied_in}
-use Rattle.journal_examples.proofs.Words.{are_scratch}
+use Rattle.journal_examples.proofs.Words.{are_scratch, same}
 
 -- the component configurations of the wanted keys without an instance
 abbrev pub keys : World → List ℕ
@@ -125,3 +131,22 @@ ends_of_pass e before now = let stage = stage_of e.step before in (satisfied_at 
 
 abbrev pub ends_in_world : Entry Step → World → World → List ℕ × ℕ
 ends_in_world e before now = (satisfied_in now, now.services + 1)
+
+-- what the pass as its code goes closes, opens and leaves satisfied, and what the entry and the world after it say
+abbrev pub run_ends : Entry Step → World → World → List ℕ × List Opened × List ℕ × ℕ
+run_ends e before now = let p = run (stage_of e.step before) in (p.closed, p.opened, p.satisfied, p.next_service)
+
+abbrev pub lists_and_satisfied : Entry Step → World → World → List ℕ × List Opened × List ℕ × ℕ
+lists_and_satisfied e before now = (e.closed, e.opened, satisfied_in now, now.services + 1)
+
+-- a quiet platform, as a test
+abbrev pub quiet : World → Bool
+quiet w = is_none (due_in w) && (not (list_any (λ (i : Instance). is_outstanding i.word) w.instances) && not (list_any (awaits_drain w) w.instances))
+
+-- a right one, as far as these numbers show it
+abbrev pub right : ℕ → World → Bool
+right n w = let ds = descriptions_of w.bundles in let open_ones = scratch ds (levels_of ds) w.components w.failed in
+    list_all (λ number. same (is_open w.open_ones number) (has open_ones number)) (range_with_len 0 n)
+    && (list_all (λ (i : Instance). is_active i && not (is_ending w.open_ones i)) w.instances
+    && (is_empty (missing w)
+    && list_all (λ (i : Instance). list_all (holds_right w i) (with_places 0 (references_of w.components i.life.configuration))) w.instances))
