@@ -221,6 +221,115 @@ impl<T: Grows> FrontLock<T> {
             Err(refused) => Err((only(refused), AllocError)),
         }
     }
+
+    /// Splits a second pass off, with a spare of 0 and a number that no pass has or had: no entry is under it, and it is
+    /// above each name of the first. The first keeps its number and all that it knows, and its spare falls by one.
+    /// `SeatsFull` exactly where the spare is 0, and then nothing changes. Like `enter`, it waits for its turn.
+    pub fn split<R: Wait>(
+        &self,
+        rt: &R,
+        pass: Pass<T::Entry>,
+    ) -> Result<(Pass<T::Entry>, Pass<T::Entry>), (Pass<T::Entry>, LockFault)>
+        requires { pass.lock ≡ self.now }
+        ensures first { IfOk result (λ r. (0 < pass.spare) × (r.0 ≡ record pass { spare = pass.spare - 1 })) }
+        ensures second { IfOk result (λ r. r.1 ≡ record pass { number = r.1.number; joined = []; spare = 0 }) }
+        ensures new { IfOk result (λ r. Owners (λ n. n < r.1.number) pass.seen) }
+        ensures later { IfOk result (λ r. (n : ℕ) → In n (names_of pass) → n < r.1.number) }
+        ensures full { IfErr result (λ e. (e.0 ≡ pass) × (pass.spare ≡ 0) × (e.1 ≡ LockFault.SeatsFull)) }
+    {
+        if pass.spare == 0 {
+            return Err((pass, LockFault::SeatsFull));
+        }
+        let Pass {
+            badge,
+            number,
+            spare,
+            seen,
+        } = pass;
+        let mut seat = badge.into_seat();
+        let ticket = self.draw(rt, &mut seat);
+        let value = self.await_turn(rt, &mut seat, ticket);
+        let other = self.table.shared.split_seat::<CutOff>(&mut seat);
+        self.put_down(&mut seat, ticket, value);
+        let first = Pass {
+            badge: seat.into_badge(),
+            number,
+            spare: spare - 1,
+            seen,
+        };
+        let second = Pass {
+            badge: other.into_badge(),
+            number: ticket,
+            spare: 0,
+            seen,
+        };
+        Ok((first, second))
+    }
+
+    /// Joins a pass into another, which keeps its number and gets the other's spare and one more. It has then seen the
+    /// longer beginning of the two, in which the entries of both are all that there are. The other's number and all that it
+    /// had seen are kept in it; that number gets no further entry. Like `enter`, it waits for its turn.
+    pub fn join<R: Wait>(
+        &self,
+        rt: &R,
+        pass: Pass<T::Entry>,
+        other: Pass<T::Entry>,
+    ) -> Pass<T::Entry>
+        requires { (pass.lock ≡ self.now) × (other.lock ≡ self.now) }
+        ensures joined { result ≡ record pass { joined = pass.joined ++ ended_of other; seen = longer pass.seen other.seen; spare = pass.spare + other.spare + 1 } }
+        ensures this { Extends (names_of pass) pass.seen result.seen }
+        ensures that { Extends (names_of other) other.seen result.seen }
+    {
+        let Pass {
+            badge,
+            number,
+            spare,
+            seen,
+        } = pass;
+        let Pass {
+            badge: other_badge,
+            number: _,
+            spare: other_spare,
+            seen: other_seen,
+        } = other;
+        let mut seat = badge.into_seat();
+        let ticket = self.draw(rt, &mut seat);
+        let value = self.await_turn(rt, &mut seat, ticket);
+        self.table
+            .shared
+            .join_seat::<TakeIn>(&mut seat, other_badge.into_seat());
+        self.put_down(&mut seat, ticket, value);
+        Pass {
+            badge: seat.into_badge(),
+            number,
+            spare: spare + other_spare + 1,
+            seen: seen.max(other_seen),
+        }
+    }
+
+    /// Gives the value to the pass into which all others were joined. Its history begins with all that this pass had seen,
+    /// and with all that each pass had seen that was joined into it, directly or through others. Each has just those
+    /// places in the history that it knew when it was joined, and each entry is of one of them. It waits for nobody.
+    pub fn close(self, pass: Pass<T::Entry>) -> T
+        requires lock { pass.lock ≡ self }
+        requires all { pass.spare ≡ 63 }
+        ensures goes_on { Extends (names_of pass) pass.seen (T.entries result) }
+        ensures ended { AllEnded pass.joined (T.entries result) }
+        ensures owned { Owners (λ n. In n (names_of pass)) (T.entries result) }
+        ensures tie { T.tie result ≡ pass.tie }
+    {
+        let FrontLock { table } = self;
+        let Pass {
+            badge,
+            number: _,
+            spare: _,
+            seen: _,
+        } = pass;
+        let mut closed = table.close_with(badge.into_seat());
+        let value = closed.take(VALUE).unwrap();
+        closed.free();
+        value
+    }
 }
 
 // The value in the one slot that came back.
