@@ -32,7 +32,8 @@ const VALUE: usize = 0;
 // How often a pass that waits gives up its processor before it sleeps.
 const YIELDS: u32 = 64;
 
-/// A lock round a value. To a contract it is the name of its table.
+/// A lock round a value. To a contract it is the name of its table. A lock that is dropped drops its value.
+#[derive(Drop)]
 pub struct FrontLock<T: Grows> {
     table: Table<Option<T>, FrontView<T::Entry>, Snapshot<T>, OneHistory<T>, Global>,
 }
