@@ -1,8 +1,10 @@
 -- Entries with owners, and the names of passes.
-use Rattle.std.proofs.Common.{◌≡◌, ◌≢◌, ◌⊎◌, ℕ, zero, suc, ◌+◌, ◌<◌, ◌≤◌, List, [], ◌∷◌, ◌++◌, length, refl, sym, ap, ◌∙◌, subst, inl, inr, ⊎_elim, append_assoc, arith}
+use Rattle.std.proofs.Common.{◌≡◌, ◌≢◌, ◌⊎◌, ℕ, zero, suc, ◌+◌, ◌-◌, Bool, true, false, if◌then◌else◌, eqb, eq-eqb, ne_eqb, ◌<◌, ◌≤◌, List, [], ◌∷◌, ◌++◌, length, refl, sym, ap, ◌∙◌, subst, inl, inr, ⊎_elim, append_assoc, arith}
+use Rattle.std.proofs.lemmas.List.{append-nil, length-append}
+use Rattle.std.specs.List.{range_with_len}
 use Rattle.std.specs.Prelude.{Option, Some, None}
-use Rattle.front_lock.specs.Histories.{In, Owners, Extends, GrownBy, AllEnded, numbers}
-use Rattle.front_lock.specs.Passes.{names_with, OwnOnce, ended}
+use Rattle.front_lock.specs.Histories.{In, Distinct, Owners, Extends, GrownBy, places, places_from, numbers, AllEnded, AllPlaced}
+use Rattle.front_lock.specs.Passes.{names_with, ended}
 use Rattle.front_lock.specs.declared.rule.Joined.{Joined}
 
 pub in_left : (n : ℕ) (xs ys : List ℕ) → In n xs → In n (xs ++ ys)
@@ -16,6 +18,13 @@ in_right n (x ∷ xs) ys h = inr (in_right n xs ys h)
 pub in_either : (n : ℕ) (xs ys : List ℕ) → In n (xs ++ ys) → In n xs ⊎ In n ys
 in_either n [] ys h = inr h
 in_either n (x ∷ xs) ys h = ⊎_elim (λ e. inl (inl e)) (λ t. ⊎_elim (λ a. inl (inr a)) inr (in_either n xs ys t)) h
+
+pub distinct_append : (xs ys : List ℕ) → Distinct xs → Distinct ys → ((n : ℕ) → In n xs → ¬ In n ys) → Distinct (xs ++ ys)
+distinct_append [] ys d e apart = e
+distinct_append (x ∷ xs) ys d e apart = (
+  (λ h. ⊎_elim d.0 (apart x (inl refl)) (in_either x xs ys h)),
+  distinct_append xs ys d.1 e (λ n p. apart n (inr p)),
+)
 
 module _ {E : Type 0} where
   pub owners_map : (P Q : ℕ → Type 0) (xs : List (ℕ × E)) → ((n : ℕ) → P n → Q n) → Owners P xs → Owners Q xs
@@ -40,10 +49,6 @@ module _ {E : Type 0} where
 
   pub extends_all : (ns : List ℕ) (log : List (ℕ × E)) → Extends ns log log
   extends_all ns log = record { rest = []; is = sym (append-nil log); foreign = tt }
-    where
-      append-nil : (l : List (ℕ × E)) → l ++ [] ≡ l
-      append-nil [] = refl
-      append-nil (x ∷ xs) = ap (λ l. x ∷ l) (append-nil xs)
 
   -- of two beginnings of one list, the shorter begins the longer, and what follows it there
   pub between : (xs ys a b : List (ℕ × E)) → xs ++ a ≡ ys ++ b → length xs ≤ length ys → (d : List (ℕ × E)) × (ys ≡ xs ++ d) × (a ≡ d ++ b)
@@ -90,8 +95,8 @@ module _ {E : Type 0} where
   pub own_named : (own : Option ℕ) (js : List (Joined E)) (n : ℕ) → own ≡ Some n → In n (names_with own js)
   own_named own js n is = subst (λ (o : Option ℕ). In n (names_with o js)) (sym is) (inl refl)
 
-  pub own_once : (own : Option ℕ) (js : List (Joined E)) (n : ℕ) → own ≡ Some n → OwnOnce own js → ¬ In n (numbers js)
-  own_once own js n is once = let o : ¬ In n (numbers js) = subst (λ (o : Option ℕ). OwnOnce o js) is once in o
+  pub own_once : (own : Option ℕ) (js : List (Joined E)) (n : ℕ) → own ≡ Some n → Distinct (names_with own js) → ¬ In n (numbers js)
+  own_once own js n is distinct = let d : Distinct (n ∷ numbers js) = subst (λ (o : Option ℕ). Distinct (names_with o js)) is distinct in d.0
 
   numbers_append : (js ks : List (Joined E)) → numbers (js ++ ks) ≡ numbers js ++ numbers ks
   numbers_append [] ks = refl
@@ -101,37 +106,47 @@ module _ {E : Type 0} where
   numbers_ended None seen js = refl
   numbers_ended (Some n) seen js = refl
 
-  numbers_either : (js ks : List (Joined E)) (n : ℕ) → In n (numbers (js ++ ks)) → In n (numbers js) ⊎ In n (numbers ks)
-  numbers_either js ks n h = in_either n (numbers js) (numbers ks) (subst (In n) (numbers_append js ks) h)
-
   -- the names of a pass into which another was joined
-  pub names_either : (own : Option ℕ) (js : List (Joined E)) (other : Option ℕ) (seen : List (ℕ × E)) (ks : List (Joined E)) (n : ℕ)
-      → In n (names_with own (js ++ ended other seen ks)) → In n (names_with own js) ⊎ In n (names_with other ks)
-  names_either own js other seen ks n h = go own h
+  pub names_join : (own : Option ℕ) (js : List (Joined E)) (other : Option ℕ) (seen : List (ℕ × E)) (ks : List (Joined E)) → names_with own (js ++ ended other seen ks) ≡ names_with own js ++ names_with other ks
+  names_join own js other seen ks = go own
     where
-      last : In n (numbers (ended other seen ks)) → In n (names_with other ks)
-      last p = subst (In n) (numbers_ended other seen ks) p
+      both : numbers (js ++ ended other seen ks) ≡ numbers js ++ names_with other ks
+      both = numbers_append js (ended other seen ks) ∙ ap (λ (l : List ℕ). numbers js ++ l) (numbers_ended other seen ks)
 
-      go : (o : Option ℕ) → In n (names_with o (js ++ ended other seen ks)) → In n (names_with o js) ⊎ In n (names_with other ks)
-      go None p = ⊎_elim inl (λ q. inr (last q)) (numbers_either js (ended other seen ks) n p)
-      go (Some m) p = ⊎_elim (λ e. inl (inl e)) (λ q. ⊎_elim (λ a. inl (inr a)) (λ b. inr (last b)) (numbers_either js (ended other seen ks) n q)) p
+      go : (o : Option ℕ) → names_with o (js ++ ended other seen ks) ≡ names_with o js ++ names_with other ks
+      go None = both
+      go (Some m) = ap (λ (l : List ℕ). m ∷ l) both
 
-  pub names_left : (own : Option ℕ) (js ks : List (Joined E)) (n : ℕ) → In n (names_with own js) → In n (names_with own (js ++ ks))
-  names_left own js ks n h = go own h
+  places_append : (n at : ℕ) (xs ys : List (ℕ × E)) → places_from n at (xs ++ ys) ≡ places_from n at xs ++ places_from n (at + length xs) ys
+  places_append n at [] ys = ap (λ (k : ℕ). places_from n k ys) (omega arith)
+  places_append n at (x ∷ xs) ys = go (places_append n (at + 1) xs ys ∙ ap (λ (k : ℕ). places_from n (at + 1) xs ++ places_from n k ys) (omega arith)) (eqb n x.0)
     where
-      first : In n (numbers js) → In n (numbers (js ++ ks))
-      first p = subst (In n) (sym (numbers_append js ks)) (in_left n (numbers js) (numbers ks) p)
+      go : places_from n (at + 1) (xs ++ ys) ≡ places_from n (at + 1) xs ++ places_from n (at + length (x ∷ xs)) ys → (b : Bool)
+          → (if b then at ∷ places_from n (at + 1) (xs ++ ys) else places_from n (at + 1) (xs ++ ys)) ≡ (if b then at ∷ places_from n (at + 1) xs else places_from n (at + 1) xs) ++ places_from n (at + length (x ∷ xs)) ys
+      go tail true = ap (λ (l : List ℕ). at ∷ l) tail
+      go tail false = tail
 
-      go : (o : Option ℕ) → In n (names_with o js) → In n (names_with o (js ++ ks))
-      go None p = first p
-      go (Some m) p = ⊎_elim inl (λ q. inr (first q)) p
+  places_none : (n at : ℕ) (xs : List (ℕ × E)) → Owners (λ m. n ≢ m) xs → places_from n at xs ≡ []
+  places_none n at [] o = refl
+  places_none n at (x ∷ xs) o = ap (λ (b : Bool). if b then at ∷ places_from n (at + 1) xs else places_from n (at + 1) xs) (ne_eqb n x.0 o.0) ∙ places_none n (at + 1) xs o.1
 
-  pub names_right : (own : Option ℕ) (js : List (Joined E)) (other : Option ℕ) (seen : List (ℕ × E)) (ks : List (Joined E)) (n : ℕ)
-      → In n (names_with other ks) → In n (names_with own (js ++ ended other seen ks))
-  names_right own js other seen ks n h = in_joined own (js ++ ended other seen ks) n
-      (subst (In n) (sym (numbers_append js (ended other seen ks))) (in_right n (numbers js) (numbers (ended other seen ks)) (subst (In n) (sym (numbers_ended other seen ks)) h)))
+  places_all : (n at : ℕ) (xs : List (ℕ × E)) → Owners (λ m. m ≡ n) xs → places_from n at xs ≡ range_with_len at (length xs)
+  places_all n at [] o = refl
+  places_all n at (x ∷ xs) o = ap (λ (b : Bool). if b then at ∷ places_from n (at + 1) xs else places_from n (at + 1) xs) (eq-eqb n x.0 (sym o.0)) ∙ ap (λ (l : List ℕ). at ∷ l) (places_all n (at + 1) xs o.1)
 
-  pub once_joined : (own : Option ℕ) (js : List (Joined E)) (other : Option ℕ) (seen : List (ℕ × E)) (ks : List (Joined E)) (n : ℕ)
-      → own ≡ Some n → OwnOnce own js → ¬ In n (names_with other ks) → OwnOnce own (js ++ ended other seen ks)
-  once_joined own js other seen ks n is once not = subst (λ (o : Option ℕ). OwnOnce o (js ++ ended other seen ks)) (sym is)
-      (λ h. ⊎_elim (own_once own js n is once) (λ p. not (subst (In n) (numbers_ended other seen ks) p)) (numbers_either js (ended other seen ks) n h))
+  -- the history goes on without entries of the names
+  pub places_kept : (n : ℕ) (ns : List ℕ) (seen log : List (ℕ × E)) → In n ns → Extends ns seen log → places n log ≡ places n seen
+  places_kept n ns seen log here e = ap (places n) e.is ∙ places_append n 0 seen e.rest
+      ∙ ap (λ (l : List ℕ). places n seen ++ l) (places_none n (0 + length seen) e.rest (owners_map (λ m. ¬ In m ns) (λ m. n ≢ m) e.rest (λ m not is. not (subst (λ (k : ℕ). In k ns) is here)) e.foreign)) ∙ append-nil (places n seen)
+
+  -- the history grows under one number alone
+  pub places_grown : (n : ℕ) (old log : List (ℕ × E)) → GrownBy n old log → places n log ≡ places n old ++ range_with_len (length old) (length log - length old)
+  places_grown n old log g =
+      let more : length log - length old ≡ length g.added = (let a = ap length g.is in let b = length-append old g.added in omega arith) in
+      let from : 0 + length old ≡ length old = omega arith in
+      ap (places n) g.is ∙ places_append n 0 old g.added
+      ∙ ap (λ (l : List ℕ). places n old ++ l) (ap (λ (k : ℕ). places_from n k g.added) from ∙ places_all n (length old) g.added g.owned ∙ ap (λ (k : ℕ). range_with_len (length old) k) (sym more))
+
+  pub all_placed : (js : List (Joined E)) (log : List (ℕ × E)) → AllEnded js log → AllPlaced js log
+  all_placed [] log a = tt
+  all_placed (j ∷ js) log a = (places_kept j.number (j.number ∷ []) j.seen log (inl refl) a.0, all_placed js log a.1)

@@ -11,15 +11,15 @@ use Rattle.std.specs.Prelude.{Option, Some, None, IsSome}
 use Rattle.atomic_table.specs.Table.{State, Me, step, rest, Act, keeps, takes, gives, Valid, carried_after, stepped, Allows, Splits, Joins, Final, Seen}
 use Rattle.atomic_table.specs.Seated.{TableId}
 use Rattle.atomic_table.proofs.Lists.{at_set, at_snoc, at_longer, set_here, set_else, set_again, exchanged}
-use Rattle.front_lock.specs.Histories.{In, Owners, Extends, GrownBy, AllEnded, numbers}
+use Rattle.front_lock.specs.Histories.{In, Owners, Extends, GrownBy, Distinct, AllEnded, numbers}
 use Rattle.front_lock.specs.declared.rule.Joined.{Joined}
 use Rattle.front_lock.specs.declared.rule.FrontView.{FrontView}
 use Rattle.front_lock.specs.declared.rule.Stage.{Stage}
 use Rattle.front_lock.specs.declared.rule.Stage.TheVariants.{Idle, Waits, Holds}
-use Rattle.front_lock.specs.Passes.{known, nobody, at_stage, names, names_with, OwnOnce, ended, longer, number_in, PassView, TurnView, names_of, ended_of, idle_of, first_of, pass_of, turn_of, holding_of}
+use Rattle.front_lock.specs.Passes.{known, nobody, at_stage, names, names_with, ended, longer, number_in, PassView, TurnView, names_of, ended_of, idle_of, first_of, pass_of, turn_of, holding_of}
 use Rattle.front_lock.specs.Rule.{parts_of, HasTicket, Staged, Fits, AtHome, IsOut, Kept}
 use Rattle.front_lock.specs.Steps.{Drew, Turned, GaveBack, PutBack, left_at, right_at, joined_at}
-use Rattle.front_lock.proofs.Histories.{owners_map, owners_append, owners_left, owners_right, owners_both, in_left, in_right, in_either, in_joined, own_named, own_once, once_joined, names_left, names_right, names_either, between, extends_more, extends_fewer, extends_all, ended_more, ended_append, ended_one}
+use Rattle.front_lock.proofs.Histories.{owners_map, owners_append, owners_left, owners_right, owners_both, in_left, in_right, in_either, in_joined, own_named, own_once, names_join, distinct_append, between, extends_more, extends_all, ended_more, ended_append, ended_one}
 use Rattle.front_lock.proofs.Views.{parts_set, parts_snoc, parts_at, parts_two, there, each_set, was, now}
 
 module _ {E : Type 0} where
@@ -134,8 +134,8 @@ module _ {T E : Type 0} (entries : T → List (ℕ × E)) (tie : T → List ℕ)
           small = omega arith;
           top_near = r.top_near;
           each = each_set s.views id me.0 w at (Fits (r.next + 1) r.serving r.top r.log s.homes r.tied)
-              (λ j u other e. let f = r.each j u e in record { tie = f.tie; spent = f.spent; extends = f.extends; ended = f.ended; once = f.once; below = f.below; staged = waits_later r.next r.serving r.top r.log s.homes u.stage f.staged })
-              record { tie = mine.tie; spent = λ none. absurd (omega arith); extends = mine.extends; ended = mine.ended; once = mine.once; below = mine.below; staged = (omega arith, omega arith) };
+              (λ j u other e. let f = r.each j u e in record { tie = f.tie; spent = f.spent; extends = f.extends; ended = f.ended; distinct = f.distinct; below = f.below; staged = waits_later r.next r.serving r.top r.log s.homes u.stage f.staged })
+              record { tie = mine.tie; spent = λ none. absurd (omega arith); extends = mine.extends; ended = mine.ended; distinct = mine.distinct; below = mine.below; staged = (omega arith, omega arith) };
           apart = apart_on s r id me.0 w at refl;
           turns = turns_mid s r id me.0 w at (λ k u t other e p q. let b = ticket_below r.next r.serving r.top r.log s.homes u.stage t (r.each k u e).staged q in let p' : t ≡ y = p in omega arith);
           place = ⊎_elim inl (λ o. inr (out' s r id me.0 w at refl refl (λ t fresh l ns also h. absurd (not_idle (sym idle ∙ h))) o)) r.place;
@@ -189,8 +189,8 @@ module _ {T E : Type 0} (entries : T → List (ℕ × E)) (tie : T → List ℕ)
           small = r.small;
           top_near = r.top_near;
           each = each_set s.views id me.0 w at (Fits r.next r.serving r.top r.log out r.tied)
-              (λ j u other e. let f = r.each j u e in record { tie = f.tie; spent = f.spent; extends = f.extends; ended = f.ended; once = f.once; below = f.below; staged = not_held r.next r.serving r.top r.log s.homes out (Some x) home.1 u.stage f.staged })
-              record { tie = mine.tie; spent = λ none. absurd (omega arith); extends = mine.extends; ended = mine.ended; once = mine.once; below = mine.below; staged = (y_is, omega arith, home.2, (λ _. home.3), is_out, record { rest = r.log; is = refl; foreign = foreign_to_none r.log }) };
+              (λ j u other e. let f = r.each j u e in record { tie = f.tie; spent = f.spent; extends = f.extends; ended = f.ended; distinct = f.distinct; below = f.below; staged = not_held r.next r.serving r.top r.log s.homes out (Some x) home.1 u.stage f.staged })
+              record { tie = mine.tie; spent = λ none. absurd (omega arith); extends = mine.extends; ended = mine.ended; distinct = mine.distinct; below = mine.below; staged = (y_is, omega arith, home.2, (λ _. home.3), is_out, record { rest = r.log; is = refl; foreign = foreign_to_none r.log }) };
           apart = apart_on s r id me.0 w at refl;
           turns = turns_mid s r id me.0 w at (λ k u v other e p q. let p' : v ≡ y = p in other (r.turns k id u me.0 e at t (subst (λ (n : ℕ). HasTicket n u.stage) (p' ∙ hit) q) has));
           place = inr (is_out, (id, w, y, true, entries x, [], [], set_here s.views id w (there s.views id me.0 at), refl));
@@ -241,11 +241,11 @@ module _ {T E : Type 0} (entries : T → List (ℕ × E)) (tie : T → List ℕ)
               spent = fu.spent;
               extends = extends_more (names u) n u.seen r.log (entries x) (λ h. other (r.apart j id u v e at n h mine)) grown' fu.extends;
               ended = ended_more u.joined n r.log (entries x) (λ h. other (r.apart j id u v e at n (in_joined u.own u.joined n h) mine)) grown' fu.ended;
-              once = fu.once;
+              distinct = fu.distinct;
               below = fu.below;
               staged = passes r.next r.serving r.top r.log (entries x) s.homes back t served u.stage (λ h. other (r.turns j id u v e at t h has)) fu.staged;
             })
-            record { tie = f.tie; spent = λ none. absurd (omega arith); extends = ext; ended = ended_more v.joined n r.log (entries x) (own_once v.own v.joined n own f.once) grown' f.ended; once = f.once; below = f.below; staged = tt };
+            record { tie = f.tie; spent = λ none. absurd (omega arith); extends = ext; ended = ended_more v.joined n r.log (entries x) (own_once v.own v.joined n own f.distinct) grown' f.ended; distinct = f.distinct; below = f.below; staged = tt };
         apart = apart_on s r id v w at refl;
         turns = turns_mid s r id v w at (λ k u z other e p q. absurd p);
         place = inl (x, back_is, refl, (let b' : r.top ≤ t + 1 = omega arith in b'), tied_x ∙ f.tie some_part);
@@ -292,6 +292,7 @@ module _ {T E : Type 0} (entries : T → List (ℕ × E)) (tie : T → List ℕ)
           λ u fresh' l' ns' also' e. let st' : Staged r.next r.serving r.top r.log s.homes (Holds u fresh' l' ns' also') = subst (Staged r.next r.serving r.top r.log s.homes) e f.staged in
               (subst (Extends ns' also') (sym st'.2) st'.5, subst (Extends (names v) v.seen) (sym st'.2) f.extends),
           (let p = parts_at s.views id v at in let w = r.whole in omega arith),
+          f.distinct,
         ),
       )
     where
@@ -323,7 +324,7 @@ module _ {T E : Type 0} (entries : T → List (ℕ × E)) (tie : T → List ℕ)
           foreign = owners_map Was_owned (λ n. ¬ In n (t ∷ [])) f.extends.rest (λ n o p. only n t (young o.0 o.1 n o.2 o.3) p) (owners_right Was_owned v.seen f.extends.rest (subst (Owners Was_owned) f.extends.is r.owners));
         };
         ended = tt;
-        once = λ p. absurd p;
+        distinct = ((λ p. absurd p), tt);
         below = λ n p. ⊎_elim (λ (e : n ≡ t). let q : n < t + 1 = omega arith in q) (λ (e : ⊥). absurd e) p;
         staged = tt;
       } in
@@ -344,11 +345,11 @@ module _ {T E : Type 0} (entries : T → List (ℕ × E)) (tie : T → List ℕ)
               spent = fz.spent;
               extends = fz.extends;
               ended = fz.ended;
-              once = fz.once;
+              distinct = fz.distinct;
               below = (λ n p. let q : n < t = young k z n g p in omega arith);
               staged = unheld r.next r.serving r.top (t + 1) r.log s.homes t served z.stage (λ h. other (r.turns k id z v g at t h has)) fz.staged;
             })
-            record { tie = (λ _. f.tie (omega arith)); spent = λ none. absurd (omega arith); extends = f.extends; ended = f.ended; once = f.once; below = (λ n p. let q : n < t = young id v n at p in omega arith); staged = (served, near, st.2, (λ bad. absurd (apart_bools bad)), st.4, st.5) }
+            record { tie = (λ _. f.tie (omega arith)); spent = λ none. absurd (omega arith); extends = f.extends; ended = f.ended; distinct = f.distinct; below = (λ n p. let q : n < t = young id v n at p in omega arith); staged = (served, near, st.2, (λ bad. absurd (apart_bools bad)), st.4, st.5) }
             j u old)
             (λ (new : b ≡ u). subst (Fits r.next r.serving (t + 1) r.log s.homes r.tied) new fits_b)
             (at_snoc mid b u j e);
@@ -413,11 +414,11 @@ module _ {T E : Type 0} (entries : T → List (ℕ × E)) (tie : T → List ℕ)
         foreign = owners_map (λ n. (¬ In n ns) × (¬ In n ms)) (λ n. ¬ In n (ns ++ ms)) a.rest neither (owners_both (λ n. ¬ In n ns) (λ n. ¬ In n ms) a.rest a.foreign (owners_right (λ n. ¬ In n ms) d.0 a.rest (subst (Owners (λ n. ¬ In n ms)) d.2 b.foreign)));
       }
 
-  pub joins : (id : ℕ) (v : FrontView E) (other : ℕ) (w : FrontView E) (t : ℕ) (fresh : Bool) (l : List (ℕ × E)) (ns : List ℕ) (also : List (ℕ × E)) → v.stage ≡ Holds t fresh l ns also → 0 < v.parts → (n : ℕ) → v.own ≡ Some n → w.stage ≡ Idle
+  pub joins : (id : ℕ) (v : FrontView E) (other : ℕ) (w : FrontView E) (t : ℕ) (fresh : Bool) (l : List (ℕ × E)) (ns : List ℕ) (also : List (ℕ × E)) → v.stage ≡ Holds t fresh l ns also → 0 < v.parts → w.stage ≡ Idle
       → Joins (Kept entries tie) id v other w (joined_at v w (Holds t fresh l ns also)) nobody
-  joins id v other w t fresh l ns also holding some_part mine own idle s r at differ there_w =
+  joins id v other w t fresh l ns also holding some_part idle s r at differ there_w =
       let a : FrontView E = known v.tie (v.parts + w.parts) v.own (v.joined ++ ended w.own w.seen w.joined) (longer v.seen w.seen) (Holds t fresh l (names w) w.seen) in
-      let either_names : (n : ℕ) → In n (names a) → In n (names v) ⊎ In n (names w) = names_either v.own v.joined w.own w.seen w.joined in
+      let nm : names a ≡ names v ++ names w = names_join v.own v.joined w.own w.seen w.joined in
       let b : FrontView E = nobody in
       let mid : List (FrontView E) = set s.views id a in
       let views : List (FrontView E) = set mid other b in
@@ -432,7 +433,7 @@ module _ {T E : Type 0} (entries : T → List (ℕ × E)) (tie : T → List ℕ)
       let named : (j : ℕ) (u : FrontView E) (n : ℕ) → get_elem? views j ≡ some u → In n (names u) → ((j ≡ id) × (In n (names v) ⊎ In n (names w))) ⊎ ((j ≢ other) × (get_elem? s.views j ≡ some u)) = λ j u n e p. ⊎_elim
       (λ (x : (j ≡ other) × (b ≡ u)). absurd (subst (λ (y : FrontView E). In n (names y)) (sym x.1) p))
       (λ (x : (j ≢ other) × (get_elem? mid j ≡ some u)). ⊎_elim
-      (λ (y : (j ≡ id) × (a ≡ u)). inl (y.0, either_names n (subst (λ (z : FrontView E). In n (names z)) (sym y.1) p)))
+      (λ (y : (j ≡ id) × (a ≡ u)). inl (y.0, in_either n (names v) (names w) (subst (In n) nm (subst (λ (z : FrontView E). In n (names z)) (sym y.1) p))))
       (λ (y : (j ≢ id) × (get_elem? s.views j ≡ some u)). inr (x.0, y.1))
       (at_set s.views id j a u x.1))
       (at_set mid other j b u e) in
@@ -459,13 +460,13 @@ module _ {T E : Type 0} (entries : T → List (ℕ × E)) (tie : T → List ℕ)
             record {
               tie = λ _. f.tie some_part;
               spent = λ none. absurd (omega arith);
-              extends = extends_fewer (names v ++ names w) (names a) (longer v.seen w.seen) r.log (λ n p. ⊎_elim (in_left n (names v) (names w)) (in_right n (names v) (names w)) (either_names n p)) (both_extend (names v) (names w) v.seen w.seen r.log f.extends fw.extends);
+              extends = subst (λ (l : List ℕ). Extends l (longer v.seen w.seen) r.log) (sym nm) (both_extend (names v) (names w) v.seen w.seen r.log f.extends fw.extends);
               ended = ended_append v.joined (ended w.own w.seen w.joined) r.log f.ended (ended_one w.own w.seen w.joined r.log fw.extends fw.ended);
-              once = once_joined v.own v.joined w.own w.seen w.joined mine own f.once (λ p. differ (sym (r.apart id other v w at at_w mine (own_named v.own v.joined mine own) p)));
-              below = λ n p. ⊎_elim (f.below n) (fw.below n) (either_names n p);
+              distinct = subst Distinct (sym nm) (distinct_append (names v) (names w) f.distinct fw.distinct (λ n p q. differ (sym (r.apart id other v w at at_w n p q))));
+              below = λ n p. ⊎_elim (f.below n) (fw.below n) (in_either n (names v) (names w) (subst (In n) nm p));
               staged = (st.0, st.1, st.2, st.3, st.4, fw.extends);
             } j u e)
-            record { tie = (λ some_one. absurd (omega arith)); spent = λ _. (refl, refl); extends = record { rest = r.log; is = refl; foreign = foreign_to_none r.log }; ended = tt; once = tt; below = (λ n p. absurd p); staged = tt };
+            record { tie = (λ some_one. absurd (omega arith)); spent = λ _. (refl, refl); extends = record { rest = r.log; is = refl; foreign = foreign_to_none r.log }; ended = tt; distinct = tt; below = (λ n p. absurd p); staged = tt };
         apart = λ j k u z e g n p q. ⊎_elim
             (λ (x : (j ≡ id) × (In n (names v) ⊎ In n (names w))). ⊎_elim
             (λ (y : (k ≡ id) × (In n (names v) ⊎ In n (names w))). x.0 ∙ sym y.0)
@@ -480,9 +481,9 @@ module _ {T E : Type 0} (entries : T → List (ℕ × E)) (tie : T → List ℕ)
         place = inr (st.4, (id, a, t, fresh, l, (names w), w.seen, here, refl));
         whole = let x = parts_set s.views id v a at in let y = parts_set mid other w b there_w in let z = r.whole in omega arith;
         owners = owners_map Was_owned Now_owned r.log (λ n o. dite (ℕ_discrete o.0 id)
-            (λ hit. let vu : v ≡ o.1 = some-injective v o.1 (sym at ∙ subst (λ k. get_elem? s.views k ≡ some o.1) hit o.2) in (id, a, here, names_left v.own v.joined (ended w.own w.seen w.joined) n (subst (λ (y : FrontView E). In n (names y)) (sym vu) o.3)))
+            (λ hit. let vu : v ≡ o.1 = some-injective v o.1 (sym at ∙ subst (λ k. get_elem? s.views k ≡ some o.1) hit o.2) in (id, a, here, subst (In n) (sym nm) (in_left n (names v) (names w) (subst (λ (y : FrontView E). In n (names y)) (sym vu) o.3))))
             (λ miss. dite (ℕ_discrete o.0 other)
-            (λ hit. let wu : w ≡ o.1 = some-injective w o.1 (sym at_w ∙ subst (λ k. get_elem? s.views k ≡ some o.1) hit o.2) in (id, a, here, names_right v.own v.joined w.own w.seen w.joined n (subst (λ (y : FrontView E). In n (names y)) (sym wu) o.3)))
+            (λ hit. let wu : w ≡ o.1 = some-injective w o.1 (sym at_w ∙ subst (λ k. get_elem? s.views k ≡ some o.1) hit o.2) in (id, a, here, subst (In n) (sym nm) (in_right n (names v) (names w) (subst (λ (y : FrontView E). In n (names y)) (sym wu) o.3))))
             (λ miss'. (o.0, o.1, set_else mid other o.0 b miss' ∙ (set_else s.views id o.0 a miss ∙ o.2), o.3)))) r.owners;
       }
 
@@ -493,6 +494,7 @@ module _ {T E : Type 0} (entries : T → List (ℕ × E)) (tie : T → List ℕ)
     pub extends : Extends (names v) v.seen (entries value)
     pub owned : Owners (λ n. In n (names v)) (entries value)
     pub ended_there : AllEnded v.joined (entries value)
+    pub distinct : Distinct (names v)
     pub tied : tie value ≡ v.tie
 
   pub closes : (id : ℕ) (v : FrontView E) (ws : List ℕ) (xs : List (Option T)) → v.parts ≡ 64 → v.stage ≡ Idle → Final (Seen (Kept entries tie) id v) ws xs → Whole v xs
@@ -505,6 +507,7 @@ module _ {T E : Type 0} (entries : T → List (ℕ × E)) (tie : T → List ℕ)
         value = home.0;
         at = fin.4 0 (Some home.0) (ap (λ (h : List (maybe.Option (Option T))). get_elem? h 0) home.1);
         extends = subst (Extends (names v) v.seen) (sym home.2) (r.each id v at).extends;
+        distinct = (r.each id v at).distinct;
         ended_there = subst (AllEnded v.joined) (sym home.2) (r.each id v at).ended;
         tied = home.4 ∙ sym ((r.each id v at).tie (omega arith));
         owned = subst (Owners (λ n. In n (names v))) (sym home.2) (owners_map (λ n. (j : ℕ) × (u : FrontView E) × (get_elem? s.views j ≡ some u) × In n (names u)) (λ n. In n (names v)) r.log
@@ -560,7 +563,7 @@ module _ {T E : Type 0} (entries : T → List (ℕ × E)) (tie : T → List ℕ)
       spent = λ none. absurd (omega arith);
       extends = record { rest = []; is = refl; foreign = tt };
       ended = tt;
-      once = λ p. absurd p;
+      distinct = ((λ p. absurd p), tt);
       below = λ n p. ⊎_elim (λ (is : n ≡ 0). let q : n < 1 = omega arith in q) (λ (is : ⊥). absurd is) p;
       staged = tt;
     };
@@ -583,10 +586,10 @@ module _ {T E : Type 0} (entries : T → List (ℕ × E)) (tie : T → List ℕ)
   idle_is z views v f seen is at = head_is v (idle_of (pass_of z (first_of views))) views at is ∙ ap (λ (h : PassView E). idle_of h) seen
 
   abbrev pub Closed : PassView E → List (Option T) → T → Type 0
-  Closed f xs x = (get_elem? xs 0 ≡ some (Some x)) × Extends (names_of f) f.seen (entries x) × Owners (λ n. In n (names_of f)) (entries x) × (tie x ≡ f.tie) × AllEnded f.joined (entries x)
+  Closed f xs x = (get_elem? xs 0 ≡ some (Some x)) × Extends (names_of f) f.seen (entries x) × Owners (λ n. In n (names_of f)) (entries x) × (tie x ≡ f.tie) × AllEnded f.joined (entries x) × Distinct (names_of f)
 
   pub closes_as : (id : ℕ) (v : FrontView E) (f : PassView E) (ws : List ℕ) (xs : List (Option T)) → v ≡ idle_of f → f.spare ≡ 63 → Final (Seen (Kept entries tie) id v) ws xs → (x : T) × Closed f xs x
-  closes_as id v f ws xs is all fin = let w = closes id (idle_of f) ws xs (let a : f.spare ≡ 63 = all in omega arith) refl (subst (λ (u : FrontView E). Final (Seen (Kept entries tie) id u) ws xs) is fin) in (w.value, (w.at, w.extends, w.owned, w.tied, w.ended_there))
+  closes_as id v f ws xs is all fin = let w = closes id (idle_of f) ws xs (let a : f.spare ≡ 63 = all in omega arith) refl (subst (λ (u : FrontView E). Final (Seen (Kept entries tie) id u) ws xs) is fin) in (w.value, (w.at, w.extends, w.owned, w.tied, w.ended_there, w.distinct))
 
   -- what is taken out of the slot
   pub closed_value : (f : PassView E) (xs : List (Option T)) (o : Option T) (x y : T) → Closed f xs x → get_elem? xs 0 ≡ some o → o ≡ Some y → Closed f xs y
@@ -615,7 +618,7 @@ module _ {T E : Type 0} (entries : T → List (ℕ × E)) (tie : T → List ℕ)
 
   pub joins_as : (id : ℕ) (v : FrontView E) (other : ℕ) (w : FrontView E) (f h : PassView E) (t : ℕ) (x : T) → v ≡ holding_of t (turn_with f x) → w ≡ idle_of h → Joins (Kept entries tie) id v other w (joined_at v w v.stage) nobody
   joins_as id v other w f h t x is idle = subst (λ (u : FrontView E × FrontView E). Joins (Kept entries tie) id u.0 other u.1 (joined_at u.0 u.1 u.0.stage) nobody) (λ i. (sym is i, sym idle i))
-      (joins id (holding_of t (turn_with f x)) other (idle_of h) t true (entries x) [] [] refl (omega arith) f.number refl refl)
+      (joins id (holding_of t (turn_with f x)) other (idle_of h) t true (entries x) [] [] refl (omega arith) refl)
 
   abbrev pub both_of : PassView E → PassView E → ℕ → T → FrontView E
   both_of f h t x = known f.tie (f.spare + 1 + (h.spare + 1)) (Some f.number) (f.joined ++ ended_of h) (longer f.seen h.seen) (Holds t true (entries x) (names_of h) h.seen)

@@ -1,7 +1,7 @@
 -- What a pass knows, as the lock's table keeps it and as its holder sees it. Our own.
 use Rattle.std.specs.Prelude.{◌≡◌, ℕ, ◌+◌, ◌-◌, ◌<◌, Bool, true, ltb, if◌then◌else◌, List, [], ◌∷◌, ◌++◌, length, Option, Some, None}
 use Rattle.atomic_table.specs.Seated.{TableId}
-use Rattle.front_lock.specs.Histories.{In, numbers}
+use Rattle.front_lock.specs.Histories.{numbers}
 use Rattle.front_lock.specs.declared.rule.Joined.{Joined}
 use Rattle.front_lock.specs.declared.rule.FrontView.{FrontView}
 use Rattle.front_lock.specs.declared.rule.Stage.{Stage}
@@ -26,11 +26,6 @@ module _ {E : Type 0} where
   -- its number, and those of the passes that were joined into it
   abbrev pub names : FrontView E → List ℕ
   names v = names_with v.own v.joined
-
-  -- its number isn't that of a pass that was joined into it
-  abbrev pub OwnOnce : Option ℕ → List (Joined E) → Type 0
-  OwnOnce None js = Unit {0}
-  OwnOnce (Some n) js = ¬ In n (numbers js)
 
   -- a pass with this number and this knowledge, as it is kept where it is joined
   abbrev pub ended : Option ℕ → List (ℕ × E) → List (Joined E) → List (Joined E)

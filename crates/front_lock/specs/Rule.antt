@@ -5,8 +5,8 @@ use mathlib.Core.Option.{some, none}
 use mathlib.Core.Option as maybe
 use lib.ListN.{get_elem?}
 use Rattle.atomic_table.specs.Table.{State}
-use Rattle.front_lock.specs.Histories.{In, Owners, Extends, AllEnded}
-use Rattle.front_lock.specs.Passes.{names, OwnOnce}
+use Rattle.front_lock.specs.Histories.{In, Owners, Extends, Distinct, AllEnded}
+use Rattle.front_lock.specs.Passes.{names}
 use Rattle.front_lock.specs.declared.rule.FrontView.{FrontView}
 use Rattle.front_lock.specs.declared.rule.Stage.{Stage}
 use Rattle.front_lock.specs.declared.rule.Stage.TheVariants.{Idle, Waits, Holds}
@@ -28,14 +28,14 @@ module _ {E : Type 0} where
     Staged (Waits t) = (serving ≤ t) × (t < next)
     Staged (Holds t fresh began ns also) = (t ≡ serving) × (t < next) × (began ≡ log) × (fresh ≡ true → top ≤ serving) × (homes ≡ none ∷ []) × Extends ns also log
 
-    -- what one pass knows is true: all its names are below top, it has seen a beginning of the history, behind which there is no entry of
-    -- its names, and so had each pass that was joined into it
+    -- what one pass knows is true: its names are all different and below top, it has seen a beginning of the history, behind which there is
+    -- no entry of its names, and so had each pass that was joined into it
     pub record Fits (tied : List ℕ) (v : FrontView E) : Type 0 where
       pub tie : 0 < v.parts → v.tie ≡ tied
       pub spent : v.parts ≡ 0 → (names v ≡ []) × (v.stage ≡ Idle)
       pub extends : Extends (names v) v.seen log
       pub ended : AllEnded v.joined log
-      pub once : OwnOnce v.own v.joined
+      pub distinct : Distinct (names v)
       pub below : (n : ℕ) → In n (names v) → n < top
       pub staged : Staged v.stage
 

@@ -1,7 +1,7 @@
 -- What each kind of step at the lock tells its pass. Our own.
 use Rattle.std.specs.Prelude.{◌≡◌, ◌≢◌, ℕ, ◌+◌, ◌-◌, ◌<◌, ◌≤◌, Bool, true, false, List, [], ◌∷◌, ◌++◌, Option, Some, None}
 use Rattle.atomic_table.specs.Table.{Me, Step, rest}
-use Rattle.front_lock.specs.Histories.{In, Owners, Extends, AllEnded}
+use Rattle.front_lock.specs.Histories.{In, Owners, Extends, Distinct}
 use Rattle.front_lock.specs.Passes.{known, at_stage, names, nobody, ended, longer}
 use Rattle.front_lock.specs.declared.rule.FrontView.{FrontView}
 use Rattle.front_lock.specs.declared.rule.Stage.{Stage}
@@ -26,11 +26,13 @@ module _ {T E : Type 0} (entries : T → List (ℕ × E)) (tie : T → List ℕ)
   abbrev pub GaveBack : Step (Option T) → Sat → ℕ → Sat → Type 0
   GaveBack st m r m' = (x : T) → m.1 ≡ (0, Some x) ∷ rest m.1 → m' ≡ (known m.0.tie m.0.parts m.0.own m.0.joined (entries x) Idle, rest m.1)
 
-  -- the value is back as it was, and the pass has seen no more than before; what was joined into it in this turn goes on to the value's entries too
+  -- the value is back as it was, and the pass has seen no more than before; what was joined into it in this turn goes on to the
+  -- value's entries too, and its names are all different
   abbrev pub PutBack : Step (Option T) → Sat → ℕ → Sat → Type 0
   PutBack st m r m' = (m' ≡ (at_stage m.0 Idle, rest m.1))
       × ((t : ℕ) (fresh : Bool) (began : List (ℕ × E)) (ns : List ℕ) (also : List (ℕ × E)) → m.0.stage ≡ Holds t fresh began ns also → Extends ns also began × Extends (names m.0) m.0.seen began)
       × (m.0.parts ≤ 64)
+      × Distinct (names m.0)
 
 module _ {E : Type 0} where
   -- the pass that has the turn, when another was split off it, and that other, whose number is the turn's ticket

@@ -1,7 +1,7 @@
 //! The lock: tickets are drawn in order and served in order, and the value lies in a slot while no pass has it.
 ghost use Rattle.std.specs.Prelude.{◌≡◌, ℕ, ◌+◌, ◌-◌, ◌<◌, ◌≤◌, ◌^◌, Bool, true, List, [], ◌∷◌, ◌++◌, length, Some, None, IfOk, IfErr};
 ghost use Rattle.std.specs.List.{range_with_len};
-ghost use Rattle.front_lock.specs.Histories.{In, Extends, Owners, GrownBy, places, AllEnded, AllPlaced};
+ghost use Rattle.front_lock.specs.Histories.{In, Distinct, Extends, Owners, GrownBy, places, AllEnded, AllPlaced};
 ghost use Rattle.front_lock.specs.Passes.{at_stage, names, names_of, ended_of, longer};
 ghost use Rattle.front_lock.specs.declared.rule.Stage.TheVariants.{Idle, Waits, Holds};
 
@@ -120,6 +120,7 @@ impl<T: Grows> FrontLock<T> {
         requires { pass.lock ≡ self.now }
         ensures turn { (result.turn.pass ≡ pass) × (result.turn.began ≡ T.entries result.value) }
         ensures goes_on { Extends (names_of pass) pass.seen (T.entries result.value) }
+        ensures mine { (n : ℕ) → In n (names_of pass) → places n (T.entries result.value) ≡ places n pass.seen }
         ensures tie { T.tie result.value ≡ pass.tie }
     {
         let Pass {
@@ -148,7 +149,8 @@ impl<T: Grows> FrontLock<T> {
         requires lock { inner.turn.pass.lock ≡ self.now }
         requires grown { GrownBy inner.turn.pass.number inner.turn.began (T.entries inner.value) }
         requires tie { T.tie inner.value ≡ inner.turn.pass.tie }
-        ensures { result ≡ record inner.turn.pass { seen = T.entries inner.value } }
+        ensures seen { result ≡ record inner.turn.pass { seen = T.entries inner.value } }
+        ensures mine { places result.number result.seen ≡ places result.number inner.turn.began ++ range_with_len (length inner.turn.began) (length result.seen - length inner.turn.began) }
     {
         let Inner { value, turn } = inner;
         let Turn {
@@ -184,6 +186,7 @@ impl<T: Grows> FrontLock<T> {
         ensures back { seat.new.me ≡ (at_stage seat.old.me.0 Idle, []) }
         ensures learned { (fresh : Bool) (ns : List ℕ) (also : List (ℕ × T.Entry)) → seat.old.me.0.stage ≡ Holds ticket fresh (T.entries value) ns also → Extends ns also (T.entries value) × Extends (names seat.old.me.0) seat.old.me.0.seen (T.entries value) }
         ensures few { seat.old.me.0.parts ≤ 64 }
+        ensures distinct { Distinct (names seat.old.me.0) }
     {
         match self.table.shared.exchange(seat, VALUE, Some(value)) {
             None => {}
@@ -280,6 +283,9 @@ impl<T: Grows> FrontLock<T> {
         ensures joined { result ≡ record pass { joined = pass.joined ++ ended_of other; seen = longer pass.seen other.seen; spare = pass.spare + other.spare + 1 } }
         ensures this { Extends (names_of pass) pass.seen result.seen }
         ensures that { Extends (names_of other) other.seen result.seen }
+        ensures mine { (n : ℕ) → In n (names_of pass) → places n result.seen ≡ places n pass.seen }
+        ensures theirs { (n : ℕ) → In n (names_of other) → places n result.seen ≡ places n other.seen }
+        ensures distinct { Distinct (names_of result) }
     {
         let Pass {
             badge,
@@ -315,7 +321,10 @@ impl<T: Grows> FrontLock<T> {
         requires lock { pass.lock ≡ self }
         requires all { pass.spare ≡ 63 }
         ensures goes_on { Extends (names_of pass) pass.seen (T.entries result) }
+        ensures mine { (n : ℕ) → In n (names_of pass) → places n (T.entries result) ≡ places n pass.seen }
         ensures ended { AllEnded pass.joined (T.entries result) }
+        ensures placed { AllPlaced pass.joined (T.entries result) }
+        ensures distinct { Distinct (names_of pass) }
         ensures owned { Owners (λ n. In n (names_of pass)) (T.entries result) }
         ensures tie { T.tie result ≡ pass.tie }
     {

@@ -1,6 +1,7 @@
 use Rattle.std.proofs.Common.{rules, arith, ℕ, ◌<◌, ◌≡◌, Some, true, false, [], sym, ap, ◌∙◌, subst, refl, inl}
 use Rattle.front_lock.specs.Histories.{In, Extends}
 use Rattle.front_lock.specs.Passes.{names_of}
+use Rattle.front_lock.proofs.Histories.{places_kept}
 use Rattle.front_lock.proofs.Keeps.{idle_is, turned_is, joins_as, joined_is, within_this, within_that, turned_extends, seen_after}
 use Rattle.front_lock.proofs.lock.FrontLock.join.Goals as goal
 
@@ -48,3 +49,9 @@ returns-clause-that g c =
     let this = turned_extends g.T.Grows.entries g.T.Grows.tie c.args.pass c.draw-ticket.result _ _ _ _ is c.draw-ticket.ensures.drawn c.await_turn-value.ensures.goes_on in
     let seen = seen_after g.T.Grows.entries g.T.Grows.tie c.args.pass c.args.other c.draw-ticket.result c.await_turn-value.result _ _ _ joined c.put_down.ensures.back c.into_badge.ensures.2 in
     subst (Extends (names_of c.args.other) c.args.other.seen) seen (within_that (names_of c.args.pass) (names_of c.args.other) c.args.pass.seen c.args.other.seen (g.T.Grows.entries c.await_turn-value.result) this learned.0)
+
+pub returns-clause-mine : goal.returns-clause-mine
+returns-clause-mine g c = λ n here. places_kept n (names_of c.args.pass) c.args.pass.seen _ here (returns-clause-this g c)
+
+pub returns-clause-theirs : goal.returns-clause-theirs
+returns-clause-theirs g c = λ n here. places_kept n (names_of c.args.other) c.args.other.seen _ here (returns-clause-that g c)

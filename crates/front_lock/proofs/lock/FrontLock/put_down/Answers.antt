@@ -1,6 +1,6 @@
 use Rattle.std.proofs.Common.{rules, ◌≡◌, ℕ, ◌<◌, ◌∷◌, Some, sym, ap, ◌∙◌, subst}
 use Rattle.atomic_table.specs.Table.{rest}
-use Rattle.front_lock.specs.Histories.{Extends}
+use Rattle.front_lock.specs.Histories.{Extends, Distinct}
 use Rattle.front_lock.specs.Passes.{names}
 use Rattle.front_lock.proofs.Keeps.{puts_back_as}
 use Rattle.front_lock.proofs.lock.FrontLock.put_down.Goals as goal
@@ -15,3 +15,6 @@ store-requires g c = let a = c.exchange.ensures.3 in let h = c.requires.held in 
 pub returns-clause-learned : goal.returns-clause-learned
 returns-clause-learned g c = let a = c.exchange.ensures.3 in
     λ fresh ns also e. subst (λ m. Extends ns also (g.T.Grows.entries c.args.value) × Extends (names m.0) m.0.seen (g.T.Grows.entries c.args.value)) a (c.store.ensures.2.1 c.args.ticket fresh (g.T.Grows.entries c.args.value) ns also (ap (λ m. m.0.stage) a ∙ e))
+
+pub returns-clause-distinct : goal.returns-clause-distinct
+returns-clause-distinct g c = subst (λ m. Distinct (names m.0)) c.exchange.ensures.3 c.store.ensures.2.3
