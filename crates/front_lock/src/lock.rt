@@ -329,12 +329,7 @@ impl<T: Grows> FrontLock<T> {
         ensures tie { T.tie result ≡ pass.tie }
     {
         let FrontLock { table } = self;
-        let Pass {
-            badge,
-            number: _,
-            spare: _,
-            seen: _,
-        } = pass;
+        let Pass { badge, .. } = pass;
         let mut closed = table.close_with(badge.into_seat());
         let value = closed.take(VALUE).unwrap();
         closed.free();
