@@ -1,10 +1,11 @@
 -- Entries with owners, and the names of passes.
-use Rattle.std.proofs.Common.{◌≡◌, ◌≢◌, ◌⊎◌, ℕ, zero, suc, ◌+◌, ◌-◌, Bool, true, false, if◌then◌else◌, eqb, eq-eqb, ne_eqb, ◌<◌, ◌≤◌, List, [], ◌∷◌, ◌++◌, length, refl, sym, ap, ◌∙◌, subst, inl, inr, ⊎_elim, append_assoc, arith}
+use Rattle.std.proofs.Common.{◌≡◌, ◌≢◌, ◌⊎◌, ℕ, ◌+◌, ◌-◌, Bool, true, false, if◌then◌else◌, eqb, ltb, eq-eqb, ne_eqb, ◌≤◌, List, [], ◌∷◌, ◌++◌, length, refl, sym, ap, ◌∙◌, subst, inl, inr, ⊎_elim, append_assoc, arith}
 use Rattle.std.proofs.lemmas.List.{append-nil, length-append}
 use Rattle.std.specs.List.{range_with_len}
 use Rattle.std.specs.Prelude.{Option, Some, None}
 use Rattle.front_lock.specs.Histories.{In, Distinct, Owners, Extends, GrownBy, places, places_from, numbers, AllEnded, AllPlaced}
-use Rattle.front_lock.specs.Passes.{names_with, ended}
+use Rattle.front_lock.specs.Passes.{names_with, ended, longer}
+use Rattle.std.proofs.lemmas.Bool.{ltb-true, ltb-false}
 use Rattle.front_lock.specs.declared.rule.Joined.{Joined}
 
 pub in_left : (n : ℕ) (xs ys : List ℕ) → In n xs → In n (xs ++ ys)
@@ -150,3 +151,41 @@ module _ {E : Type 0} where
   pub all_placed : (js : List (Joined E)) (log : List (ℕ × E)) → AllEnded js log → AllPlaced js log
   all_placed [] log a = tt
   all_placed (j ∷ js) log a = (places_kept j.number (j.number ∷ []) j.seen log (inl refl) a.0, all_placed js log a.1)
+
+  -- of two passes, the longer beginning, with no later entry of either
+  pub both_extend : (ns ms : List ℕ) (xs ys log : List (ℕ × E)) → Extends ns xs log → Extends ms ys log → Extends (ns ++ ms) (longer xs ys) log
+  both_extend ns ms xs ys log a b = go (ltb (length xs) (length ys)) refl
+    where
+      neither : (n : ℕ) → (¬ In n ns) × (¬ In n ms) → ¬ In n (ns ++ ms)
+      neither n h p = ⊎_elim h.0 h.1 (in_either n ns ms p)
+
+      go : (c : Bool) → ltb (length xs) (length ys) ≡ c → Extends (ns ++ ms) (if c then ys else xs) log
+      go true is = let less = ltb-true (length xs) (length ys) is in let d = between xs ys a.rest b.rest (sym a.is ∙ b.is) (omega arith) in record {
+        rest = b.rest;
+        is = b.is;
+        foreign = owners_map (λ n. (¬ In n ns) × (¬ In n ms)) (λ n. ¬ In n (ns ++ ms)) b.rest neither (owners_both (λ n. ¬ In n ns) (λ n. ¬ In n ms) b.rest (owners_right (λ n. ¬ In n ns) d.0 b.rest (subst (Owners (λ n. ¬ In n ns)) d.2 a.foreign)) b.foreign);
+      }
+      go false is = let more = ltb-false (length xs) (length ys) is in let d = between ys xs b.rest a.rest (sym b.is ∙ a.is) (omega arith) in record {
+        rest = a.rest;
+        is = a.is;
+        foreign = owners_map (λ n. (¬ In n ns) × (¬ In n ms)) (λ n. ¬ In n (ns ++ ms)) a.rest neither (owners_both (λ n. ¬ In n ns) (λ n. ¬ In n ms) a.rest a.foreign (owners_right (λ n. ¬ In n ms) d.0 a.rest (subst (Owners (λ n. ¬ In n ms)) d.2 b.foreign)));
+      }
+
+  pub within_this : (ns : List ℕ) (ms : List ℕ) (xs ys log : List (ℕ × E)) → Extends ns xs log → Extends ms ys log → Extends ns xs (longer xs ys)
+  within_this ns ms xs ys log a b = go (ltb (length xs) (length ys)) refl
+    where
+      go : (c : Bool) → ltb (length xs) (length ys) ≡ c → Extends ns xs (if c then ys else xs)
+      go true is = let less = ltb-true (length xs) (length ys) is in let d = between xs ys a.rest b.rest (sym a.is ∙ b.is) (omega arith) in
+          record { rest = d.0; is = d.1; foreign = owners_left (λ n. ¬ In n ns) d.0 b.rest (subst (Owners (λ n. ¬ In n ns)) d.2 a.foreign) }
+      go false is = extends_all ns xs
+
+  pub within_that : (ns : List ℕ) (ms : List ℕ) (xs ys log : List (ℕ × E)) → Extends ns xs log → Extends ms ys log → Extends ms ys (longer xs ys)
+  within_that ns ms xs ys log a b = go (ltb (length xs) (length ys)) refl
+    where
+      go : (c : Bool) → ltb (length xs) (length ys) ≡ c → Extends ms ys (if c then ys else xs)
+      go true is = extends_all ms ys
+      go false is = let more = ltb-false (length xs) (length ys) is in let d = between ys xs b.rest a.rest (sym b.is ∙ a.is) (omega arith) in
+          record { rest = d.0; is = d.1; foreign = owners_left (λ n. ¬ In n ms) d.0 a.rest (subst (Owners (λ n. ¬ In n ms)) d.2 b.foreign) }
+
+  pub unnamed_seen : (P : ℕ → Type 0) (ns : List ℕ) (seen log : List (ℕ × E)) → Extends ns seen log → Owners P log → Owners P seen
+  unnamed_seen P ns seen log e o = owners_left P seen e.rest (subst (Owners P) e.is o)

@@ -2,10 +2,9 @@
 use Rattle.std.proofs.Common.{◌≡◌, ℕ, ◌<◌, true, List, [], ◌∷◌, refl, sym, ap, ◌∙◌, subst}
 use Rattle.std.specs.Prelude.{Option, Some, None, IsSome}
 use Rattle.atomic_table.specs.Table.{Me, rest}
-use Rattle.atomic_table.specs.Seated.{TableId}
 use Rattle.front_lock.specs.Histories.{In, Extends, Owners}
 use Rattle.front_lock.specs.declared.rule.FrontView.{FrontView}
-use Rattle.front_lock.specs.declared.rule.Stage.TheVariants.{Waits, Holds}
+use Rattle.front_lock.specs.declared.rule.Stage.TheVariants.{Holds}
 use Rattle.front_lock.specs.Passes.{at_stage, names}
 
 module _ {T : Type 0} where

@@ -6,7 +6,9 @@ use crate::tests::passes::noted;
 use crate::{FrontLock, Pass};
 use std::sync::Wait;
 use std::test::Fail;
+use std::thread;
 use std::thread::join;
+use std::time::{Clock, Duration};
 
 const ROUNDS: u64 = 500;
 
@@ -58,5 +60,37 @@ fn two_threads_append(rt: HostRuntime) -> Result<(), Fail> {
         }
     }
     assert_eq!(rt; next, (ROUNDS, ROUNDS));
+    Ok(())
+}
+
+// Keeps a turn for a while.
+fn stay<R: Wait + Clock>(rt: &R, lock: &FrontLock<Notes>, pass: Pass<u64>) -> Pass<u64>
+    requires { pass.lock ≡ lock.now }
+{
+    let inner = lock.enter(rt, pass);
+    thread::sleep(rt, Duration::from_millis(50));
+    lock.leave(inner)
+}
+
+#[test]
+fn wakes_a_pass_that_sleeps(rt: HostRuntime) -> Result<(), Fail> {
+    let Ok((lock, pass)) = FrontLock::new(rt.alloc(), Notes::new(rt.alloc())) else {
+        return Err("out of memory".into());
+    };
+    let (one, other) = match lock.split(&rt, pass) {
+        Ok(passes) => passes,
+        Err(_) => panic!(rt; "63 passes can be split off"),
+    };
+    let (host, lent) = (&rt, &lock);
+    let (one, other) = join(
+        host,
+        move || -> Pass<u64>
+            requires { one.lock ≡ lent.now }
+        { stay(host, lent, one) },
+        move || -> Pass<u64>
+            requires { other.lock ≡ lent.now }
+        { stay(host, lent, other) },
+    );
+    assert_eq!(rt; (one.seen(), other.seen()), (0, 0));
     Ok(())
 }

@@ -1,6 +1,5 @@
-use Rattle.std.proofs.Common.{ℕ, ◌<◌, ◌≡◌, Some, rules, arith, sym, ap, ◌∙◌, subst}
-use Rattle.front_lock.specs.Histories.{Owners}
-use Rattle.front_lock.proofs.Keeps.{takes_turn}
+use Rattle.std.proofs.Common.{◌<◌, Some, rules, sym, ap, ◌∙◌, subst}
+use Rattle.front_lock.proofs.Tickets.{takes_turn}
 use Rattle.front_lock.proofs.Slots.{top_is, one_top, some_is, taken}
 use Rattle.front_lock.proofs.lock.FrontLock.await_turn.Goals as goal
 

@@ -1,7 +1,6 @@
-use Rattle.std.proofs.Common.{rules, sym, ap, ◌∙◌, subst}
 use Rattle.front_lock.specs.Passes.{names_of}
 use Rattle.front_lock.proofs.Histories.{places_kept, all_placed}
-use Rattle.front_lock.proofs.Keeps.{idle_is, closes_as, closed_value, closed_some}
+use Rattle.front_lock.proofs.Turns.{idle_is, closes_as, closed_value, closed_some}
 use Rattle.front_lock.proofs.lock.FrontLock.close.Goals as goal
 
 pub unwrap-value-requires : goal.unwrap-value-requires

@@ -1,7 +1,6 @@
-use Rattle.std.proofs.Common.{rules}
 use Rattle.front_lock.specs.Passes.{names_of}
 use Rattle.front_lock.proofs.Histories.{places_kept}
-use Rattle.front_lock.proofs.Keeps.{idle_is, turned_extends}
+use Rattle.front_lock.proofs.Turns.{idle_is, turned_extends}
 use Rattle.front_lock.proofs.lock.FrontLock.enter.Goals as goal
 
 pub returns-clause-mine : goal.returns-clause-mine

@@ -1,8 +1,9 @@
-use Rattle.std.proofs.Common.{rules, arith, ℕ, ◌<◌, ◌≡◌, Some, true, false, [], sym, ap, ◌∙◌, subst, refl, inl}
-use Rattle.front_lock.specs.Histories.{In, Extends}
+use Rattle.std.proofs.Common.{rules, arith, ◌<◌, ◌≡◌, Some, true, sym, ap, subst, refl}
+use Rattle.front_lock.specs.Histories.{Extends}
 use Rattle.front_lock.specs.Passes.{names_of}
 use Rattle.front_lock.proofs.Histories.{places_kept}
-use Rattle.front_lock.proofs.Keeps.{idle_is, turned_is, joins_as, joined_is, within_this, within_that, turned_extends, seen_after}
+use Rattle.front_lock.proofs.Turns.{idle_is, turned_is, joins_as, joined_is, turned_extends, seen_after}
+use Rattle.front_lock.proofs.Histories.{within_this, within_that}
 use Rattle.front_lock.proofs.lock.FrontLock.join.Goals as goal
 
 pub join_seat-requires : goal.join_seat-requires

@@ -1,9 +1,9 @@
-use Rattle.std.proofs.Common.{rules, ◌≡◌, List, [], ◌∷◌, Some, sym, ap, ◌∙◌, subst}
+use Rattle.std.proofs.Common.{◌≡◌, [], ◌∷◌, Some, sym, subst}
 use Rattle.atomic_table.specs.Table.{opening}
 use Rattle.front_lock.specs.Passes.{known}
 use Rattle.front_lock.specs.Rule.{Kept}
 use Rattle.front_lock.specs.declared.rule.Stage.TheVariants.{Idle}
-use Rattle.front_lock.proofs.Keeps.{begins}
+use Rattle.front_lock.proofs.Ends.{begins}
 use Rattle.front_lock.proofs.lock.FrontLock.new.Goals as goal
 
 pub new-requires : goal.new-requires

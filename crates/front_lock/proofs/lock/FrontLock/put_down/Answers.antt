@@ -1,8 +1,8 @@
-use Rattle.std.proofs.Common.{rules, ◌≡◌, ℕ, ◌<◌, ◌∷◌, Some, sym, ap, ◌∙◌, subst}
+use Rattle.std.proofs.Common.{rules, ◌≡◌, ◌<◌, ◌∷◌, Some, sym, ap, ◌∙◌, subst}
 use Rattle.atomic_table.specs.Table.{rest}
 use Rattle.front_lock.specs.Histories.{Extends, Distinct}
 use Rattle.front_lock.specs.Passes.{names}
-use Rattle.front_lock.proofs.Keeps.{puts_back_as}
+use Rattle.front_lock.proofs.Turns.{puts_back_as}
 use Rattle.front_lock.proofs.lock.FrontLock.put_down.Goals as goal
 
 pub store-requires : goal.store-requires

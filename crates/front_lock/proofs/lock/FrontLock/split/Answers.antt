@@ -1,7 +1,8 @@
-use Rattle.std.proofs.Common.{rules, arith, ℕ, ◌<◌, ◌≡◌, Some, ◌≢◌, true, false, [], ◌∷◌, sym, ap, ◌∙◌, subst, refl, inl}
-use Rattle.front_lock.specs.Histories.{In, Extends, Owners}
+use Rattle.std.proofs.Common.{rules, arith, ℕ, ◌<◌, ◌≡◌, Some, false, [], ◌∷◌, sym, ap, ◌∙◌, subst, refl}
+use Rattle.front_lock.specs.Histories.{In, Owners}
 use Rattle.front_lock.specs.Passes.{names, names_of, number_in, first_of}
-use Rattle.front_lock.proofs.Keeps.{idle_is, turned_is, splits_as, left_is, right_is, unnamed_seen, turned_extends}
+use Rattle.front_lock.proofs.Turns.{idle_is, turned_is, splits_as, left_is, right_is, turned_extends}
+use Rattle.front_lock.proofs.Histories.{unnamed_seen}
 use Rattle.front_lock.proofs.lock.FrontLock.split.Goals as goal
 
 pub split_seat-other-requires : goal.split_seat-other-requires
