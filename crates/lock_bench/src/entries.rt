@@ -70,8 +70,6 @@ pub fn append_by<R: Threads + Wait + Sync>(
     match FrontLock::new(alloc, Notes::new(alloc)) {
         Ok((lock, pass)) => {
             let pass = append_by_passes(rt, &lock, pass, passes, count);
-            let seen = lock.enter(rt, pass);
-            let pass = lock.leave(seen);
             let appended = pass.seen();
             drop(lock.close(pass));
             Ok(appended)
