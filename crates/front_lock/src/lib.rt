@@ -5,6 +5,7 @@
 //! that one can close the lock, and every entry is known to be of this pass or of one that was joined into it.
 #![tactic(auto)]
 
+mod bells;
 mod grows;
 mod lock;
 mod lock_fault;

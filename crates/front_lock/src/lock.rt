@@ -5,6 +5,7 @@ ghost use Rattle.front_lock.specs.Histories.{In, Distinct, Extends, Owners, Grow
 ghost use Rattle.front_lock.specs.Passes.{at_stage, names, names_of, ended_of, longer};
 ghost use Rattle.front_lock.specs.declared.rule.Stage.TheVariants.{Idle, Waits, Holds};
 
+use crate::bells::Bells;
 use crate::grows::Grows;
 use crate::lock_fault::LockFault;
 use crate::pass::Pass;
@@ -15,6 +16,7 @@ use crate::turn::{Inner, Place, Turn};
 use atomic_table::{Refused, Table};
 use prop_map::OutOfMemory;
 use std::alloc::{AllocError, Global};
+use std::hint::spin_loop;
 use std::marker::Model;
 use std::snapshot::Snapshot;
 use std::sync::Wait;
@@ -29,13 +31,14 @@ const SERVING: usize = 1;
 // The slot of the value.
 const VALUE: usize = 0;
 
-// How often a pass that waits gives up its processor before it sleeps.
-const YIELDS: u32 = 64;
+// How often a pass that waits looks again before it sleeps.
+const LOOKS: u32 = 200;
 
 /// A lock round a value. To a contract it is the name of its table. A lock that is dropped drops its value.
 #[derive(Drop)]
 pub struct FrontLock<T: Grows> {
     table: Table<Option<T>, FrontView<T::Entry>, Snapshot<T>, OneHistory<T>, Global>,
+    bells: Bells,
 }
 
 impl<T: Grows> Model for FrontLock<T> {
@@ -88,28 +91,26 @@ impl<T: Grows> FrontLock<T> {
             if serving == ticket {
                 return self.table.shared.exchange(seat, VALUE, None).unwrap();
             }
-            self.rest(rt, serving);
+            self.rest(rt, ticket);
         }
         unreachable!()
     }
 
-    // Lets other threads run while this ticket is served: yields for a while, and then sleeps until the next one is.
-    fn rest<R: Wait>(&self, rt: &R, serving: u64) {
-        for _ in 0..YIELDS {
-            if self.table.shared.peek(SERVING) != serving {
+    // Waits for a moment, and then sleeps until the ticket's bell rings. It may return before the ticket is served.
+    fn rest<R: Wait>(&self, rt: &R, ticket: u64) {
+        for _ in 0..LOOKS {
+            if self.table.shared.peek(SERVING) == ticket {
                 return;
             }
-            thread::yield_now();
+            spin_loop();
         }
-        self.table
-            .shared
-            .park(rt, SERVING, (serving % 4_294_967_296) as u32);
+        self.bells.sleep(rt, ticket);
     }
 
-    // Wakes those who sleep, if a pass has drawn this ticket, which is served now.
-    fn call_next(&self, served: u64) {
-        if self.table.shared.peek(NEXT) > served {
-            self.table.shared.wake_all(SERVING);
+    // Wakes the pass that has drawn this ticket, which is served now, if there is one.
+    fn call_next(&self, ticket: u64) {
+        if self.table.shared.peek(NEXT) > ticket {
+            self.bells.ring(ticket);
         }
     }
 
@@ -205,6 +206,21 @@ impl<T: Grows> FrontLock<T> {
         ensures ok { IfOk result (λ r. r.1 ≡ record { lock = r.0; number = 0; joined = []; seen = []; spare = 63; tie = T.tie value }) }
         ensures err { IfErr result (λ e. e.0 ≡ value) }
     {
+        match Bells::new(alloc) {
+            Ok(bells) => FrontLock::with_bells(alloc, bells, value),
+            Err(fault) => Err((value, fault)),
+        }
+    }
+
+    fn with_bells(
+        alloc: Global,
+        bells: Bells,
+        value: T,
+    ) -> Result<(FrontLock<T>, Pass<T::Entry>), (T, OutOfMemory)>
+        requires { T.entries value ≡ [] }
+        ensures ok { IfOk result (λ r. r.1 ≡ record { lock = r.0; number = 0; joined = []; seen = []; spare = 63; tie = T.tie value }) }
+        ensures err { IfErr result (λ e. e.0 ≡ value) }
+    {
         let mut slots = Vec::new(alloc);
         if slots.reserve(1).is_err() {
             slots.destroy_empty();
@@ -220,7 +236,7 @@ impl<T: Grows> FrontLock<T> {
                     spare: 63,
                     seen: 0,
                 };
-                Ok((FrontLock { table }, pass))
+                Ok((FrontLock { table, bells }, pass))
             }
             Err(refused) => Err((only(refused), AllocError)),
         }
@@ -328,7 +344,8 @@ impl<T: Grows> FrontLock<T> {
         ensures owned { Owners (λ n. In n (names_of pass)) (T.entries result) }
         ensures tie { T.tie result ≡ pass.tie }
     {
-        let FrontLock { table } = self;
+        let FrontLock { table, bells } = self;
+        drop(bells);
         let Pass { badge, .. } = pass;
         let mut closed = table.close_with(badge.into_seat());
         let value = closed.take(VALUE).unwrap();

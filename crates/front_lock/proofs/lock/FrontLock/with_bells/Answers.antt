@@ -4,7 +4,7 @@ use Rattle.front_lock.specs.Passes.{known}
 use Rattle.front_lock.specs.Rule.{Kept}
 use Rattle.front_lock.specs.declared.rule.Stage.TheVariants.{Idle}
 use Rattle.front_lock.proofs.Ends.{begins}
-use Rattle.front_lock.proofs.lock.FrontLock.new.Goals as goal
+use Rattle.front_lock.proofs.lock.FrontLock.with_bells.Goals as goal
 
 pub new-requires : goal.new-requires
 new-requires g c =
