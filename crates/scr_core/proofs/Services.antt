@@ -31,10 +31,10 @@ use Rattle.scr_core.proofs.Components.{numbered_after}
 use Rattle.scr_core.proofs.Currents.{period_open, open_period, current_open, open_current, period_before, was_current}
 use Rattle.scr_core.proofs.ListLemmas.{in_none, in_cases, in_first, in_rest, any_to, in_filter_from, in_map_from, has_from, apart, apart_filter, apart_append, apart_same}
 
-abbrev number_of : Component → ℕ
+abbrev pub number_of : Component → ℕ
 number_of c = c.number
 
-numbers_apart : (cs : List Component) → are_numbered cs ≡ apart number_of cs
+pub numbers_apart : (cs : List Component) → are_numbered cs ≡ apart number_of cs
 numbers_apart [] = refl
 numbers_apart (c ∷ cs) = ap (λ b. not (has (map number_of cs) c.number) && b) (numbers_apart cs)
 
