@@ -214,7 +214,7 @@ module _ (limit : ℕ) (entry : Entry Step) (past : History) (follows : Follows 
       ap (is_open w.open_ones) (sym found.2) ∙ not-true (is_open w.open_ones found.0.number) last
 
   -- its service is new
-  newly : (o : Opened) → Contains entry.opened o → (o.service ≡ 0) ⊎ ((w.services + 1 ≤ o.service) × (o.service ≤ then.services))
+  pub newly : (o : Opened) → Contains entry.opened o → (o.service ≡ 0) ⊎ ((w.services + 1 ≤ o.service) × (o.service ≤ then.services))
   newly o h = elim (opened_counted (w.services + 1) openings (omega arith) o (opens o h)) [
     | inl none ↦ inl none
     | inr numbered ↦ (
