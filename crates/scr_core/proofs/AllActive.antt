@@ -19,6 +19,7 @@ use Rattle.callback_orders.specs.References.{is_held, is_desired, holds_all, des
 use Rattle.component_dto.specs.declared.description.Reference.{Reference}
 use Rattle.component_dto.specs.TextLists.{has_text}
 use Rattle.component_dto.proofs.TextListLemmas.{list_any-map}
+use Rattle.level_order.specs.Levels.{provides}
 use Rattle.component_state.specs.declared.component.Component.{Component}
 use Rattle.component_state.specs.declared.open_period.OpenPeriod.{OpenPeriod}
 use Rattle.component_state.specs.Components.{top}
@@ -33,7 +34,7 @@ use Rattle.scr_core.specs.Instances.{is_active, is_in_active_phase}
 use Rattle.scr_core.specs.Levels.{levels_of}
 use Rattle.scr_core.specs.Views.{desired_for, desires, has_instance, is_ending, is_immediate, is_ready, is_wanted, key_of, reference_view, references_of, view_of, views_of}
 use Rattle.scr_core.specs.Worlds.{World}
-use Rattle.scr_core.proofs.Choices.{placed, target_period, its_interfaces}
+use Rattle.scr_core.proofs.Choices.{placed, target_period, period_interfaces, same_offer}
 use Rattle.scr_core.proofs.Holdings.{viewed, desires_choice, desires_among}
 use Rattle.scr_core.proofs.Leavings.{is_in_left_phase, phase_left}
 use Rattle.scr_core.proofs.ListLemmas.{in_none, in_cases, in_first, in_rest, any_from, any_to, all_to, all_from, in_filter, in_map, in_map_from, find_to, has_to, has_in}
@@ -65,6 +66,27 @@ held_if true false x none ready = cc
 held_if false c x none ready = cc
 
 module _ (limit : ℕ) (w : World) (rest : IsAtRest limit w) where
+  -- whose service is desired has an instance
+  desired_there : (p : OpenPeriod) → Contains w.open_ones p → list_any (desires p.service) (views_of w) ≡ true → (x : Instance) × Contains w.instances x × (x.life.configuration ≡ p.configuration)
+  desired_there p in_p wish =
+      let found = has_to (λ (x : Component). x.number) w.components p.configuration (rest.sound.periods p in_p).known in
+      let c = found.0 in
+      let is_one = any_from (λ (q : OpenPeriod). (q.configuration == c.number) && (is_immediate c || list_any (desires q.service) (views_of w))) w.open_ones p in_p
+      (and_from (p.configuration == c.number) (is_immediate c || list_any (desires p.service) (views_of w)) (eq-eqb p.configuration c.number (sym found.2)) (or_right (is_immediate c) (list_any (desires p.service) (views_of w)) wish)) in
+      let key_there = in_map key_of (filter (is_wanted w.open_ones (views_of w)) w.components) c (in_filter (is_wanted w.open_ones (views_of w)) w.components c found.1 is_one) in
+      let instance = any_to (λ (x : Instance). (x.life.configuration == c.number) && (x.consumer == 0)) w.instances (wanted_there limit w rest (key_of c) key_there) in
+      let x = instance.0 in
+      (x, instance.1, eqb-true x.life.configuration c.number (and_parts (x.life.configuration == c.number) (x.consumer == 0) instance.2).0 ∙ found.2)
+
+  -- the instance has the service of the open period, and its description the interfaces
+  same_service : (x : Instance) → Contains w.instances x → (p : OpenPeriod) → Contains w.open_ones p → x.life.configuration ≡ p.configuration → x.service ≡ p.service
+  same_service x in_x p in_p is = sym (rest.settled.services.one_service x.service x.life.configuration (by_instance x in_x refl refl) p in_p (sym is))
+
+  offers_it : (x : Instance) (its : IsOf w x) (p : OpenPeriod) → Contains w.open_ones p → x.life.configuration ≡ p.configuration → (interface : List ℕ) → has_text p.interfaces interface ≡ true
+      → provides its.its.description interface ≡ true
+  offers_it x its p in_p is interface offered =
+      same_offer its.its.description.service_interfaces p.interfaces interface (sym (period_interfaces w limit rest.sound p in_p its.its its.known (sym (its.number ∙ is)))) offered
+
   -- what a reference chose is one service, a target, which is desired
   record Wants (i : Instance) (r : ℕ × Reference) : Type 0 where
     service : ℕ
@@ -98,36 +120,26 @@ module _ (limit : ℕ) (w : World) (rest : IsAtRest limit w) where
       gives : one.service ≡ s
       lower : height w (of_one limit w rest one there).its < height w (of_one limit w rest i h).its
 
+    wished : (want : Wants i r) → list_any (desires want.service) (views_of w) ≡ true
+    wished want =
+        let reference_there = in_map (reference_view w i) (with_places 0 (references_of w.components i.life.configuration)) r in_r in
+        any_from (desires want.service) (views_of w) (view_of w i) (in_map (view_of w) w.instances i h)
+        (any_from (λ (v : ReferenceView). is_desired v want.service) (view_of w i).references (reference_view w i r) reference_there (is_wish want))
+
     provider : (want : Wants i r) → Provider want.service
     provider want =
-        let s = want.service in
-        let period = target_period r.1 w.open_ones s want.target in
+        let period = target_period r.1 w.open_ones want.service want.target in
         let p = period.0 in
-        let its = rest.sound.periods p period.1 in
-        let found = has_to (λ (x : Component). x.number) w.components p.configuration its.known in
-        let c = found.0 in
-        let view_there = in_map (view_of w) w.instances i h in
-        let reference_there = in_map (reference_view w i) (with_places 0 (references_of w.components i.life.configuration)) r in_r in
-        let wish = any_from (λ (v : ReferenceView). is_desired v s) (view_of w i).references (reference_view w i r) reference_there (is_wish want) in
-        let desired_here = any_from (desires s) (views_of w) (view_of w i) view_there wish in
-        let desired_there : list_any (desires p.service) (views_of w) ≡ true = ap (λ n. list_any (desires n) (views_of w)) period.3 ∙ desired_here in
-        let is_one = any_from (λ (q : OpenPeriod). (q.configuration == c.number) && (is_immediate c || list_any (desires q.service) (views_of w))) w.open_ones p period.1
-        (and_from (p.configuration == c.number) (is_immediate c || list_any (desires p.service) (views_of w)) (eq-eqb p.configuration c.number (sym found.2)) (or_right (is_immediate c) (list_any (desires p.service) (views_of w)) desired_there)) in
-        let key_there = in_map key_of (filter (is_wanted w.open_ones (views_of w)) w.components) c (in_filter (is_wanted w.open_ones (views_of w)) w.components c found.1 is_one) in
-        let instance = any_to (λ (x : Instance). (x.life.configuration == c.number) && (x.consumer == 0)) w.instances (wanted_there limit w rest (key_of c) key_there) in
-        let x = instance.0 in
-        let of_c : x.life.configuration ≡ c.number = eqb-true x.life.configuration c.number (and_parts (x.life.configuration == c.number) (x.consumer == 0) instance.2).0 in
-        let same_service : p.service ≡ x.service = rest.settled.services.one_service x.service x.life.configuration (by_instance x instance.1 refl refl) p period.1 (sym (of_c ∙ found.2)) in
+        let wishes : list_any (desires p.service) (views_of w) ≡ true = ap (λ n. list_any (desires n) (views_of w)) period.3 ∙ wished want in
+        let one = desired_there p period.1 wishes in
         let mine = of_one limit w rest i h in
-        let theirs = of_one limit w rest x instance.1 in
-        let interfaces = its_interfaces w limit rest.sound theirs.its theirs.known p.configuration (theirs.number ∙ of_c ∙ found.2) in
-        let provided = ap (λ ns. has_text ns r.1.interface_name) (sym interfaces) ∙ ap (λ ns. has_text ns r.1.interface_name) (sym its.interfaces) ∙ period.2 in
+        let theirs = of_one limit w rest one.0 one.1 in
         let its_reference = subst (λ (rs : List Reference). Contains rs r.1) (same_references limit w rest i mine) (placed 0 (references_of w.components i.life.configuration) r in_r) in
         record {
-          one = x;
-          there = instance.1;
-          gives = sym same_service ∙ period.3;
-          lower = provider_lower limit w rest theirs.its mine.its theirs.known mine.known r.1 its_reference provided;
+          one = one.0;
+          there = one.1;
+          gives = same_service one.0 one.1 p period.1 one.2 ∙ period.3;
+          lower = provider_lower limit w rest theirs.its mine.its theirs.known mine.known r.1 its_reference (offers_it one.0 theirs p period.1 one.2 r.1.interface_name period.2);
         }
 
     -- where those of lower levels are active, what is to be bound is nothing only where the one service is held

@@ -106,6 +106,10 @@ first_of : (xs : List ℕ) (x : ℕ) → Contains xs x → (s : ℕ) × (take 1 
 first_of [] x h = absurd (in_none x h)
 first_of (y ∷ ys) x h = (y, refl)
 
+-- a list of one
+pub same_one : (these those : List ℕ) → these ≡ those → (s : ℕ) × (those ≡ s ∷ []) → (s : ℕ) × (these ≡ s ∷ [])
+same_one these those same (s, one) = (s, same ∙ one)
+
 -- where there is a target, one is chosen
 chosen_one : (r : Reference) (os : List OpenPeriod) (p : OpenPeriod) → IsPlain r → Contains os p → offers r.interface_name p ≡ true → (s : ℕ) × (chosen r (targets r os) ≡ s ∷ [])
 chosen_one r os p plain h offered =
@@ -119,6 +123,10 @@ target_period r os s here =
     let found = has_to (λ (p : OpenPeriod). p.service) (filter (offers r.interface_name) os) s here in
     let kept = in_filter_from (offers r.interface_name) os found.0 found.1 in
     (found.0, kept.0, kept.1, found.2)
+
+-- the same interfaces offer the same
+pub same_offer : (these those : List (List ℕ)) (interface : List ℕ) → these ≡ those → has_text those interface ≡ true → has_text these interface ≡ true
+same_offer these those interface same offered = ap (λ interfaces. has_text interfaces interface) same ∙ offered
 
 -- ---- an open component configuration has targets
 
@@ -155,6 +163,11 @@ its_references w limit sound c h n is = ap (λ o. option_map_or (λ (x : Compone
 pub its_interfaces : (w : World) (limit : ℕ) → IsSound limit w → (c : Component) → Contains w.components c → (n : ℕ) → c.number ≡ n → interfaces_of w.components n ≡ c.description.service_interfaces
 its_interfaces w limit sound c h n is = ap (λ o. option_map_or (λ (x : Component). x.description.service_interfaces) o []) (found_by_number w.components sound.numbered c h n is)
 
+-- an open period has the interfaces of its component configuration
+pub period_interfaces : (w : World) (limit : ℕ) → IsSound limit w → (p : OpenPeriod) → Contains w.open_ones p → (c : Component) → Contains w.components c → p.configuration ≡ c.number
+    → p.interfaces ≡ c.description.service_interfaces
+period_interfaces w limit sound p in_p c in_c is = (sound.periods p in_p).interfaces ∙ its_interfaces w limit sound c in_c p.configuration (sym is)
+
 module _ (limit : ℕ) (w : World) (sound : IsSound limit w) where
   abbrev out : List ℕ
   out = held_back w.failed w.open_ones (lives_of w.instances)
@@ -185,8 +198,8 @@ module _ (limit : ℕ) (w : World) (sound : IsSound limit w) where
             let of_last = below_more ds (levels_of ds) (living w.components) out when.0 last when.1 one.0 free.0 in
             let open_one = sound.scratch one.0.number ∙ and_from (has (numbers_of (below last)) one.0.number) (not (has out one.0.number)) (has_from number_of (below last) one.0 one.0.number of_last refl) free.1 in
             let period = open_period w.open_ones one.0.number open_one in
-            let interfaces = (sound.periods period.0 period.1).interfaces ∙ its_interfaces w limit sound one.0 (in_world last one.0 of_last) period.0.configuration (sym period.2) in
-            (period.0, period.1, ap (λ ns. has_text ns r.interface_name) interfaces ∙ one.2))
+            let interfaces = period_interfaces w limit sound period.0 period.1 one.0 (in_world last one.0 of_last) period.2 in
+            (period.0, period.1, same_offer period.0.interfaces one.0.description.service_interfaces r.interface_name interfaces one.2))
       ]
 
   -- a new instance chose by the targets of that time, and just one
@@ -204,8 +217,7 @@ module _ (limit : ℕ) (w : World) (sound : IsSound limit w) where
       let at : c.0.number ≡ i.life.configuration = c.2 ∙ ap (λ (l : Life). l.configuration) (sym new.life) in
       let its = placed 0 (references_of w.components i.life.configuration) r in_r in
       let target = has_target c.0 c.1 (ap (is_open w.open_ones) c.2 ∙ c.3) r.1 (subst (λ (rs : List Reference). Contains rs r.1) (its_references w limit sound c.0 c.1 i.life.configuration at) its) plain.needed in
-      let one = chosen_one r.1 w.open_ones target.0 plain target.1 target.2 in
-      (one.0, new_choice i new r in_r plain.fixed ∙ one.1)
+      same_one (choice_at i.life.chosen r.0) (chosen r.1 (targets r.1 w.open_ones)) (new_choice i new r in_r plain.fixed) (chosen_one r.1 w.open_ones target.0 plain target.1 target.2)
 
 -- ---- a choice stands as long as the period goes on
 

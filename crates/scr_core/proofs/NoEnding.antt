@@ -13,7 +13,7 @@ use Rattle.callback_orders.specs.Lives.{held_for, phase_of}
 use Rattle.component_dto.specs.declared.description.Reference.{Reference}
 use Rattle.component_dto.specs.TextLists.{has_text}
 use Rattle.component_state.specs.declared.component.Component.{Component}
-use Rattle.component_state.specs.Components.{top}
+use Rattle.component_state.specs.Components.{interfaces_of, top}
 use Rattle.component_state.specs.Periods.{is_current}
 use Rattle.component_state.specs.Reasons.{choice_at}
 use Rattle.component_state.specs.Targets.{targets}
@@ -26,7 +26,7 @@ use Rattle.scr_core.specs.Legal.{awaits_drain}
 use Rattle.scr_core.specs.Levels.{levels_of}
 use Rattle.scr_core.specs.Views.{holds, is_ending, is_held, references_of, view_of}
 use Rattle.scr_core.specs.Worlds.{World}
-use Rattle.scr_core.proofs.Choices.{place_of, target_period, its_interfaces}
+use Rattle.scr_core.proofs.Choices.{place_of, target_period, its_interfaces, same_offer}
 use Rattle.scr_core.proofs.Currents.{period_open, open_current}
 use Rattle.scr_core.proofs.Leavings.{ending_past}
 use Rattle.scr_core.proofs.ListLemmas.{any_to, all_to, in_has}
@@ -97,7 +97,8 @@ module _ (limit : ℕ) (w : World) (rest : IsAtRest limit w) where
       let its = rest.settled.services.one_component s i.life.configuration (by_instance i h refl refl) period.0 period.1 period.3 some in
       both_ways (is_current w.open_ones i.life) over (open_current limit w rest.sound i h (period_open w.open_ones period.0 i.life.configuration period.1 its)))) in
       let above = of_one limit w rest j holder.1 in
-      let provided = ap (λ ns. has_text ns reference.0.interface_name) (sym (its_interfaces w limit rest.sound one.its one.known i.life.configuration one.number)) ∙ offered in
+      let provided = same_offer one.its.description.service_interfaces (interfaces_of w.components i.life.configuration) reference.0.interface_name
+      (sym (its_interfaces w limit rest.sound one.its one.known i.life.configuration one.number)) offered in
       record {
         holder = j;
         there = holder.1;

@@ -21,7 +21,7 @@ use Rattle.scr_core.specs.Sound.{IsSound}
 use Rattle.scr_core.specs.Steps.{History}
 use Rattle.scr_core.specs.Views.{references_of}
 use Rattle.scr_core.specs.Worlds.{World, empty_world, world_of}
-use Rattle.scr_core.proofs.Choices.{plain_is, target_period, new_choice, new_one, choice_stands}
+use Rattle.scr_core.proofs.Choices.{plain_is, same_one, target_period, new_choice, new_one, choice_stands}
 use Rattle.scr_core.proofs.Comings.{WasThere, IsNew, comes_about}
 use Rattle.scr_core.proofs.Currents.{period_open}
 use Rattle.scr_core.proofs.Holdings.{HeldWereChosen, held_then}
@@ -114,9 +114,9 @@ module _ (limit : ℕ) (entry : Entry Step) (past : History) (follows : Follows 
 
   chose_then : EachChoseOne then
   chose_then i h r in_r plain = elim (comes_about limit w sound entry.step follows.step i h) [
-    | inl was ↦ (
-        let one = settled.chose was.was was.there r (subst (λ (rs : List Reference). Contains (with_places 0 rs) r) (same_references i was) in_r) plain in
-        (one.0, ap (λ (l : Life). choice_at l.chosen r.0) was.life ∙ one.1))
+    | inl was ↦
+        same_one (choice_at i.life.chosen r.0) (choice_at was.was.life.chosen r.0) (ap (λ (l : Life). choice_at l.chosen r.0) was.life)
+        (settled.chose was.was was.there r (subst (λ (rs : List Reference). Contains (with_places 0 rs) r) (same_references i was) in_r) plain)
     | inr new ↦ new_one limit w sound i new r (subst (λ (rs : List Reference). Contains (with_places 0 rs) r) (new_references i new) in_r) (plain_is r.1 plain)
   ]
 
