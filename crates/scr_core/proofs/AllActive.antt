@@ -1,21 +1,19 @@
 -- In a quiet world with plain references every instance is active and holds what it desires: it waits only for one of a lower level.
-use Rattle.std.proofs.Common.{◌≡◌, ◌<◌, ◌≤◌, ℕ, zero, suc, ◌+◌, List, [], ◌∷◌, ◌++◌, ap, sym, ◌∙◌, refl, subst, cond, arith, Bool, true, false, ◌&&◌, ◌||◌, inl, inr, ◌⊎◌, Option, Some, None}
+use Rattle.std.proofs.Common.{◌≡◌, ◌<◌, ℕ, zero, suc, ◌+◌, List, [], ◌∷◌, ◌++◌, ap, sym, ◌∙◌, refl, subst, cond, arith, Bool, true, false, ◌&&◌, ◌||◌, inl, inr, Option, Some, None}
 use Rattle.std.specs.Prelude.{map, not, filter, find, ◌==◌, option_map}
 use Rattle.std.specs.List.{Contains, enumerate_from, list_any, list_all}
 use Rattle.std.specs.Option.{option_or, option_map_or}
-use Rattle.std.proofs.lemmas.Bool.{and_parts, and_from, not-true, both_ways, cases_Bool, true_from_ne_false, cond-true, cond-false, or_left, or_right, eq-eqb, eqb-true}
+use Rattle.std.proofs.lemmas.Bool.{and_parts, and_from, both_ways, cond-false, or_left, or_right, eq-eqb, eqb-true}
 use Rattle.std.proofs.lemmas.List.Elements.{Contains-append_left}
-use Rattle.callback_orders.specs.declared.due.DueRef.{DueRef}
 use Rattle.callback_orders.specs.declared.due.DueRef.TheVariants.{Bind, Activate}
 use Rattle.callback_orders.specs.declared.instance_view.HeldService.{HeldService}
-use Rattle.callback_orders.specs.declared.instance_view.InstanceView.{InstanceView}
 use Rattle.callback_orders.specs.declared.instance_view.Phase.{Phase}
 use Rattle.callback_orders.specs.declared.instance_view.Phase.TheVariants.{Making, Active, Left}
 use Rattle.callback_orders.specs.declared.instance_view.ReferenceView.{ReferenceView}
 use Rattle.callback_orders.specs.declared.instance_view.Wish.{Wish}
-use Rattle.callback_orders.specs.Due.{first_some, bind_at, unbind_at, tell_at, bind_or_unbind, due_in_making, due_while_active, due_while_ending, due_in_phase, due_of, modified_if_stale, with_places as with_views}
+use Rattle.callback_orders.specs.Due.{bind_at, unbind_at, tell_at, bind_or_unbind, due_in_making, due_while_active, due_while_ending, due_in_phase, modified_if_stale, with_places as with_views}
 use Rattle.callback_orders.specs.Lives.{held_for, phase_of}
-use Rattle.callback_orders.specs.References.{is_held, is_desired, holds_all, desires_all, differs, to_bind, to_unbind}
+use Rattle.callback_orders.specs.References.{is_held, is_desired, holds_all, desires_all, differs, to_bind}
 use Rattle.component_dto.specs.declared.description.Reference.{Reference}
 use Rattle.component_dto.specs.TextLists.{has_text}
 use Rattle.component_dto.proofs.TextListLemmas.{list_any-map}
@@ -29,15 +27,14 @@ use Rattle.component_state.specs.Targets.{targets}
 use Rattle.component_state.specs.Words.{has, same_set, with_places}
 use Rattle.scr_core.specs.declared.instance.Instance.{Instance}
 use Rattle.scr_core.specs.Bundles.{descriptions_of}
-use Rattle.scr_core.specs.Dues.{wanted}
 use Rattle.scr_core.specs.Instances.{is_active, is_in_active_phase}
 use Rattle.scr_core.specs.Levels.{levels_of}
-use Rattle.scr_core.specs.Views.{desired_for, desires, has_instance, is_ending, is_immediate, is_ready, is_wanted, key_of, reference_view, references_of, view_of, views_of}
+use Rattle.scr_core.specs.Views.{desired_for, desires, is_immediate, is_ready, is_wanted, key_of, reference_view, references_of, view_of, views_of}
 use Rattle.scr_core.specs.Worlds.{World}
 use Rattle.scr_core.proofs.Choices.{placed, target_period, period_interfaces, same_offer}
 use Rattle.scr_core.proofs.Holdings.{viewed, desires_choice, desires_among}
 use Rattle.scr_core.proofs.Leavings.{is_in_left_phase, phase_left}
-use Rattle.scr_core.proofs.ListLemmas.{in_none, in_cases, in_first, in_rest, any_from, any_to, all_to, all_from, in_filter, in_map, in_map_from, find_to, has_to, has_in}
+use Rattle.scr_core.proofs.ListLemmas.{in_none, in_cases, in_first, in_rest, any_from, any_to, all_from, in_filter, in_map, in_map_from, find_to, has_to, has_in}
 use Rattle.scr_core.proofs.NoEnding.{goes_on_current, none_ending}
 use Rattle.scr_core.proofs.QuietFacts.{IsAtRest, IsOf, height, each_none, none_outstanding, none_due, wanted_there, of_one, same_references, names_differ, plain_test, each_plain, provider_lower, height_bound}
 use Rattle.scr_core.proofs.Services.{by_instance}

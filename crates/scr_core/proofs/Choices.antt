@@ -1,9 +1,9 @@
 -- What an instance chose for a plain reference: at its Create just one target, and as long as its period goes on that stays a target.
-use Rattle.std.proofs.Common.{◌≡◌, ◌≤◌, ◌<◌, ℕ, zero, suc, ◌+◌, List, [], ◌∷◌, ◌++◌, ap, sym, ◌∙◌, refl, subst, cond, arith, take, Bool, true, false, ◌&&◌, ◌||◌, inl, inr, ◌⊎◌, Option, Some}
-use Rattle.std.specs.Prelude.{map, not, filter, find, ◌==◌, flat_map}
+use Rattle.std.proofs.Common.{◌≡◌, ◌≤◌, ℕ, zero, suc, ◌+◌, List, [], ◌∷◌, ◌++◌, ap, sym, ◌∙◌, refl, subst, cond, arith, take, Bool, true, false, ◌&&◌, ◌||◌, inl, inr, Some}
+use Rattle.std.specs.Prelude.{not, filter, find, ◌==◌, flat_map}
 use Rattle.std.specs.List.{Contains, list_any, list_all}
 use Rattle.std.specs.Option.{option_map_or}
-use Rattle.std.proofs.lemmas.Bool.{and_parts, and_from, not-true, not_from_false, eq-eqb, ne_eqb, both_ways, cases_eq, cases_Bool, or_left, or_right, or_cases, cond-true, cond-false}
+use Rattle.std.proofs.lemmas.Bool.{and_parts, and_from, not-true, not_from_false, eq-eqb, ne_eqb, both_ways, cases_eq, cases_Bool, or_left, or_cases, cond-false}
 use Rattle.std.proofs.lemmas.List.Elements.{Contains-append_left, Contains-append_cases}
 use Rattle.component_dto.specs.declared.description.Description.{Description}
 use Rattle.component_dto.specs.declared.description.Reference.{Reference}
@@ -15,10 +15,10 @@ use Rattle.component_state.specs.declared.life.Life.{Life}
 use Rattle.component_state.specs.declared.open_period.OpenPeriod.{OpenPeriod}
 use Rattle.component_state.specs.Components.{living, of_level, numbers_of, top, interfaces_of, rank}
 use Rattle.component_state.specs.Marks.{held_back}
-use Rattle.component_state.specs.Passes.{Stage, in_order, closing, satisfied_in}
+use Rattle.component_state.specs.Passes.{Stage, in_order, satisfied_in}
 use Rattle.component_state.specs.Periods.{is_open, is_current}
 use Rattle.component_state.specs.Reasons.{choice_at, is_outdated, chose_outdated, has_reason}
-use Rattle.component_state.specs.Scratch.{meets, is_satisfied, offering, satisfied_below, satisfied}
+use Rattle.component_state.specs.Scratch.{meets, is_satisfied, offering, satisfied_below}
 use Rattle.component_state.specs.Targets.{offers, targets, is_optional, is_multiple, is_static, is_greedy, chosen}
 use Rattle.component_state.specs.Words.{has, with_places}
 use Rattle.component_state.proofs.Among.{among_contains, contains_among}
@@ -28,7 +28,7 @@ use Rattle.scr_core.specs.declared.command.Step.{Step}
 use Rattle.scr_core.specs.declared.instance.Instance.{Instance}
 use Rattle.scr_core.specs.Bundles.{descriptions_of}
 use Rattle.scr_core.specs.Consequences.{stage_of}
-use Rattle.scr_core.specs.Dues.{choice_for, choices}
+use Rattle.scr_core.specs.Dues.{choice_for}
 use Rattle.scr_core.specs.Legal.{Follows}
 use Rattle.scr_core.specs.Levels.{levels_of}
 use Rattle.scr_core.specs.Quiet.{is_plain_reference}
@@ -39,7 +39,7 @@ use Rattle.scr_core.specs.Worlds.{World, world_of, components_by, lives_of}
 use Rattle.scr_core.proofs.Comings.{IsNew}
 use Rattle.scr_core.proofs.Components.{found_by_number}
 use Rattle.scr_core.proofs.Currents.{open_period, current_open, was_current}
-use Rattle.scr_core.proofs.ListLemmas.{in_none, in_cases, in_first, in_rest, any_from, any_to, all_to, in_filter, in_filter_from, in_map, in_map_from, has_from, has_to, apart_same}
+use Rattle.scr_core.proofs.ListLemmas.{in_none, in_cases, in_first, in_rest, any_from, any_to, all_to, in_filter, in_filter_from, in_map, has_from, has_to, apart_same}
 use Rattle.scr_core.proofs.Services.{number_of, numbers_apart, missing_open}
 
 -- what a plain reference is

@@ -1,7 +1,7 @@
 -- How each instance of the world after a step comes about: it was there before, with the same callbacks, with one more, which was due, or with the outcome
 -- of its last one; or a Create made it.
 use Rattle.std.proofs.Common.{◌≡◌, ℕ, ◌+◌, List, [], ◌∷◌, ◌++◌, ap, sym, ◌∙◌, refl, subst, cond, Bool, true, false, inl, inr, ◌⊎◌, Option, Some, None}
-use Rattle.std.specs.Prelude.{map, filter, find, not, ◌==◌, option_map, option_and_then}
+use Rattle.std.specs.Prelude.{find, ◌==◌, option_map, option_and_then}
 use Rattle.std.specs.List.{Contains}
 use Rattle.std.proofs.lemmas.Bool.{both_ways, eqb-true, cases_Bool, cond-true, cond-false}
 use Rattle.std.proofs.lemmas.List.Elements.{Contains-push_cases}
@@ -16,7 +16,6 @@ use Rattle.callback_orders.specs.Due.{due_of}
 use Rattle.callback_orders.specs.Lives.{callback_of}
 use Rattle.callback_orders.specs.Sequences.{begun, ended}
 use Rattle.component_state.specs.declared.life.Choice.{Choice}
-use Rattle.component_state.specs.declared.life.Life.{Life}
 use Rattle.scr_core.specs.declared.command.Step.{Step}
 use Rattle.scr_core.specs.declared.command.Step.TheVariants.{Command as Commanded, Begin, End, Drained}
 use Rattle.scr_core.specs.declared.instance.Instance.{Instance}

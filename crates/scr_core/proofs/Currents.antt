@@ -1,8 +1,8 @@
 -- The open period of an instance after an entry: where it has ended it stays so, and where it hasn't it was open before and isn't closed.
-use Rattle.std.proofs.Common.{◌≡◌, ◌≤◌, ◌<◌, ℕ, List, [], ◌∷◌, ◌++◌, ap, sym, ◌∙◌, refl, subst, arith, true, false, ◌&&◌, inl, inr, ◌⊎◌}
+use Rattle.std.proofs.Common.{◌≡◌, ◌≤◌, ◌<◌, ℕ, List, ap, sym, ◌∙◌, arith, true, false, ◌&&◌, inl, inr, ◌⊎◌}
 use Rattle.std.specs.Prelude.{map, not, filter, ◌==◌, nat_lt}
 use Rattle.std.specs.List.{Contains}
-use Rattle.std.proofs.lemmas.Bool.{and_parts, and_from, not-true, ltb-true, eqb-true, eq-eqb, false_from_ne_true, both_ways}
+use Rattle.std.proofs.lemmas.Bool.{and_parts, not-true, ltb-true, eqb-true, eq-eqb, false_from_ne_true, both_ways}
 use Rattle.std.proofs.lemmas.List.Elements.{Contains-append_cases}
 use Rattle.component_state.specs.declared.component.Component.{Component}
 use Rattle.component_state.specs.declared.life.Life.{Life}
@@ -14,7 +14,7 @@ use Rattle.scr_core.specs.declared.command.Command.TheVariants.{Stop}
 use Rattle.scr_core.specs.declared.command.Step.TheVariants.{Command as Commanded}
 use Rattle.scr_core.specs.declared.instance.Instance.{Instance}
 use Rattle.scr_core.specs.Sound.{IsSound}
-use Rattle.scr_core.specs.Worlds.{World, lives_of}
+use Rattle.scr_core.specs.Worlds.{World}
 use Rattle.scr_core.proofs.ListLemmas.{any_from, any_to, in_filter_from, in_map, in_map_from}
 use Rattle.scr_core.proofs.Marks.{current_after}
 

@@ -1,5 +1,5 @@
 -- What is due says what it stands for: a Bind is of a service that its reference desires, and a Deactivate is that of an instance that is ending.
-use Rattle.std.proofs.Common.{◌≡◌, ℕ, List, [], ◌∷◌, ◌++◌, ap, sym, ◌∙◌, refl, subst, cond, Bool, true, false, ◌&&◌, inl, inr, ◌⊎◌, Option, Some, None}
+use Rattle.std.proofs.Common.{◌≡◌, ℕ, List, [], ◌∷◌, sym, refl, subst, cond, Bool, true, false, ◌&&◌, Option, Some, None}
 use Rattle.std.specs.Prelude.{⊤, map, not, find, filter_map, option_map, ◌==◌}
 use Rattle.std.specs.List.{Contains, last_or, cons_option}
 use Rattle.std.specs.Option.{option_or, option_map_or}
@@ -12,7 +12,7 @@ use Rattle.callback_orders.specs.declared.instance_view.Phase.TheVariants.{Makin
 use Rattle.callback_orders.specs.declared.instance_view.ReferenceView.{ReferenceView}
 use Rattle.callback_orders.specs.declared.instance_view.Wish.{Wish}
 use Rattle.callback_orders.specs.Due.{first_some, with_places, bind_at, unbind_at, tell_at, let_go_at, bind_or_unbind, due_in_making, modified_if_stale, due_while_active, due_while_ending, due_in_phase, due_of}
-use Rattle.callback_orders.specs.References.{is_held, is_desired, differs, to_bind, to_unbind, to_tell, to_let_go}
+use Rattle.callback_orders.specs.References.{is_held, is_desired, differs, to_unbind, to_tell, to_let_go}
 use Rattle.callback_orders.proofs.FirstSome.{first_of_four}
 use Rattle.scr_core.proofs.ListLemmas.{in_first, in_rest, any_from, find_to}
 

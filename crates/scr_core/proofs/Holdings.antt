@@ -1,5 +1,5 @@
 -- What an instance holds for a static reference is among what it chose for it.
-use Rattle.std.proofs.Common.{◌≡◌, ◌≤◌, ℕ, zero, suc, ◌+◌, List, [], ◌∷◌, ◌++◌, ap, sym, ◌∙◌, refl, subst, cond, arith, Bool, true, false, ◌&&◌, ◌||◌, inl, inr, ◌⊎◌, Option, Some, None}
+use Rattle.std.proofs.Common.{◌≡◌, ℕ, suc, ◌+◌, List, [], ◌∷◌, ◌++◌, ap, sym, ◌∙◌, refl, subst, cond, arith, Bool, true, false, inl, inr, ◌⊎◌, Option, Some, None}
 use Rattle.std.specs.Prelude.{map, not, filter, ◌==◌, slice_index_or}
 use Rattle.std.specs.List.{Contains, list_any, enumerate_from}
 use Rattle.std.specs.Str.{bytes_eq}
@@ -35,9 +35,9 @@ use Rattle.scr_core.specs.Quiet.{differ_in_name}
 use Rattle.scr_core.specs.Sound.{IsSound}
 use Rattle.scr_core.specs.Steps.{History}
 use Rattle.scr_core.specs.Views.{references_of, desired_for, is_ending, is_ready, reference_view, view_of}
-use Rattle.scr_core.specs.Worlds.{World, world_of, components_by}
+use Rattle.scr_core.specs.Worlds.{World, world_of}
 use Rattle.scr_core.proofs.Choices.{placed}
-use Rattle.scr_core.proofs.Comings.{WasThere, IsNew, IsNextWord, keeps, gains, closes, comes_about}
+use Rattle.scr_core.proofs.Comings.{IsNextWord, keeps, gains, closes, comes_about}
 use Rattle.scr_core.proofs.DueMeanings.{StandsFor, due_stands}
 use Rattle.scr_core.proofs.Kept.{used_keeps}
 use Rattle.scr_core.proofs.ListLemmas.{in_none, in_cases, in_first, in_rest, any_from, in_filter_from, has_in, in_has}
@@ -50,10 +50,10 @@ module _ {X Y : Type 0} (f : ℕ × X → Y) where
   viewed k [] n y h = absurd (in_none (n, y) h)
   viewed k (x ∷ xs) n y h = elim (in_cases (k, f (k, x)) (enumerate_from (k + 1) (map f (with_places (k + 1) xs))) (n, y) h) [
     | inl same ↦ (let place : k ≡ n = ap (λ (p : ℕ × Y). p.0) same in (
-        x,
-        subst (λ m. Contains ((k, x) ∷ with_places (k + 1) xs) (m, x)) place (in_first (k, x) (with_places (k + 1) xs)),
-        sym (ap (λ (p : ℕ × Y). p.1) same) ∙ ap (λ m. f (m, x)) place,
-      ))
+      x,
+      subst (λ m. Contains ((k, x) ∷ with_places (k + 1) xs) (m, x)) place (in_first (k, x) (with_places (k + 1) xs)),
+      sym (ap (λ (p : ℕ × Y). p.1) same) ∙ ap (λ m. f (m, x)) place,
+    ))
     | inr later ↦ (let found = viewed (k + 1) xs n y later in (found.0, in_rest (k, x) (with_places (k + 1) xs) (n, found.0) found.1, found.2))
   ]
 

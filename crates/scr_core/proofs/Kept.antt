@@ -1,5 +1,5 @@
 -- A component configuration that is open or has an instance keeps its references and its interfaces.
-use Rattle.std.proofs.Common.{◌≡◌, ℕ, List, ap, sym, ◌∙◌, subst, true}
+use Rattle.std.proofs.Common.{◌≡◌, ℕ, sym, subst, true}
 use Rattle.std.specs.List.{Contains}
 use Rattle.component_state.specs.declared.component.Component.{Component}
 use Rattle.component_state.specs.Components.{interfaces_of}
@@ -9,7 +9,7 @@ use Rattle.scr_core.specs.declared.instance.Instance.{Instance}
 use Rattle.scr_core.specs.Sound.{IsSound}
 use Rattle.scr_core.specs.Views.{references_of}
 use Rattle.scr_core.specs.Worlds.{World, is_known, components_by}
-use Rattle.scr_core.proofs.Components.{IsKept, numbered_after, kept_after, living_known, used_known, same_interfaces, same_references}
+use Rattle.scr_core.proofs.Components.{numbered_after, kept_after, living_known, used_known, same_interfaces, same_references}
 use Rattle.scr_core.proofs.ListLemmas.{has_to}
 use Rattle.scr_core.proofs.Marks.{open_lives}
 

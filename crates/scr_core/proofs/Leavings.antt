@@ -1,5 +1,5 @@
 -- An instance whose activation failed, or that was told of Deactivate, is of a period that has ended.
-use Rattle.std.proofs.Common.{◌≡◌, ◌≤◌, ℕ, List, [], ◌∷◌, ◌++◌, ap, sym, ◌∙◌, refl, subst, cond, Bool, true, false, ◌&&◌, ◌||◌, inl, inr, ◌⊎◌, Option, Some, None}
+use Rattle.std.proofs.Common.{◌≡◌, ◌≤◌, ℕ, List, [], ◌∷◌, ◌++◌, ap, sym, ◌∙◌, refl, Bool, true, false, ◌&&◌, ◌||◌, inl, inr, ◌⊎◌, Option, Some, None}
 use Rattle.std.specs.Prelude.{map, not, filter, ◌==◌}
 use Rattle.std.specs.List.{Contains, list_any}
 use Rattle.std.proofs.lemmas.Bool.{and_parts, and_from, not-true, both_ways, cases_Bool, or_cases, or_left, or_right, false_from_ne_true, eq-eqb, cond-true}
@@ -19,7 +19,6 @@ use Rattle.callback_orders.specs.Grammar.{is_deactivate}
 use Rattle.callback_orders.specs.Lives.{phase_by, phase_after, callback_of}
 use Rattle.callback_orders.specs.Sequences.{begun, ended, is_failed}
 use Rattle.component_state.specs.declared.life.Life.{Life}
-use Rattle.component_state.specs.Components.{lives, numbers_of}
 use Rattle.component_state.specs.Marks.{held_back, with_leaving}
 use Rattle.component_state.specs.Periods.{is_open, is_current}
 use Rattle.component_state.specs.declared.component.Component.{Component}
@@ -34,8 +33,8 @@ use Rattle.scr_core.specs.Legal.{Follows}
 use Rattle.scr_core.specs.Sound.{IsSound}
 use Rattle.scr_core.specs.Steps.{History}
 use Rattle.scr_core.specs.Views.{view_of, is_ending}
-use Rattle.scr_core.specs.Worlds.{World, world_of, components_by, satisfied_in, failing, failed_by, lives_of}
-use Rattle.scr_core.proofs.Comings.{WasThere, IsNew, IsNextWord, keeps, gains, closes, comes_about}
+use Rattle.scr_core.specs.Worlds.{World, world_of, components_by, satisfied_in, failing, lives_of}
+use Rattle.scr_core.proofs.Comings.{IsNextWord, keeps, gains, closes, comes_about}
 use Rattle.scr_core.proofs.Currents.{current_open, stays_past}
 use Rattle.scr_core.proofs.DueMeanings.{StandsFor, due_stands}
 use Rattle.scr_core.proofs.ListLemmas.{any_from, in_filter, in_map, has_in, in_has}

@@ -1,23 +1,21 @@
 -- In a quiet world with plain references no instance is ending: it would be held by one of a higher level that is ending as well.
-use Rattle.std.proofs.Common.{◌≡◌, ◌<◌, ◌≤◌, ℕ, zero, suc, ◌+◌, List, [], ◌∷◌, ap, sym, ◌∙◌, refl, subst, cond, arith, Bool, true, false, ◌&&◌, inl, inr, ◌⊎◌, Option, Some, None}
+use Rattle.std.proofs.Common.{◌≡◌, ◌<◌, ◌≤◌, ℕ, zero, suc, ◌+◌, List, [], ◌∷◌, sym, ◌∙◌, refl, subst, cond, arith, Bool, true, false, ◌&&◌, Some, None}
 use Rattle.std.specs.Prelude.{not, ◌==◌, filter_map}
 use Rattle.std.specs.List.{Contains, list_any, last_or}
-use Rattle.std.proofs.lemmas.Bool.{and_parts, and_from, not-true, not-false, both_ways, cases_Bool, false_from_ne_true, true_from_ne_false, cond-true, cond-false, or_parts, or_left, or_right, eq-eqb, not_from_false}
+use Rattle.std.proofs.lemmas.Bool.{and_parts, and_from, not-true, both_ways, false_from_ne_true, true_from_ne_false, cond-true, cond-false, or_left, eq-eqb, not_from_false}
 use Rattle.callback_orders.specs.declared.due.DueRef.{DueRef}
 use Rattle.callback_orders.specs.declared.due.DueRef.TheVariants.{Deactivate, Destroy}
 use Rattle.callback_orders.specs.declared.instance_view.InstanceView.{InstanceView}
 use Rattle.callback_orders.specs.declared.instance_view.Phase.{Phase}
 use Rattle.callback_orders.specs.declared.instance_view.Phase.TheVariants.{Making, Active, Left}
-use Rattle.callback_orders.specs.Due.{due_of, due_while_ending, due_in_phase, let_go_at, with_places as with_views}
+use Rattle.callback_orders.specs.Due.{due_while_ending, due_in_phase, let_go_at, with_places as with_views}
 use Rattle.callback_orders.specs.Lives.{held_for, phase_of}
 use Rattle.component_dto.specs.declared.description.Reference.{Reference}
-use Rattle.component_dto.specs.TextLists.{has_text}
-use Rattle.component_state.specs.declared.component.Component.{Component}
 use Rattle.component_state.specs.Components.{interfaces_of, top}
 use Rattle.component_state.specs.Periods.{is_current}
 use Rattle.component_state.specs.Reasons.{choice_at}
 use Rattle.component_state.specs.Targets.{targets}
-use Rattle.component_state.specs.Words.{has, with_places}
+use Rattle.component_state.specs.Words.{has}
 use Rattle.scr_core.specs.declared.instance.Instance.{Instance}
 use Rattle.scr_core.specs.Bundles.{descriptions_of}
 use Rattle.scr_core.specs.Consequences.{is_draining}

@@ -1,10 +1,9 @@
 -- No stuck state: where all references are plain, a quiet journal is right.
-use Rattle.std.proofs.Common.{◌≡◌, ℕ, List, [], ◌∷◌, ◌++◌, ap, sym, ◌∙◌, refl, subst, cond, Bool, true, false, ◌&&◌, ◌||◌, append-nil, inl, inr}
+use Rattle.std.proofs.Common.{◌≡◌, ℕ, List, [], ◌∷◌, ◌++◌, ap, sym, ◌∙◌, refl, cond, Bool, true, false, ◌&&◌, ◌||◌, append-nil}
 use Rattle.std.specs.Prelude.{map, not, filter, ◌==◌}
 use Rattle.std.specs.List.{Contains, list_all}
 use Rattle.std.proofs.lemmas.Bool.{and_from, eqb-true, or_left, not_from_false, not_from_true}
 use Rattle.callback_orders.specs.Lives.{held_for}
-use Rattle.component_dto.specs.declared.description.Reference.{Reference}
 use Rattle.component_state.specs.declared.component.Component.{Component}
 use Rattle.component_state.specs.declared.life.Life.{Life}
 use Rattle.component_state.specs.Components.{numbers_of}

@@ -1,20 +1,17 @@
 -- What a quiet world with plain references says of its instances one by one: nothing is due, nothing is missing, and levels rise from a provider to its consumer.
-use Rattle.std.proofs.Common.{◌≡◌, ◌<◌, ℕ, suc, ◌+◌, List, [], ◌∷◌, ◌++◌, ap, sym, ◌∙◌, refl, subst, cond, arith, Bool, true, false, ◌&&◌, inl, inr, ◌⊎◌, Option, Some, None}
-use Rattle.std.specs.Prelude.{map, not, filter, ◌==◌}
+use Rattle.std.proofs.Common.{◌≡◌, ◌<◌, ℕ, suc, ◌+◌, List, [], ◌∷◌, ◌++◌, ap, sym, ◌∙◌, refl, subst, arith, Bool, true, false, inl, inr, Option, Some, None}
+use Rattle.std.specs.Prelude.{map, not}
 use Rattle.std.specs.List.{Contains, list_any, list_all}
-use Rattle.std.specs.Option.{option_or}
-use Rattle.std.proofs.lemmas.Bool.{and_parts, and_from, both_ways, cases_Bool, false_from_ne_true, not_from_false, true_from_ne_false}
+use Rattle.std.proofs.lemmas.Bool.{and_parts, both_ways, false_from_ne_true, not_from_false, true_from_ne_false}
 use Rattle.std.proofs.lemmas.List.Elements.{Contains-append_left, Contains-append_right}
-use Rattle.callback_orders.specs.declared.due.DueRef.{DueRef}
 use Rattle.callback_orders.specs.declared.due.DueRef.TheVariants.{Create}
 use Rattle.callback_orders.specs.declared.instance_view.Key.{Key}
 use Rattle.callback_orders.specs.Due.{first_some, due_of}
 use Rattle.callback_orders.specs.Sequences.{is_outstanding}
-use Rattle.component_dto.specs.declared.description.Description.{Description}
 use Rattle.component_dto.specs.declared.description.Reference.{Reference}
 use Rattle.level_order.specs.Levels.{provides}
 use Rattle.component_state.specs.declared.component.Component.{Component}
-use Rattle.component_state.specs.Components.{in_order_below, rank, top}
+use Rattle.component_state.specs.Components.{rank, top}
 use Rattle.component_state.specs.Words.{with_places}
 use Rattle.component_state.proofs.Among.{contains_among}
 use Rattle.component_state.proofs.Order.{among_below, in_order_each, consumed_lower, references_consume}
@@ -27,7 +24,7 @@ use Rattle.scr_core.specs.Sound.{IsSound}
 use Rattle.scr_core.specs.Views.{has_instance, references_of, view_of, views_of}
 use Rattle.scr_core.specs.Worlds.{World}
 use Rattle.scr_core.proofs.Choices.{IsPlain, plain_is, placed, its_references}
-use Rattle.scr_core.proofs.ListLemmas.{in_first, in_rest, in_cases, in_none, any_from, all_to, in_filter, in_map, has_to}
+use Rattle.scr_core.proofs.ListLemmas.{in_first, in_cases, in_none, any_from, all_to, in_filter, in_map, has_to}
 use Rattle.scr_core.proofs.Settled.{IsSettled}
 
 -- the world of a legal journal that is quiet, where all references are plain

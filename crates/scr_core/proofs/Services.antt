@@ -1,9 +1,9 @@
 -- Service numbers: each open period that registers a service has a number of its own, which is never used again.
-use Rattle.std.proofs.Common.{◌≡◌, ◌≤◌, ◌<◌, ℕ, zero, suc, ◌+◌, List, [], ◌∷◌, ◌++◌, ap, sym, ◌∙◌, refl, subst, cond, arith, Bool, true, false, ◌&&◌, ◌||◌, inl, inr, ◌⊎◌, Some}
+use Rattle.std.proofs.Common.{◌≡◌, ◌≤◌, ◌<◌, ℕ, zero, suc, ◌+◌, List, [], ◌∷◌, ap, sym, ◌∙◌, refl, subst, cond, arith, Bool, true, false, ◌&&◌, ◌||◌, inl, inr, ◌⊎◌, Some}
 use Rattle.std.specs.Prelude.{map, not, filter, find, ◌==◌, count_by}
 use Rattle.std.specs.List.{Contains, list_any}
 use Rattle.std.specs.Option.{option_map_or}
-use Rattle.std.proofs.lemmas.Bool.{and_parts, not-true, ne_eqb, eqb-true, both_ways, cases_Bool, cond-true, cond-false}
+use Rattle.std.proofs.lemmas.Bool.{and_parts, not-true, ne_eqb, eqb-true, both_ways}
 use Rattle.std.proofs.lemmas.List.Sums.{sum_by-cons}
 use Rattle.std.proofs.lemmas.List.Elements.{Contains-append_cases}
 use Rattle.callback_orders.specs.declared.instance_view.Key.{Key}
@@ -12,7 +12,7 @@ use Rattle.component_state.specs.declared.component.Component.{Component}
 use Rattle.component_state.specs.declared.open_period.OpenPeriod.{OpenPeriod}
 use Rattle.component_state.specs.Components.{is_silent, are_numbered, rank, top, of_level, in_order_below}
 use Rattle.component_state.specs.Passes.{Stage, in_order, satisfied_in, out_of, opening_ones, opened_one, next_after, opened_from}
-use Rattle.component_state.specs.Periods.{is_open, opened_at}
+use Rattle.component_state.specs.Periods.{is_open}
 use Rattle.component_state.specs.Words.{has}
 use Rattle.journal_core.specs.declared.entry.Entry.{Entry}
 use Rattle.journal_core.specs.declared.entry.Opened.{Opened}
@@ -26,9 +26,9 @@ use Rattle.scr_core.specs.Sound.{IsSound}
 use Rattle.scr_core.specs.Steps.{History}
 use Rattle.scr_core.specs.Views.{is_wanted, is_immediate, desires, key_of, has_instance, views_of}
 use Rattle.scr_core.specs.Worlds.{World, world_of, components_by}
-use Rattle.scr_core.proofs.Comings.{WasThere, IsNew, comes_about}
+use Rattle.scr_core.proofs.Comings.{comes_about}
 use Rattle.scr_core.proofs.Components.{numbered_after}
-use Rattle.scr_core.proofs.Currents.{period_open, open_period, current_open, open_current, period_before, was_current}
+use Rattle.scr_core.proofs.Currents.{period_open, current_open, open_current, period_before, was_current}
 use Rattle.scr_core.proofs.ListLemmas.{in_none, in_cases, in_first, in_rest, any_to, in_filter_from, in_map_from, has_from, apart, apart_filter, apart_append, apart_same}
 
 abbrev pub number_of : Component → ℕ
@@ -108,8 +108,7 @@ head_differs : (next : ℕ) (c : Component) (cs : List Component) → 1 ≤ next
     → ((c.number ≡ o.configuration → ⊥) × (cond (is_silent c) 0 next ≡ o.service → o.service ≡ 0))
 head_differs next c cs some each o h =
     let found = opened_of (next_after next c) cs o h in
-    let low = no_less (is_silent c) next in
-    (
+    let low = no_less (is_silent c) next in (
       λ same. both_ways (has (map number_of cs) c.number) (not-true _ (and_parts (not (has (map number_of cs) c.number)) (apart number_of cs) each).0) (has_from number_of cs found.0 c.number found.1 (found.2 ∙ sym same)),
       λ same. elim (opened_counted (next_after next c) cs (omega (arith, some, low)) o h) [
         | inl none ↦ none

@@ -1,12 +1,11 @@
 -- What more holds of the world of every legal journal than that it is sound: what its instances chose and hold, and whose services these are.
-use Rattle.std.proofs.Common.{◌≡◌, ◌≤◌, ◌<◌, ℕ, ◌+◌, List, [], ◌∷◌, ap, sym, ◌∙◌, refl, subst, cond, arith, take, Bool, true, false, ◌||◌, inl, inr, ◌⊎◌}
-use Rattle.std.specs.Prelude.{◌==◌, filter, map}
+use Rattle.std.proofs.Common.{◌≡◌, ◌≤◌, ◌<◌, ℕ, List, [], ◌∷◌, ap, sym, ◌∙◌, refl, subst, cond, arith, take, Bool, true, false, ◌||◌, inl, inr}
+use Rattle.std.specs.Prelude.{◌==◌}
 use Rattle.std.specs.List.{Contains, list_all}
-use Rattle.std.proofs.lemmas.Bool.{cond-false, or_cases}
+use Rattle.std.proofs.lemmas.Bool.{or_cases}
 use Rattle.component_dto.specs.declared.description.Reference.{Reference}
 use Rattle.component_dto.specs.TextLists.{has_text}
 use Rattle.component_state.specs.declared.life.Life.{Life}
-use Rattle.component_state.specs.declared.open_period.OpenPeriod.{OpenPeriod}
 use Rattle.component_state.specs.Components.{interfaces_of}
 use Rattle.component_state.specs.Periods.{is_current}
 use Rattle.component_state.specs.Reasons.{choice_at}
@@ -25,7 +24,7 @@ use Rattle.scr_core.proofs.Choices.{plain_is, same_one, target_period, new_choic
 use Rattle.scr_core.proofs.Comings.{WasThere, IsNew, comes_about}
 use Rattle.scr_core.proofs.Currents.{period_open}
 use Rattle.scr_core.proofs.Holdings.{HeldWereChosen, held_then}
-use Rattle.scr_core.proofs.Kept.{KeepsItsOwn, open_keeps, used_keeps}
+use Rattle.scr_core.proofs.Kept.{open_keeps, used_keeps}
 use Rattle.scr_core.proofs.Leavings.{LeftArePast, left_then}
 use Rattle.scr_core.proofs.Legality.{sound_legal}
 use Rattle.scr_core.proofs.ListLemmas.{in_none}
