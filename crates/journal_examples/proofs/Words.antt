@@ -42,7 +42,14 @@ component name immediate interfaces references = record {
 }
 
 abbrev pub document : List ℕ → List Description → BundleDoc
-document location descriptions = record { location = location; descriptions = descriptions }
+document location descriptions = record {
+  location = location;
+  name = location;
+  version = record { major = 0; minor = 0; micro = 0; qualifier = [] };
+  manifest = None;
+  activator = None;
+  descriptions = descriptions;
+}
 
 -- an entry, and one after which nothing closes, opens or stops
 abbrev pub entry : Step → List ℕ → List Opened → List ℕ → Entry Step
