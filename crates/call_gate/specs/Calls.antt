@@ -1,7 +1,7 @@
 -- What the calls of the gates answer, by the word that their step found. Our own.
 use Rattle.std.specs.Prelude.{◌≡◌, ◌≢◌, ℕ, ◌+◌, ◌-◌, ◌*◌, ◌/◌, ◌%◌, ◌<◌, slice_index, slice_set, ◌⊎◌, List, ◌∷◌, Bool, Option, Some, None, IsTrue, ◌↔◌}
 use Rattle.atomic_table.specs.Seated.{TableId}
-use Rattle.call_gate.specs.Gates.{generation_in, stage_in, callers_in, LeavesLast, HasKey, with_caller, with_levels}
+use Rattle.call_gate.specs.Gates.{lasts_left, generation_in, stage_in, callers_in, LeavesLast, HasKey, with_caller, with_levels}
 use Rattle.call_gate.specs.declared.rule.GateView.{GateView}
 use Rattle.journal_core.specs.declared.entry.GateKey.{GateKey}
 use Rattle.call_gate.specs.declared.tokens.Entered.{Entered}
@@ -50,6 +50,20 @@ abbrev pub LastIs : ℕ → ℕ → Option GateKey → Type 0
 LastIs slot n (Some last) = LeavesLast n × (last ≡ record { slot = slot; generation = generation_in n })
 LastIs slot n None = ¬ LeavesLast n
 
+-- how many keys are told as last here
+abbrev pub told : Option GateKey → ℕ
+told (Some last) = 1
+told None = 0
+
+-- the counts of an answer: how often it says that the gate is gone, and how many keys it tells as last
+abbrev pub gone_in : Entered → ℕ
+gone_in (Inside i) = 0
+gone_in (Gone generation shut last) = 1
+
+abbrev pub told_in : Entered → ℕ
+told_in (Inside i) = 0
+told_in (Gone generation shut last) = told last
+
 -- a caller came to this key's open word
 abbrev pub InsideAt : GateKey → GateView → GateView → Type 0
 InsideAt key v w = (stage_in w.met ≡ 0) × (generation_in w.met ≡ key.generation) × (w ≡ with_caller v ((key.slot, key.generation) ∷ v.inside) v.passing w.met)
@@ -58,7 +72,7 @@ InsideAt key v w = (stage_in w.met ≡ 0) × (generation_in w.met ≡ key.genera
 abbrev pub GoneAt : GateKey → ℕ → Bool → Option GateKey → GateView → GateView → Type 0
 GoneAt key generation shut last v w =
     (stage_in w.met ≢ 0 ⊎ generation_in w.met ≢ key.generation) × (generation ≡ generation_in w.met) × (IsTrue shut ↔ (stage_in w.met ≢ 0))
-    × (w ≡ record v { saw = w.saw; met = w.met }) × LastIs key.slot w.saw last
+    × (w ≡ record v { saw = w.saw; met = w.met; gone = v.gone + 1; lasts = v.lasts + lasts_left w.saw }) × LastIs key.slot w.saw last
 
 abbrev pub EntersAs : GateKey → GateView → GateView → Entered → Type 0
 EntersAs key v w (Inside i) = (i ≡ key) × InsideAt key v w

@@ -1,12 +1,12 @@
 //! The gates: one word for each slot, changed by single steps.
 ghost use Rattle.std.specs.Prelude.{◌≡◌, ◌≢◌, ◌+◌, ◌-◌, ◌*◌, ◌/◌, ◌%◌, ◌^◌, ◌<◌, ◌≤◌, ◌↔◌, true, false, if◌then◌else◌, replicate, [], ◌∷◌, length, slice_index, slice_set, IsTrue, IfOk, IfErr, IfSome, IfNone, MatchOption, MatchResult};
-ghost use Rattle.call_gate.specs.Gates.{SeatView, level_in, generation_in, stage_in, callers_in, with_inside, with_levels, without, HasKey, LeavesLast};
+ghost use Rattle.call_gate.specs.Gates.{SeatView, level_in, generation_in, stage_in, callers_in, with_inside, with_levels, with_shut, without, HasKey, LeavesLast};
 ghost use Rattle.call_gate.specs.Starts.{first_view, seat_view, both_of};
-ghost use Rattle.call_gate.specs.Calls.{slots_in, KnownOpen, KnownClosed, KnownClaimed, NoneClaimed, opened_in, shut_in, LastIs, EntersAs, ClaimsAs, ShutIs};
+ghost use Rattle.call_gate.specs.Calls.{slots_in, KnownOpen, KnownClosed, KnownClaimed, NoneClaimed, opened_in, shut_in, told, gone_in, told_in, LastIs, EntersAs, ClaimsAs, ShutIs};
 
 use crate::rule::{
-    Beginning, Claim, Deal, Enter, GateView, Gates, Hear, Leave, Look, Mark, Raise, StepOut,
-    Together,
+    Beginning, Claim, Deal, Enter, GateView, Gates, Hear, Leave, Look, Mark, Raise, Shut, StepBack,
+    StepOut, Together,
 };
 use crate::seat::GateSeat;
 use crate::tokens::{Drain, Entered, Inside, Last, Worn};
@@ -57,12 +57,15 @@ impl CallGate {
     }
 
     /// Enters a gate by one step on its word, and is inside exactly where that word was open under the key's generation.
-    /// Else the caller steps out again, and is told what the word was. The seat needs a free place.
+    /// Else the caller steps out again, and is told what the word was. The seat needs a free place. It counts each answer
+    /// that a gate is gone, and each key that it is told as last.
     pub fn enter(&self, seat: &mut GateSeat, key: GateKey) -> Entered
         requires own { (seat.old.gate ≡ self.now) × (key.slot < slots_in self.now) }
         requires room { length seat.old.knows.inside < seat.old.knows.places }
         ensures same { seat.new.gate ≡ seat.old.gate }
         ensures answer { EntersAs key seat.old.knows seat.new.knows result }
+        ensures gone { seat.new.knows.gone ≡ seat.old.knows.gone + gone_in result }
+        ensures told { seat.new.knows.lasts ≡ seat.old.knows.lasts + told_in result }
     {
         let slot = key.slot as usize;
         let found = self
@@ -85,7 +88,7 @@ impl CallGate {
             let left = self
                 .table
                 .shared
-                .fetch_sub::<Leave>(&mut seat.seat, slot, 1);
+                .fetch_sub::<StepBack>(&mut seat.seat, slot, 1);
             return Entered::Gone {
                 generation: level / 4,
                 shut: false,
@@ -103,6 +106,7 @@ impl CallGate {
         requires inside { HasKey inside.slot inside.generation seat.old.knows.inside }
         ensures seat { seat.new ≡ record seat.old { knows = with_inside seat.old.knows (without inside.slot seat.old.knows.inside) seat.new.knows.saw } }
         ensures last { LastIs inside.slot seat.new.knows.saw result }
+        ensures told { seat.new.knows.lasts ≡ seat.old.knows.lasts + told result }
     {
         let Inside { key } = inside;
         let left = self
@@ -141,13 +145,14 @@ impl CallGate {
     pub fn shut(&self, seat: &mut GateSeat, key: GateKey) -> Option<Last>
         requires own { (seat.old.gate ≡ self.now) × (key.slot < slots_in self.now) }
         requires open { (seat.old.knows.keeps ≡ true) × KnownOpen key seat.old.knows.levels }
-        ensures seat { seat.new ≡ record seat.old { knows = with_levels seat.old.knows (shut_in key seat.old.knows.levels) seat.new.knows.saw } }
+        ensures seat { seat.new ≡ record seat.old { knows = with_shut seat.old.knows (shut_in key seat.old.knows.levels) seat.new.knows.saw } }
         ensures last { ShutIs key seat.new.knows.saw result }
+        ensures told { seat.new.knows.lasts ≡ seat.old.knows.lasts + told result }
     {
         let found = self
             .table
             .shared
-            .fetch_or::<Raise>(&mut seat.seat, key.slot as usize, CALLERS);
+            .fetch_or::<Shut>(&mut seat.seat, key.slot as usize, CALLERS);
         if found % CALLERS == 0 {
             Some(Last { key })
         } else {

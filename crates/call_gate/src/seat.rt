@@ -6,7 +6,8 @@ use atomic_table::Seat;
 use std::marker::Model;
 
 /// A seat at the gates: callers enter and leave from it, as many at once as it has places. The keeper's seat also
-/// opens, shuts and claims. To a contract it is the table of its gates and what it knows of them.
+/// opens, shuts and claims. To a contract it is the table of its gates and what it knows of them, which includes how often
+/// its callers found a gate gone, and how often it was told a key as last.
 #[derive(Drop)]
 pub struct GateSeat {
     pub(crate) seat: Seat<(), GateView>,

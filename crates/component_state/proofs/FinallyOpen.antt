@@ -1,25 +1,23 @@
 -- After a pass just those are open that stand and aren't held back.
-use Rattle.std.proofs.Common.{inl, inr, ◌⊎◌, ◌≡◌, ℕ, List, [], ◌∷◌, ◌++◌, ap, sym, ◌∙◌, refl, Bool, true, false, ◌&&◌, ◌||◌}
+use Rattle.std.proofs.Common.{inl, inr, ◌≡◌, ℕ, List, [], ◌∷◌, ap, sym, ◌∙◌, refl, Bool, true, false, ◌&&◌, ◌||◌}
 use Rattle.std.specs.Prelude.{filter, map, not, ◌==◌, nat_lt}
-use Rattle.std.specs.List.{list_any}
-use Rattle.std.proofs.lemmas.Bool.{eqb-true, eq-eqb, false_from_ne_true, false≢true, true_from_ne_false, not_from_false, not-true, and_parts, and_from, cases_Bool, both_ways}
+use Rattle.std.proofs.lemmas.Bool.{eqb-true, eq-eqb, false_from_ne_true, false≢true, not_from_false, not-true, and_parts, and_from, cases_Bool}
 use Rattle.std.proofs.lemmas.List.Folds.{list_any-append}
 use Rattle.journal_core.specs.declared.entry.Opened.{Opened}
 use Rattle.component_state.specs.declared.component.Component.{Component}
 use Rattle.component_state.specs.declared.life.Life.{Life}
 use Rattle.component_state.specs.declared.open_period.OpenPeriod.{OpenPeriod}
 use Rattle.component_state.specs.declared.pass.PassEnd.{PassEnd}
-use Rattle.component_state.specs.Components.{numbers_of, lives, are_numbered}
+use Rattle.component_state.specs.Components.{numbers_of, lives}
 use Rattle.component_state.specs.Marks.{with_leaving}
-use Rattle.component_state.specs.Passes.{Stage, in_order, out_of, opened_one, opened_from, next_after, IsReady}
+use Rattle.component_state.specs.Passes.{Stage, in_order, out_of, opened_from, next_after, IsReady}
 use Rattle.component_state.specs.Periods.{is_open, is_current, opened_at, open_after}
 use Rattle.component_state.specs.Reasons.{chose_outdated}
-use Rattle.component_state.specs.Runs.{stands, is_misled, has_life, must_close}
+use Rattle.component_state.specs.Runs.{stands, is_misled, has_life}
 use Rattle.component_state.specs.Words.{has}
 use Rattle.component_state.proofs.Among.{Among, among_contains, among_left, among_filter, among_kept, among_map, among_mapped, any_witness, any_from, any_map}
 use Rattle.component_state.proofs.Decisions.{closes, opens}
-use Rattle.component_state.proofs.Numbers.{has_number, has_filtered}
-use Rattle.component_state.proofs.Reading.{ReadsAs}
+use Rattle.component_state.proofs.Numbers.{has_filtered}
 
 -- ---- which numbers are open
 
@@ -66,7 +64,7 @@ open_by place cs closed opened before n =
 -- ---- whose living instances are of a period that has ended
 
 module _ (now : List OpenPeriod) (all : List Life) where
-  life_witness : (n : ℕ) → has_life all n ≡ true → (l : Life) × Among all l × (l.configuration ≡ n)
+  pub life_witness : (n : ℕ) → has_life all n ≡ true → (l : Life) × Among all l × (l.configuration ≡ n)
   life_witness n e = let found = any_witness (λ (l : Life). l.configuration == n) all e in (found.0, found.1, eqb-true found.0.configuration n found.2)
 
   leaving_witness : (n : ℕ) → has (with_leaving now all) n ≡ true → (l : Life) × Among all l × (is_current now l ≡ false) × (l.configuration ≡ n)
@@ -75,19 +73,25 @@ module _ (now : List OpenPeriod) (all : List Life) where
       let kept = among_filter (λ (l : Life). not (is_current now l)) all mapped.0 mapped.1 in
       (mapped.0, kept.0, not-true (is_current now mapped.0) kept.1, mapped.2)
 
+  -- a living instance of a period that has ended
+  pub leaving_if_ended : (n : ℕ) (l : Life) → Among all l → l.configuration ≡ n → is_current now l ≡ false → has (with_leaving now all) n ≡ true
+  leaving_if_ended n l here is ended =
+      has_from (with_leaving now all) n
+      (rw (← is) (among_mapped (λ (x : Life). x.configuration) (filter (λ (x : Life). not (is_current now x)) all) l
+      (among_kept (λ (x : Life). not (is_current now x)) all l here (not_from_false (is_current now l) ended))))
+
   -- with no open period, a living instance is of one that has ended
   leaving_if_gone : (n : ℕ) → is_open now n ≡ false → has_life all n ≡ true → has (with_leaving now all) n ≡ true
   leaving_if_gone n gone e =
       let found = life_witness n e in
-      let ended : is_current now found.0 ≡ false = false_from_ne_true (is_current now found.0) (λ current. (let of_one = any_witness (λ (o : OpenPeriod). (o.configuration == found.0.configuration) && nat_lt o.opened found.0.created) now current in
+      leaving_if_ended n found.0 found.1 found.2
+      (false_from_ne_true (is_current now found.0)
+      (λ current. (let of_one = any_witness (λ (o : OpenPeriod). (o.configuration == found.0.configuration) && nat_lt o.opened found.0.created) now current in
       let same = and_parts (of_one.0.configuration == found.0.configuration) (nat_lt of_one.0.opened found.0.created) of_one.2 in
-      false≢true (sym gone ∙ open_from now of_one.0 n of_one.1 (eqb-true of_one.0.configuration found.0.configuration same.0 ∙ found.2)))) in
-      has_from (with_leaving now all) n
-      (rw (← found.2) (among_mapped (λ (l : Life). l.configuration) (filter (λ (l : Life). not (is_current now l)) all) found.0
-      (among_kept (λ (l : Life). not (is_current now l)) all found.0 found.1 (not_from_false (is_current now found.0) ended))))
+      false≢true (sym gone ∙ open_from now of_one.0 n of_one.1 (eqb-true of_one.0.configuration found.0.configuration same.0 ∙ found.2)))))
 
   -- without a living instance none is
-  not_leaving_without : (n : ℕ) → has_life all n ≡ false → has (with_leaving now all) n ≡ false
+  pub not_leaving_without : (n : ℕ) → has_life all n ≡ false → has (with_leaving now all) n ≡ false
   not_leaving_without n none =
       false_from_ne_true (has (with_leaving now all) n)
       (λ e. (let found = leaving_witness n e in false≢true (sym none ∙ any_from (λ (l : Life). l.configuration == n) all found.0 found.1 (eq-eqb found.0.configuration n found.3))))

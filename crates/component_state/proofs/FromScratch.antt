@@ -1,8 +1,8 @@
 -- What stands in the end of a pass is what is satisfied from scratch.
-use Rattle.std.proofs.Common.{inl, inr, ◌⊎◌, ◌≡◌, ◌<◌, ℕ, zero, suc, List, [], ◌∷◌, ◌++◌, ap, sym, ◌∙◌, refl, Bool, true, false, ◌&&◌, ◌||◌, subst}
+use Rattle.std.proofs.Common.{◌≡◌, ◌<◌, ℕ, zero, suc, List, ◌++◌, ap, sym, ◌∙◌, refl, Bool, true, false, ◌&&◌, ◌||◌, arith}
 use Rattle.std.specs.Prelude.{filter, not, ◌==◌}
 use Rattle.std.specs.List.{list_any, list_all}
-use Rattle.std.proofs.lemmas.Bool.{eqb-true, and_parts, and_from, cases_Bool}
+use Rattle.std.proofs.lemmas.Bool.{eqb-true, and_parts, and_from}
 use Rattle.std.proofs.lemmas.List.Elements.{filter-append}
 use Rattle.component_dto.specs.declared.description.Description.{Description}
 use Rattle.component_dto.specs.declared.description.Reference.{Reference}
@@ -35,59 +35,70 @@ level_agrees false true s t same = refl
 level_agrees false false s t same = refl
 
 module _ (ds : List Description) (levels : List ℕ) (cs : List Component) (are : AreLevels ds levels) (numbered : are_numbered cs ≡ true) (described : (c : Component) → Among cs c → Among ds c.description)
-    (now : List OpenPeriod) (out : List ℕ) (known : (o : OpenPeriod) → Among now o → IsPeriodOf cs o)
-    (final : (c : Component) → Among cs c → is_open now c.number ≡ (stands now c && not (has out c.number))) where
+    (now : List OpenPeriod) (out : List ℕ) (known : (o : OpenPeriod) → Among now o → IsPeriodOf cs o) where
   abbrev standing : ℕ → List Component
   standing n = filter (stands now) (in_order_below ds levels cs n)
 
+  -- below a level, just those are open that stand and aren't left out
+  abbrev pub Final : ℕ → Type 0
+  Final n = (c : Component) → Among cs c → rank ds levels c < n → is_open now c.number ≡ (stands now c && not (has out c.number))
+
   -- who offers among those that stand below, is open and offers
-  offer_open : (n : ℕ) (r : Reference) → list_any (λ (o : Component). provides o.description r.interface_name) (offering out (standing n)) ≡ true → list_any (offers r.interface_name) now ≡ true
-  offer_open n r e =
+  offer_open : (n : ℕ) → Final n → (r : Reference) → list_any (λ (o : Component). provides o.description r.interface_name) (offering out (standing n)) ≡ true → list_any (offers r.interface_name) now ≡ true
+  offer_open n final r e =
       let found = any_witness (λ (o : Component). provides o.description r.interface_name) (offering out (standing n)) e in
       let free = among_filter (λ (c : Component). not (has out c.number)) (standing n) found.0 found.1 in
       let stood = among_filter (stands now) (in_order_below ds levels cs n) found.0 free.0 in
-      let there = (among_below ds levels cs n found.0 stood.0).0 in
-      let open_now = final found.0 there ∙ and_from (stands now found.0) (not (has out found.0.number)) stood.1 free.1 in
+      let low = among_below ds levels cs n found.0 stood.0 in
+      let there = low.0 in
+      let open_now = final found.0 there low.1 ∙ and_from (stands now found.0) (not (has out found.0.number)) stood.1 free.1 in
       let period = any_witness (λ (o : OpenPeriod). o.configuration == found.0.number) now open_now in
       let number = eqb-true period.0.configuration found.0.number period.2 in
       let interfaces = (known period.0 period.1).interfaces ∙ ap (interfaces_of cs) number ∙ interfaces_are cs numbered found.0 there in
       any_from (offers r.interface_name) now period.0 period.1 (ap (λ w. has_text w r.interface_name) interfaces ∙ found.2)
 
   -- who is open and offers what is referenced, stands below
-  open_offer : (c : Component) (r : Reference) → Among c.description.references r → list_any (offers r.interface_name) now ≡ true
+  open_offer : (c : Component) → Final (rank ds levels c) → (r : Reference) → Among c.description.references r → list_any (offers r.interface_name) now ≡ true
       → list_any (λ (o : Component). provides o.description r.interface_name) (offering out (standing (rank ds levels c))) ≡ true
-  open_offer c r here e =
+  open_offer c final r here e =
       let period = any_witness (offers r.interface_name) now e in
       let of_one = known period.0 period.1 in
       let found = number_witness cs period.0.configuration of_one.known in
       let interfaces = of_one.interfaces ∙ ap (interfaces_of cs) (sym found.2) ∙ interfaces_are cs numbered found.0 found.1 in
       let provided : provides found.0.description r.interface_name ≡ true = ap (λ w. has_text w r.interface_name) (sym interfaces) ∙ period.2 in
       let low = consumed_lower ds levels are c.description found.0.description (described found.0 found.1) (references_consume c.description found.0.description r here provided) in
-      let parts = and_parts (stands now found.0) (not (has out found.0.number)) (sym (final found.0 found.1) ∙ open_from now period.0 found.0.number period.1 (sym found.2)) in
+      let parts = and_parts (stands now found.0) (not (has out found.0.number)) (sym (final found.0 found.1 low) ∙ open_from now period.0 found.0.number period.1 (sym found.2)) in
       any_from (λ (o : Component). provides o.description r.interface_name) (offering out (standing (rank ds levels c))) found.0
       (among_kept (λ (d : Component). not (has out d.number)) (standing (rank ds levels c)) found.0
       (among_kept (stands now) (in_order_below ds levels cs (rank ds levels c)) found.0 (in_below ds levels cs (rank ds levels c) found.0 found.1 low) parts.0) parts.1) provided
 
-  satisfied_agrees : (c : Component) → is_satisfied (offering out (standing (rank ds levels c))) c ≡ list_all (is_met now) c.description.references
-  satisfied_agrees c =
+  satisfied_agrees : (c : Component) → Final (rank ds levels c) → is_satisfied (offering out (standing (rank ds levels c))) c ≡ list_all (is_met now) c.description.references
+  satisfied_agrees c final =
       all_same (meets (offering out (standing (rank ds levels c)))) (is_met now) c.description.references
       (λ r here. ap (λ b. is_optional r.cardinality || b)
       (same_bool (list_any (λ (o : Component). provides o.description r.interface_name) (offering out (standing (rank ds levels c)))) (list_any (offers r.interface_name) now)
-      (offer_open (rank ds levels c) r) (open_offer c r here)))
+      (offer_open (rank ds levels c) final r) (open_offer c final r here)))
 
-  level_stands : (n : ℕ) → filter (is_satisfied (offering out (standing n))) (of_level ds levels (living cs) n) ≡ filter (stands now) (of_level ds levels cs n)
-  level_stands n =
+  level_stands : (n : ℕ) → Final n → filter (is_satisfied (offering out (standing n))) (of_level ds levels (living cs) n) ≡ filter (stands now) (of_level ds levels cs n)
+  level_stands n final =
       ap (filter (is_satisfied (offering out (standing n)))) (filter_twice (λ c. rank ds levels c == n) (λ (c : Component). c.lives) cs)
       ∙ filter_twice (is_satisfied (offering out (standing n))) (λ (c : Component). c.lives && (rank ds levels c == n)) cs
       ∙ filter_same (λ (c : Component). (c.lives && (rank ds levels c == n)) && is_satisfied (offering out (standing n)) c) (λ (c : Component). (rank ds levels c == n) && stands now c) cs
       (λ c here. level_agrees c.lives (rank ds levels c == n) (is_satisfied (offering out (standing n)) c) (list_all (is_met now) c.description.references)
-      (λ on. ap (λ k. is_satisfied (offering out (standing k)) c) (sym (eqb-true (rank ds levels c) n on)) ∙ satisfied_agrees c))
+      (λ on. at_level c (eqb-true (rank ds levels c) n on)))
       ∙ sym (filter_twice (stands now) (λ c. rank ds levels c == n) cs)
+    where
+      at_level : (c : Component) → rank ds levels c ≡ n → is_satisfied (offering out (standing n)) c ≡ list_all (is_met now) c.description.references
+      at_level c same = ap (λ k. is_satisfied (offering out (standing k)) c) (sym same) ∙ satisfied_agrees c (λ d here low. final d here (omega (arith, low, same)))
+
+  -- one level more
+  pub stands_next : (n : ℕ) → satisfied_below ds levels (living cs) out n ≡ standing n → Final n → satisfied_below ds levels (living cs) out (suc n) ≡ standing (suc n)
+  stands_next n lower final =
+      ap (λ w. w ++ filter (is_satisfied (offering out w)) (of_level ds levels (living cs) n)) lower
+      ∙ ap (λ w. standing n ++ w) (level_stands n final)
+      ∙ sym (filter-append (stands now) (in_order_below ds levels cs n) (of_level ds levels cs n))
 
   -- level by level, the satisfied ones are those that stand
-  pub satisfied_stands : (n : ℕ) → satisfied_below ds levels (living cs) out n ≡ standing n
-  satisfied_stands zero = refl
-  satisfied_stands (suc n) =
-      ap (λ w. w ++ filter (is_satisfied (offering out w)) (of_level ds levels (living cs) n)) (satisfied_stands n)
-      ∙ ap (λ w. standing n ++ w) (level_stands n)
-      ∙ sym (filter-append (stands now) (in_order_below ds levels cs n) (of_level ds levels cs n))
+  pub satisfied_stands : (n : ℕ) → Final n → satisfied_below ds levels (living cs) out n ≡ standing n
+  satisfied_stands zero final = refl
+  satisfied_stands (suc n) final = let below : Final n = λ c here low. final c here (omega (arith, low)) in stands_next n (satisfied_stands n below) below

@@ -10,3 +10,5 @@ pub mod OpenAfter
 pub mod FinallyOpen
 pub mod FromScratch
 pub mod Passing
+pub mod AfterPass
+pub mod OnePass

@@ -1,12 +1,12 @@
 -- Component configurations by their numbers.
-use Rattle.std.proofs.Common.{◌⊎◌, inl, inr, ◌≡◌, ℕ, List, [], ◌∷◌, ap, sym, ◌∙◌, refl, Bool, true, false, Option, Some, None}
+use Rattle.std.proofs.Common.{inl, inr, ◌≡◌, ◌<◌, ℕ, List, [], ◌∷◌, ◌++◌, arith, ap, sym, ◌∙◌, refl, Bool, true, false, Some}
 use Rattle.std.specs.Prelude.{filter, find, not, ◌==◌}
 use Rattle.std.specs.Option.{option_map_or}
-use Rattle.std.proofs.lemmas.Bool.{cases_Bool, cond-true, cond-false, eqb-true, eq-eqb, and_parts, not-true, false≢true, false_from_ne_true}
+use Rattle.std.proofs.lemmas.Bool.{cases_Bool, cond-true, cond-false, eqb-true, eq-eqb, and_parts, and_from, not_from_false, not-true, false≢true, false_from_ne_true}
 use Rattle.component_state.specs.declared.component.Component.{Component}
 use Rattle.component_state.specs.Components.{numbers_of, interfaces_of, are_numbered}
 use Rattle.component_state.specs.Words.{has}
-use Rattle.component_state.proofs.Among.{Among, among_filter, among_kept, any_witness, any_from, any_map}
+use Rattle.component_state.proofs.Among.{Among, among_append, among_filter, among_kept, any_witness, any_from, any_map}
 
 pub has_number : (cs : List Component) (c : Component) → Among cs c → has (numbers_of cs) c.number ≡ true
 has_number cs c here = any_map (λ n. n == c.number) (λ (d : Component). d.number) cs ∙ any_from (λ (d : Component). d.number == c.number) cs c here (eq-eqb c.number c.number refl)
@@ -56,3 +56,18 @@ has_filtered cs order numbered there t x here = elim (cases_Bool (t x)) [
     kept_out off found =
         let kept = among_filter t order found.0 found.1 in
         false≢true (sym off ∙ ap t (sym (same_component cs numbered found.0 x (there found.0 kept.0) (there x here) found.2)) ∙ kept.1)
+
+-- one more with a higher number
+pub numbered_push : (cs : List Component) (c : Component) → are_numbered cs ≡ true → ((d : Component) → Among cs d → d.number < c.number) → are_numbered (cs ++ c ∷ []) ≡ true
+numbered_push [] c numbered below = refl
+numbered_push (d ∷ ds) c numbered below =
+    and_from (not (has (numbers_of (ds ++ c ∷ [])) d.number)) (are_numbered (ds ++ c ∷ []))
+    (not_from_false (has (numbers_of (ds ++ c ∷ [])) d.number) (false_from_ne_true (has (numbers_of (ds ++ c ∷ [])) d.number) (λ e. again (number_witness (ds ++ c ∷ []) d.number e))))
+    (numbered_push ds c (rest_numbered d ds numbered) (λ e here. below e (inr here)))
+  where
+    again : (e : Component) × Among (ds ++ c ∷ []) e × (e.number ≡ d.number) → ⊥
+    again found = elim (among_append ds (c ∷ []) found.0 found.1) [
+      | inl early ↦ not_later d ds found.0 numbered early found.2
+      | inr (inl same) ↦ omega (arith, ap (λ (x : Component). x.number) same, found.2, below d (inl refl))
+      | inr (inr none) ↦ none
+    ]

@@ -1,5 +1,5 @@
 -- What is open during a pass is what was open, without what closed so far, and with what opened so far.
-use Rattle.std.proofs.Common.{inl, inr, ◌⊎◌, ◌≡◌, ℕ, List, [], ◌∷◌, ◌++◌, ap, sym, ◌∙◌, refl, Bool, true, false, append-nil, append_assoc, ◌&&◌, ◌||◌}
+use Rattle.std.proofs.Common.{inl, inr, ◌⊎◌, ◌≡◌, ℕ, List, [], ◌∷◌, ◌++◌, ap, sym, ◌∙◌, refl, Bool, true, false, append_assoc, ◌&&◌, ◌||◌}
 use Rattle.std.specs.Prelude.{filter, fold, map, not, ◌==◌}
 use Rattle.std.proofs.lemmas.Bool.{eqb-true, eq-eqb, false_from_ne_true, false≢true, not_from_false, cases_Bool}
 use Rattle.std.proofs.lemmas.List.{map-append}
@@ -11,7 +11,7 @@ use Rattle.component_state.specs.declared.open_period.OpenPeriod.{OpenPeriod}
 use Rattle.component_state.specs.declared.pass.PassEnd.{PassEnd}
 use Rattle.component_state.specs.Passes.{Stage, opened_one}
 use Rattle.component_state.specs.Periods.{is_open, opened_at, open_after}
-use Rattle.component_state.specs.Runs.{step}
+use Rattle.component_state.specs.Runs.{begun, step}
 use Rattle.component_state.specs.Words.{has}
 use Rattle.component_state.proofs.Among.{Among, among_append, among_map, filter_same, filter_all, filter_twice}
 use Rattle.component_state.proofs.Decisions.{step_cases}
@@ -58,7 +58,7 @@ opened_kept s opened n new was = filter_all (λ (o : OpenPeriod). not (o.configu
         (false_from_ne_true (o.configuration == n)
         (λ on. false≢true (sym (new found.0 found.1) ∙ ap (is_open s.before) (ap (λ (x : OpenPeriod). x.configuration) found.2 ∙ eqb-true o.configuration n on) ∙ was)))
 
-step_so_far : (s : Stage) (p : PassEnd) (c : Component) → IsOpenSoFar s p → IsOpenSoFar s (step s p c)
+pub step_so_far : (s : Stage) (p : PassEnd) (c : Component) → IsOpenSoFar s p → IsOpenSoFar s (step s p c)
 step_so_far s p c so_far =
     step_cases s p c (IsOpenSoFar s)
     (λ was must. record {
@@ -85,3 +85,10 @@ step_so_far s p c so_far =
 pub open_so_far : (s : Stage) (cs : List Component) (p : PassEnd) → IsOpenSoFar s p → IsOpenSoFar s (fold (step s) p cs)
 open_so_far s [] p so_far = so_far
 open_so_far s (c ∷ cs) p so_far = open_so_far s cs (step s p c) (step_so_far s p c so_far)
+
+all_kept : (before : List OpenPeriod) → filter (λ (o : OpenPeriod). not (has [] o.configuration)) before ++ [] ≡ before
+all_kept [] = refl
+all_kept (o ∷ os) = ap (λ w. o ∷ w) (all_kept os)
+
+pub begun_so_far : (s : Stage) → IsOpenSoFar s (begun s.next s.before)
+begun_so_far s = record { are = sym (all_kept s.before); new = λ o here. absurd here }

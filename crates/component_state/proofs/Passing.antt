@@ -1,7 +1,6 @@
 -- The steps of a pass over all component configurations are a pass.
-use Rattle.std.proofs.Common.{inl, inr, ◌≡◌, ◌<◌, ℕ, suc, List, [], ◌∷◌, ◌++◌, length, ap, sym, ◌∙◌, refl, Bool, true, false, ◌&&◌, ◌||◌}
-use Rattle.std.specs.Prelude.{filter, fold, map, not, ◌==◌}
-use Rattle.std.specs.List.{list_any}
+use Rattle.std.proofs.Common.{inl, inr, ◌≡◌, ℕ, suc, List, [], ◌∷◌, length, ap, sym, ◌∙◌, refl, Bool, true, false, ◌&&◌, ◌||◌}
+use Rattle.std.specs.Prelude.{filter, fold, not}
 use Rattle.std.proofs.lemmas.Bool.{cases_Bool, false_from_ne_true, false≢true}
 use Rattle.std.proofs.lemmas.List.{length-map}
 use Rattle.component_dto.specs.declared.description.Description.{Description}
@@ -9,7 +8,7 @@ use Rattle.level_order.specs.Levels.{AreLevels, level_from}
 use Rattle.component_state.specs.declared.component.Component.{Component}
 use Rattle.component_state.specs.declared.open_period.OpenPeriod.{OpenPeriod}
 use Rattle.component_state.specs.declared.pass.PassEnd.{PassEnd}
-use Rattle.component_state.specs.Components.{numbers_of, top, in_order_below}
+use Rattle.component_state.specs.Components.{numbers_of, top}
 use Rattle.component_state.specs.Passes.{Stage, in_order, out_of, satisfied_in, closing, opening_ones, opened_from, next_from, HasPassed, IsReady}
 use Rattle.component_state.specs.Periods.{is_open}
 use Rattle.component_state.specs.Reasons.{has_reason}
@@ -20,7 +19,7 @@ use Rattle.component_state.proofs.Decisions.{closes, opens}
 use Rattle.component_state.proofs.FinallyOpen.{held_final, open_decided, open_witness}
 use Rattle.component_state.proofs.FromScratch.{satisfied_stands}
 use Rattle.component_state.proofs.Numbers.{has_filtered, number_witness, has_number}
-use Rattle.component_state.proofs.OpenAfter.{open_so_far, IsOpenSoFar}
+use Rattle.component_state.proofs.OpenAfter.{begun_so_far, open_so_far, IsOpenSoFar}
 use Rattle.component_state.proofs.Order.{among_order, in_order_each, order_ordered}
 use Rattle.component_state.proofs.Reading.{ReadsAs, reads}
 use Rattle.component_state.proofs.Stability.{AreKnown, known_after}
@@ -69,11 +68,7 @@ module _ (s : Stage) (ready : IsReady s) where
   known = known_all s (in_order s) (begun s.next s.before) there known_before
 
   so_far : IsOpenSoFar s final
-  so_far = open_so_far s (in_order s) (begun s.next s.before) (record { are = sym (filter_all_kept s.before); new = λ o here. absurd here })
-    where
-      filter_all_kept : (before : List OpenPeriod) → filter (λ (o : OpenPeriod). not (has [] o.configuration)) before ++ [] ≡ before
-      filter_all_kept [] = refl
-      filter_all_kept (o ∷ os) = ap (λ w. o ∷ w) (filter_all_kept os)
+  so_far = open_so_far s (in_order s) (begun s.next s.before) (begun_so_far s)
 
   -- it is open in the end where it stands and isn't held back
   held : (c : Component) → Among (in_order s) c → is_open now c.number ≡ (stands now c && not (has (out_of s now) c.number))
@@ -82,7 +77,7 @@ module _ (s : Stage) (ready : IsReady s) where
   satisfied_are : satisfied_in s now ≡ numbers_of (filter (stands now) (in_order s))
   satisfied_are =
       ap numbers_of (satisfied_stands s.descriptions s.levels s.components ready.levels ready.numbered
-      (λ c here. contains_among s.descriptions c.description (ready.described c (among_contains s.components c here))) now (out_of s now) known (λ c here. held c (each c here)) (suc (top s.levels)))
+      (λ c here. contains_among s.descriptions c.description (ready.described c (among_contains s.components c here))) now (out_of s now) known (suc (top s.levels)) (λ c here low. held c (each c here)))
 
   is_satisfied : (c : Component) → Among (in_order s) c → has (satisfied_in s now) c.number ≡ stands now c
   is_satisfied c here = ap (λ w. has w c.number) satisfied_are ∙ has_filtered s.components (in_order s) ready.numbered there (stands now) c here
@@ -114,10 +109,10 @@ module _ (s : Stage) (ready : IsReady s) where
   from_scratch : (n : ℕ) → is_open now n ≡ (has final.satisfied n && not (has (out_of s now) n))
   from_scratch n = elim (cases_Bool (has (numbers_of s.components) n)) [
     | inl there' ↦ (let found = number_witness s.components n there' in
-      let here = each found.0 found.1 in
-      ap (is_open now) (sym found.2) ∙ held found.0 here
-      ∙ ap (λ b. b && not (has (out_of s now) found.0.number)) (sym (ap (λ w. has w found.0.number) read.satisfied ∙ has_filtered s.components (in_order s) ready.numbered there (stands now) found.0 here))
-      ∙ ap (λ m. has final.satisfied m && not (has (out_of s now) m)) found.2)
+        let here = each found.0 found.1 in
+        ap (is_open now) (sym found.2) ∙ held found.0 here
+        ∙ ap (λ b. b && not (has (out_of s now) found.0.number)) (sym (ap (λ w. has w found.0.number) read.satisfied ∙ has_filtered s.components (in_order s) ready.numbered there (stands now) found.0 here))
+        ∙ ap (λ m. has final.satisfied m && not (has (out_of s now) m)) found.2)
     | inr unknown ↦ unknown_closed n unknown ∙ ap (λ b. b && not (has (out_of s now) n)) (sym (ap (λ w. has w n) read.satisfied ∙ unknown_unsatisfied n unknown))
   ]
 

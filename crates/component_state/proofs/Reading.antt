@@ -1,34 +1,30 @@
 -- What a pass closed, opened and noted is judged by what is open in the end.
-use Rattle.std.proofs.Common.{inl, inr, ◌≡◌, ◌≤◌, ◌<◌, ℕ, List, [], ◌∷◌, ◌++◌, ap, sym, ◌∙◌, refl, cond, Bool, true, false, append-nil, append_assoc, ◌&&◌, ◌||◌, arith}
-use Rattle.std.specs.Prelude.{filter, fold, map, not, ◌==◌}
-use Rattle.std.specs.List.{Contains}
+use Rattle.std.proofs.Common.{inl, inr, ◌≡◌, ◌≤◌, ℕ, List, [], ◌∷◌, ◌++◌, ap, sym, ◌∙◌, refl, cond, Bool, true, false, append-nil, append_assoc, arith}
+use Rattle.std.specs.Prelude.{filter, fold}
 use Rattle.std.proofs.lemmas.Bool.{false_from_ne_true}
 use Rattle.journal_core.specs.declared.entry.Opened.{Opened}
-use Rattle.level_order.specs.Levels.{consumes, AreLevels, level_from}
-use Rattle.component_dto.specs.declared.description.Description.{Description}
+use Rattle.level_order.specs.Levels.{consumes}
 use Rattle.component_state.specs.declared.component.Component.{Component}
-use Rattle.component_state.specs.declared.open_period.OpenPeriod.{OpenPeriod}
 use Rattle.component_state.specs.declared.pass.PassEnd.{PassEnd}
-use Rattle.component_state.specs.Components.{numbers_of, are_numbered, rank}
+use Rattle.component_state.specs.Components.{numbers_of, rank}
 use Rattle.component_state.specs.Passes.{Stage, opened_one, opened_from, next_after, next_from, IsReady}
-use Rattle.component_state.specs.Periods.{is_open}
-use Rattle.component_state.specs.Runs.{step, stands, must_close, may_open, noted, with_closed, with_opened}
+use Rattle.component_state.specs.Runs.{step, stands}
 use Rattle.component_state.proofs.Among.{Among, among_contains, contains_among}
 use Rattle.component_state.proofs.Decisions.{OfferSame, step_cases, closes, opens, closes_same, opens_same, stands_same}
 use Rattle.component_state.proofs.Order.{Ordered, consumed_lower}
 use Rattle.component_state.proofs.Stability.{AreKnown, known_after, steps_offer}
 
 -- what one step closes, opens and notes
-step_closed : (s : Stage) (p : PassEnd) (c : Component) → (step s p c).closed ≡ cond (closes s p.«open» c) (p.closed ++ c.number ∷ []) p.closed
+pub step_closed : (s : Stage) (p : PassEnd) (c : Component) → (step s p c).closed ≡ cond (closes s p.«open» c) (p.closed ++ c.number ∷ []) p.closed
 step_closed s p c = step_cases s p c (λ q. q.closed ≡ cond (closes s p.«open» c) (p.closed ++ c.number ∷ []) p.closed) (λ was must. rw (was, must) refl) (λ was kept. rw (was, kept) refl) (λ was may. rw was refl) (λ was quiet. rw was refl)
 
-step_opened : (s : Stage) (p : PassEnd) (c : Component) → (step s p c).opened ≡ cond (opens s p.«open» c) (p.opened ++ opened_one p.next_service c ∷ []) p.opened
+pub step_opened : (s : Stage) (p : PassEnd) (c : Component) → (step s p c).opened ≡ cond (opens s p.«open» c) (p.opened ++ opened_one p.next_service c ∷ []) p.opened
 step_opened s p c = step_cases s p c (λ q. q.opened ≡ cond (opens s p.«open» c) (p.opened ++ opened_one p.next_service c ∷ []) p.opened) (λ was must. rw was refl) (λ was kept. rw was refl) (λ was may. rw (was, may) refl) (λ was quiet. rw (was, quiet) refl)
 
-step_next : (s : Stage) (p : PassEnd) (c : Component) → (step s p c).next_service ≡ cond (opens s p.«open» c) (next_after p.next_service c) p.next_service
+pub step_next : (s : Stage) (p : PassEnd) (c : Component) → (step s p c).next_service ≡ cond (opens s p.«open» c) (next_after p.next_service c) p.next_service
 step_next s p c = step_cases s p c (λ q. q.next_service ≡ cond (opens s p.«open» c) (next_after p.next_service c) p.next_service) (λ was must. rw was refl) (λ was kept. rw was refl) (λ was may. rw (was, may) refl) (λ was quiet. rw (was, quiet) refl)
 
-step_satisfied : (s : Stage) (p : PassEnd) (c : Component) → (step s p c).satisfied ≡ cond (stands p.«open» c) (p.satisfied ++ c.number ∷ []) p.satisfied
+pub step_satisfied : (s : Stage) (p : PassEnd) (c : Component) → (step s p c).satisfied ≡ cond (stands p.«open» c) (p.satisfied ++ c.number ∷ []) p.satisfied
 step_satisfied s p c = step_cases s p c (λ q. q.satisfied ≡ cond (stands p.«open» c) (p.satisfied ++ c.number ∷ []) p.satisfied) (λ was must. refl) (λ was kept. refl) (λ was may. refl) (λ was quiet. refl)
 
 -- the steps over these component configurations lead from one state to another, and decide as what is open in the end says
@@ -38,16 +34,16 @@ pub record ReadsAs (s : Stage) (p : PassEnd) (cs : List Component) (f : PassEnd)
   pub next : f.next_service ≡ next_from p.next_service (filter (opens s f.«open») cs)
   pub satisfied : f.satisfied ≡ p.satisfied ++ numbers_of (filter (stands f.«open») cs)
 
-numbers_more : (b : Bool) (before : List ℕ) (c : Component) (kept : List Component) → cond b (before ++ c.number ∷ []) before ++ numbers_of kept ≡ before ++ numbers_of (cond b (c ∷ kept) kept)
+pub numbers_more : (b : Bool) (before : List ℕ) (c : Component) (kept : List Component) → cond b (before ++ c.number ∷ []) before ++ numbers_of kept ≡ before ++ numbers_of (cond b (c ∷ kept) kept)
 numbers_more true before c kept = append_assoc before (c.number ∷ []) (numbers_of kept)
 numbers_more false before c kept = refl
 
-opened_more : (b : Bool) (before : List Opened) (next : ℕ) (c : Component) (kept : List Component)
+pub opened_more : (b : Bool) (before : List Opened) (next : ℕ) (c : Component) (kept : List Component)
     → cond b (before ++ opened_one next c ∷ []) before ++ opened_from (cond b (next_after next c) next) kept ≡ before ++ opened_from next (cond b (c ∷ kept) kept)
 opened_more true before next c kept = append_assoc before (opened_one next c ∷ []) (opened_from (next_after next c) kept)
 opened_more false before next c kept = refl
 
-next_more : (b : Bool) (next : ℕ) (c : Component) (kept : List Component) → next_from (cond b (next_after next c) next) kept ≡ next_from next (cond b (c ∷ kept) kept)
+pub next_more : (b : Bool) (next : ℕ) (c : Component) (kept : List Component) → next_from (cond b (next_after next c) next) kept ≡ next_from next (cond b (c ∷ kept) kept)
 next_more true next c kept = refl
 next_more false next c kept = refl
 
@@ -73,7 +69,7 @@ reads_more s p c cs f same rest = record {
 
 module _ (s : Stage) (ready : IsReady s) where
   -- what stands no lower isn't consumed
-  not_consumed : (c d : Component) → Among s.components d → rank s.descriptions s.levels c ≤ rank s.descriptions s.levels d → consumes c.description d.description ≡ false
+  pub not_consumed : (c d : Component) → Among s.components d → rank s.descriptions s.levels c ≤ rank s.descriptions s.levels d → consumes c.description d.description ≡ false
   not_consumed c d there low =
       false_from_ne_true (consumes c.description d.description)
       (λ uses. absurd (omega (

@@ -1,6 +1,6 @@
 -- A pass that goes up the levels changes nothing of what the references of those below can take.
-use Rattle.std.proofs.Common.{inl, inr, ◌≡◌, ℕ, List, [], ◌∷◌, ◌++◌, ap, sym, ◌∙◌, refl, Bool, true, false, append-nil, ◌&&◌}
-use Rattle.std.specs.Prelude.{filter, fold, map, not, ◌==◌}
+use Rattle.std.proofs.Common.{inl, inr, ◌≡◌, ℕ, List, [], ◌∷◌, ◌++◌, ap, sym, ◌∙◌, refl, true, false, append-nil, ◌&&◌}
+use Rattle.std.specs.Prelude.{filter, fold, not, ◌==◌}
 use Rattle.std.proofs.lemmas.Bool.{cases_Bool, eqb-true, false_from_ne_true, false≢true, and_right}
 use Rattle.std.proofs.lemmas.List.Elements.{filter-append}
 use Rattle.component_dto.specs.declared.description.Reference.{Reference}
@@ -9,10 +9,10 @@ use Rattle.level_order.specs.Levels.{consumes, provides}
 use Rattle.component_state.specs.declared.component.Component.{Component}
 use Rattle.component_state.specs.declared.open_period.OpenPeriod.{OpenPeriod}
 use Rattle.component_state.specs.declared.pass.PassEnd.{PassEnd}
-use Rattle.component_state.specs.Components.{numbers_of, interfaces_of, are_numbered}
+use Rattle.component_state.specs.Components.{interfaces_of, are_numbered}
 use Rattle.component_state.specs.Passes.{Stage, IsPeriodOf, opened_one}
 use Rattle.component_state.specs.Periods.{opened_at}
-use Rattle.component_state.specs.Runs.{step, noted, with_closed, with_opened}
+use Rattle.component_state.specs.Runs.{step}
 use Rattle.component_state.specs.Targets.{offers}
 use Rattle.component_state.proofs.Among.{Among, among_append, among_filter, filter_same, filter_none, filter_twice}
 use Rattle.component_state.proofs.Decisions.{OfferSame, step_cases}
@@ -45,7 +45,7 @@ known_after s p c there known =
     (λ was kept. known) (λ was may. known_more s.components p.«open» (fresh s p.next_service c) known (fresh_known s p.next_service c there)) (λ was quiet. known)
 
 -- a period of what isn't consumed offers nothing that is referenced
-not_offered : (cs : List Component) → are_numbered cs ≡ true → (c d : Component) → Among cs d → consumes c.description d.description ≡ false
+pub not_offered : (cs : List Component) → are_numbered cs ≡ true → (c d : Component) → Among cs d → consumes c.description d.description ≡ false
     → (r : Reference) → Among c.description.references r → (o : OpenPeriod) → IsPeriodOf cs o → o.configuration ≡ d.number → offers r.interface_name o ≡ false
 not_offered cs numbered c d there unused r here o of_one is =
     let interfaces = of_one.interfaces ∙ ap (interfaces_of cs) is ∙ interfaces_are cs numbered d there in

@@ -5,18 +5,26 @@
 mod component;
 mod life;
 mod marks;
+mod one_pass;
 mod open_period;
 mod pass;
 mod pass_order;
 mod pass_steps;
+#[cfg(test)]
+mod pass_tests;
 mod reasons;
+#[cfg(test)]
+mod samples;
 mod satisfaction;
 mod target_services;
+#[cfg(test)]
+mod tests;
 mod words;
 
 pub use component::{Component, interfaces_of, lives};
 pub use life::{Choice, Life, choice_at};
 pub use marks::failed_after;
+pub use one_pass::note_one_pass;
 pub use open_period::{OpenPeriod, is_current, is_open};
 pub use pass::{PassEnd, plain_pass};
 pub use target_services::{chosen, desired, targets};

@@ -1,8 +1,9 @@
 //! The steps of a pass, one component configuration after the other.
-ghost use Rattle.std.specs.Prelude.{◌≡◌, ◌++◌, ◌∷◌, ◌==◌, [], IfOk, OnOk, filter, map, not, if◌then◌else◌};
+ghost use Rattle.std.specs.Prelude.{◌≡◌, ◌++◌, ◌∷◌, ◌==◌, [], IfOk, OnOk, filter, map, not};
 ghost use Rattle.component_state.specs.declared.open_period.OpenPeriod.{OpenPeriod};
 ghost use Rattle.component_state.specs.Components.{is_silent};
-ghost use Rattle.component_state.specs.Passes.{next_after};
+ghost use Rattle.component_state.specs.Passes.{next_after, opened_one};
+ghost use Rattle.component_state.specs.Periods.{opened_at};
 ghost use Rattle.component_state.specs.Runs.{begun, closing_step, noted, opening_step, with_closed, with_opened};
 
 use crate::component::interfaces_of;
@@ -137,26 +138,11 @@ fn with_opened(
         satisfied,
         next_service,
     } = progress;
-    let configuration = component.number;
-    let service = service_of(component, next_service);
+    let one = opened_one(component, next_service);
+    let period = opened_at(alloc, place, components, &one)?;
     let next_service = next_after(component, next_service)?;
-    let interfaces = interfaces_of(alloc, components, configuration)?;
-    add(
-        &mut opened,
-        Opened {
-            configuration,
-            service,
-        },
-    )?;
-    add(
-        &mut open,
-        OpenPeriod {
-            configuration,
-            service,
-            opened: place,
-            interfaces,
-        },
-    )?;
+    add(&mut opened, one)?;
+    add(&mut open, period)?;
     Ok(PassEnd {
         closed,
         opened,
@@ -166,11 +152,32 @@ fn with_opened(
     })
 }
 
-// The number of its service: the next one, or 0 where it registers none.
-fn service_of(component: &Component, next: u64) -> u64
-    ensures { result ≡ (if is_silent component.now then 0 else next) }
+// It opens with the next service number, or with 0 where it registers no service.
+fn opened_one(component: &Component, next: u64) -> Opened
+    ensures { result ≡ opened_one next component.now }
 {
-    if is_silent(component) { 0 } else { next }
+    let service = if is_silent(component) { 0 } else { next };
+    Opened {
+        configuration: component.number,
+        service,
+    }
+}
+
+// The period that an entry at a place opens.
+fn opened_at(
+    alloc: Global,
+    place: u64,
+    components: &[Component],
+    opened: &Opened,
+) -> Result<OpenPeriod, OutOfMemory>
+    ensures { IfOk result (λ o. o ≡ opened_at place components.now opened.now) }
+{
+    Ok(OpenPeriod {
+        configuration: opened.configuration,
+        service: opened.service,
+        opened: place,
+        interfaces: interfaces_of(alloc, components, opened.configuration)?,
+    })
 }
 
 // The number of the next service after it. Where no number is left, that counts as want of memory.

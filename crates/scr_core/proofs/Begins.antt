@@ -11,7 +11,7 @@ use Rattle.callback_orders.specs.declared.instance_view.Key.{Key}
 use Rattle.callback_orders.specs.declared.instance_view.ReferenceView.{ReferenceView}
 use Rattle.callback_orders.specs.Due.{due_of}
 use Rattle.callback_orders.specs.Lives.{IsViewOf, MayComeNext, callback_of, held_for}
-use Rattle.callback_orders.proofs.DueLemmas.{due_may_come}
+use Rattle.callback_orders.proofs.DueLemmas.{due_may_come, holding_from_same}
 use Rattle.component_dto.specs.declared.description.Reference.{Reference}
 use Rattle.component_state.specs.declared.component.Component.{Component}
 use Rattle.component_state.specs.declared.life.Choice.{Choice}
@@ -70,7 +70,7 @@ module _ (limit : ℕ) (w : World) (sound : IsSound limit w) where
   its_view i h = record {
     phase = refl;
     outstanding = refl;
-    held = held_as_told w i 0 (references_of w.components i.life.configuration);
+    held = holding_from_same i.word (map (reference_view w i) (with_places 0 (references_of w.components i.life.configuration))) (names_of w.components i.life.configuration) (held_as_told w i 0 (references_of w.components i.life.configuration));
     spoken = (sound.instances i h).spoken;
   }
 

@@ -1,4 +1,4 @@
-use Rattle.std.proofs.Common.{◌≡◌, ◌∙◌, ℕ, ◌<◌, length, ap, sym, true, Bool, ◌||◌, ◌+◌, drop}
+use Rattle.std.proofs.Common.{◌∙◌, ℕ, ap, sym, ◌||◌, ◌+◌, drop}
 use Rattle.std.specs.Prelude.{◌&&◌}
 use Rattle.std.specs.List.{list_any}
 use Rattle.std.proofs.lemmas.Bool.{or_left}

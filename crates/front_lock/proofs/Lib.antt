@@ -1,0 +1,10 @@
+pub mod Histories
+pub mod Views
+pub mod Unchanged
+pub mod Tickets
+pub mod Returns
+pub mod Splits
+pub mod Joins
+pub mod Ends
+pub mod Turns
+pub mod Slots

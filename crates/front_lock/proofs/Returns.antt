@@ -1,0 +1,114 @@
+-- The value comes back, and the next ticket is served.
+use Rattle.std.proofs.Common.{◌≡◌, ◌≢◌, ℕ, ◌+◌, ◌<◌, ◌≤◌, Bool, List, [], ◌∷◌, ◌++◌, set, refl, sym, ap, ◌∙◌, subst, inl, arith}
+use mathlib.Core.Option.{some, none, some-injective, some-ne-none}
+use mathlib.Core.Option as maybe
+use lib.ListN.{get_elem?}
+use Rattle.std.specs.Prelude.{Option, Some}
+use Rattle.atomic_table.specs.Table.{State, Me, step, gives, stepped, Allows}
+use Rattle.atomic_table.proofs.Lists.{set_here}
+use Rattle.front_lock.specs.Histories.{In, Owners, Extends, GrownBy}
+use Rattle.front_lock.specs.declared.rule.FrontView.{FrontView}
+use Rattle.front_lock.specs.declared.rule.Stage.{Stage}
+use Rattle.front_lock.specs.declared.rule.Stage.TheVariants.{Idle, Waits, Holds}
+use Rattle.front_lock.specs.Passes.{known, at_stage, names}
+use Rattle.front_lock.specs.Rule.{HasTicket, Staged, Fits, Kept}
+use Rattle.front_lock.specs.Steps.{GaveBack, PutBack}
+use Rattle.front_lock.proofs.Histories.{owners_map, owners_append, in_joined, own_named, own_once, extends_more, extends_all, ended_more}
+use Rattle.front_lock.proofs.Views.{parts_at, there, each_set}
+use Rattle.front_lock.proofs.Unchanged.{apart_on, turns_mid, whole', owners'}
+
+module _ {T E : Type 0} (entries : T → List (ℕ × E)) (tie : T → List ℕ) where
+  abbrev St : Type 0
+  St = State (Option T) (FrontView E)
+
+  abbrev M : Type 0
+  M = Me (Option T) (FrontView E)
+
+  -- the value comes back, with further entries of the pass
+  returned : (s : St) (r : Kept entries tie s) (id : ℕ) (v : FrontView E) (more : List (ℕ × Option T)) (x : T) (t : ℕ) (fresh : Bool) (l : List (ℕ × E)) (ns : List ℕ) (also seen : List (ℕ × E)) (n : ℕ)
+      → get_elem? s.views id ≡ some v → v.stage ≡ Holds t fresh l ns also → 0 < v.parts → v.own ≡ Some n → GrownBy n l (entries x) → Extends (names v) seen (entries x) → tie x ≡ v.tie
+      → Kept entries tie (stepped s 1 (t + 1) id ((0, Some x) ∷ more) (known v.tie v.parts v.own v.joined seen Idle) gives)
+  returned s r id v more x t fresh l ns also seen n at holding some_part own grown ext tied_x =
+      let mine : In n (names v) = own_named v.own v.joined n own in
+      let w : FrontView E = known v.tie v.parts v.own v.joined seen Idle in
+      let f = r.each id v at in
+      let st : Staged r.next r.serving r.top r.log s.homes (Holds t fresh l ns also) = subst (Staged r.next r.serving r.top r.log s.homes) holding f.staged in
+      let served : t ≡ r.serving = st.0 in let near : t < r.next = st.1 in let b = r.top_near in
+      let has : HasTicket t v.stage = subst (HasTicket t) (sym holding) refl in
+      let grown' : GrownBy n r.log (entries x) = subst (λ (z : List (ℕ × E)). GrownBy n z (entries x)) st.2 grown in
+      let back : List (maybe.Option (Option T)) = set s.homes 0 (some (Some x)) in
+      let back_is : back ≡ some (Some x) ∷ [] = ap (λ (h : List (maybe.Option (Option T))). set h 0 (some (Some x))) st.4 in
+      record {
+        next = r.next;
+        serving = t + 1;
+        top = r.top;
+        log = entries x;
+        tied = r.tied;
+        words = ap (λ (z : List ℕ). set z 1 (t + 1)) r.words;
+        order = omega arith;
+        small = r.small;
+        top_near = omega arith;
+        each = each_set s.views id v w at (Fits r.next (t + 1) r.top (entries x) back r.tied)
+            (λ j u other e. let fu = r.each j u e in record {
+              tie = fu.tie;
+              spent = fu.spent;
+              extends = extends_more (names u) n u.seen r.log (entries x) (λ h. other (r.apart j id u v e at n h mine)) grown' fu.extends;
+              ended = ended_more u.joined n r.log (entries x) (λ h. other (r.apart j id u v e at n (in_joined u.own u.joined n h) mine)) grown' fu.ended;
+              distinct = fu.distinct;
+              below = fu.below;
+              staged = passes r.next r.serving r.top r.log (entries x) s.homes back t served u.stage (λ h. other (r.turns j id u v e at t h has)) fu.staged;
+            })
+            record { tie = f.tie; spent = λ none. absurd (omega arith); extends = ext; ended = ended_more v.joined n r.log (entries x) (own_once v.own v.joined n own f.distinct) grown' f.ended; distinct = f.distinct; below = f.below; staged = tt };
+        apart = apart_on entries tie s r id v w at refl;
+        turns = turns_mid entries tie s r id v w at (λ k u z other e p q. absurd p);
+        place = inl (x, back_is, refl, (let b' : r.top ≤ t + 1 = omega arith in b'), tied_x ∙ f.tie some_part);
+        whole = whole' entries tie s r id v w at refl refl;
+        owners = subst (Owners (Owned_now (set s.views id w))) (sym grown'.is)
+            (owners_append (Owned_now (set s.views id w)) r.log grown'.added (owners' entries tie s r id v w at refl refl)
+            (owners_map (λ m. m ≡ n) (Owned_now (set s.views id w)) grown'.added (λ m is. (id, w, set_here s.views id w (there s.views id v at), subst (λ k. In k (names v)) (sym is) mine)) grown'.owned));
+      }
+    where
+      Owned_now : List (FrontView E) → ℕ → Type 0
+      Owned_now views m = (j : ℕ) × (u : FrontView E) × (get_elem? views j ≡ some u) × In m (names u)
+
+      passes : (next serving top : ℕ) (log log' : List (ℕ × E)) (homes back : List (maybe.Option (Option T))) (t : ℕ) → t ≡ serving → (st : Stage E) → ¬ HasTicket t st → Staged next serving top log homes st → Staged next (t + 1) top log' back st
+      passes next serving top log log' homes back t served Idle not h = tt
+      passes next serving top log log' homes back t served (Waits u) not h = let a = h.0 in let other : t ≢ u = not in (omega arith, h.1)
+      passes next serving top log log' homes back t served (Holds u fresh l ns also) not h = absurd (not (served ∙ sym h.0))
+
+  pub gives_back : (slots id : ℕ) (v : FrontView E) (more : List (ℕ × Option T)) (x : T) (t : ℕ) (fresh : Bool) (l : List (ℕ × E)) (ns : List ℕ) (also : List (ℕ × E)) (n : ℕ)
+      → v.stage ≡ Holds t fresh l ns also → 0 < v.parts → v.own ≡ Some n → GrownBy n l (entries x) → tie x ≡ v.tie
+      → Allows (Kept entries tie) slots id (v, (0, Some x) ∷ more) 1 (λ _. t + 1) (λ _. GaveBack entries tie (step slots 1 (t + 1) 0 none) (v, (0, Some x) ∷ more) (t + 1))
+  gives_back slots id v more x t fresh l ns also n holding some_part own grown tied_x s r wide at fits = (
+    known v.tie v.parts v.own v.joined (entries x) Idle,
+    gives,
+    tt,
+    returned s r id v more x t fresh l ns also (entries x) n at holding some_part own grown (extends_all (names v) (entries x)) tied_x,
+    λ y e. ap (λ (z : T). (known v.tie v.parts v.own v.joined (entries z) Idle, more)) (one x y more e),
+  )
+    where
+      one : (x y : T) (more : List (ℕ × Option T)) → (0, Some x) ∷ more ≡ (0, Some y) ∷ more → x ≡ y
+      one x y more e = let a : (let p : ℕ × Option T = (0, Some x) in p ≡ (0, Some y)) = cc in let b : Some x ≡ Some y = ap (λ (p : ℕ × Option T). p.1) a in cc
+
+  pub puts_back : (slots id : ℕ) (v : FrontView E) (more : List (ℕ × Option T)) (x : T) (t : ℕ) (fresh : Bool) (l : List (ℕ × E)) (ns : List ℕ) (also : List (ℕ × E)) (n : ℕ)
+      → v.stage ≡ Holds t fresh l ns also → 0 < v.parts → v.own ≡ Some n → entries x ≡ l → tie x ≡ v.tie
+      → Allows (Kept entries tie) slots id (v, (0, Some x) ∷ more) 1 (λ _. t + 1) (λ _. PutBack entries tie (step slots 1 (t + 1) 0 none) (v, (0, Some x) ∷ more) (t + 1))
+  puts_back slots id v more x t fresh l ns also n holding some_part own same tied_x s r wide at fits =
+      let f = r.each id v at in
+      let st : Staged r.next r.serving r.top r.log s.homes (Holds t fresh l ns also) = subst (Staged r.next r.serving r.top r.log s.homes) holding f.staged in (
+        at_stage v Idle,
+        gives,
+        tt,
+        returned s r id v more x t fresh l ns also v.seen n at holding some_part own record { added = []; is = same ∙ nil l; owned = tt } (subst (Extends (names v) v.seen) (sym (same ∙ st.2)) f.extends) tied_x,
+        (
+          refl,
+          λ u fresh' l' ns' also' e. let st' : Staged r.next r.serving r.top r.log s.homes (Holds u fresh' l' ns' also') = subst (Staged r.next r.serving r.top r.log s.homes) e f.staged in
+              (subst (Extends ns' also') (sym st'.2) st'.5, subst (Extends (names v) v.seen) (sym st'.2) f.extends),
+          (let p = parts_at s.views id v at in let w = r.whole in omega arith),
+          f.distinct,
+        ),
+      )
+    where
+      nil : (l : List (ℕ × E)) → l ≡ l ++ []
+      nil [] = refl
+      nil (y ∷ ys) = ap (λ z. y ∷ z) (nil ys)
