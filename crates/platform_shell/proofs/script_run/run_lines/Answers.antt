@@ -1,10 +1,11 @@
-use Rattle.std.proofs.Common.{◌≡◌, ◌∙◌, ap, sym, subst, arith, inl, inr}
+use Rattle.std.proofs.Common.{◌≡◌, ◌∙◌, ap, sym, subst, arith, inl, inr, Err}
 use Rattle.std.specs.String.{string_bytes}
 use Rattle.std.proofs.KnownBytes.{Appends-nil}
 use Rattle.scr_core.specs.declared.command.Limits.{Limits}
+use Rattle.platform_shell.specs.declared.reply_text.NoReply.{NoReply}
 use Rattle.platform_shell.specs.declared.status.Status.TheVariants.{JournalFull, NoMemory, ReadFault, WriteFault}
 use Rattle.platform_shell.specs.Reading.{coming}
-use Rattle.platform_shell.specs.Runs.{Entries, FindsNoRoom, HasRunOver}
+use Rattle.platform_shell.specs.Runs.{Entries, FindsNoRoom, HasRunOver, RunsAsked}
 use Rattle.platform_shell.specs.ShellLines.{shell_line, is_quit}
 use Rattle.platform_shell.proofs.CommandLemmas.{asks_same}
 use Rattle.platform_shell.proofs.Progress.{not_quit, progress_line, run_ends_here, run_ends_long, run_meets_full, run_quits, run_stops, run_stops_in_line}
@@ -35,7 +36,8 @@ returns-in-Quit-clause-run g c =
 pub returns-in-Err-JournalFull : goal.returns-in-Err-JournalFull
 returns-in-Err-JournalFull g c =
     let asked : c.in-Ok.asked ≡ shell_line c.in-Line.line = c.in-Ok.ensures ∙ ap shell_line c.as_slice.ensures in
-    let refused = c.in-Err-JournalFull.ensures.asked in
+    let R : NoReply → Type 0 = λ why. RunsAsked c.loop-line.platform.limits.journal c.in-Ok.asked c.loop-line.platform.journal (Err why) c.run_asked.new.platform.journal in
+    let refused = subst R c.in-Err-JournalFull.field-0-is c.in-Err-JournalFull.ensures.asked in
     let P : Entries → Type 0 = λ after. HasRunOver c.args.platform.now.limits.journal (g.In.Source.left c.args.input.now) c.args.platform.now.journal after (g.Out.Sink.written c.args.output.now) (g.Out.Sink.written c.loop-line.output) JournalFull in
     let L : Limits → Type 0 = λ limits. FindsNoRoom limits.journal c.loop-line.platform.journal refused.0 in
     record {
@@ -48,8 +50,9 @@ pub returns-in-Err-OutOfMemory : goal.returns-in-Err-OutOfMemory
 returns-in-Err-OutOfMemory g c =
     let asked : c.in-Ok.asked ≡ shell_line c.in-Line.line = c.in-Ok.ensures ∙ ap shell_line c.as_slice.ensures in
     let other = ap is_quit (sym asked) ∙ not_quit c.in-Ok.asked c.in_default.not-Quit in
+    let R : NoReply → Type 0 = λ why. RunsAsked c.loop-line.platform.limits.journal c.in-Ok.asked c.loop-line.platform.journal (Err why) c.run_asked.new.platform.journal in
     record {
-      run = elim c.in-Err-OutOfMemory.ensures.asked [
+      run = elim (subst R c.in-Err-OutOfMemory.field-0-is c.in-Err-OutOfMemory.ensures.asked) [
         | inl same ↦ (let P : Entries → Type 0 = λ after. HasRunOver c.args.platform.now.limits.journal (g.In.Source.left c.args.input.now) c.args.platform.now.journal after (g.Out.Sink.written c.args.output.now) (g.Out.Sink.written c.loop-line.output) NoMemory in
             subst P (sym same) (run_stops c.loop-line.invariant.progress NoMemory (λ e. e) (λ e. cc)))
         | inr ran ↦ run_stops_in_line c.loop-line.invariant.progress (coming c.next_line.new.ahead.ended (g.In.Source.left c.next_line.new.input)) c.next_line.new.ahead.bytes.items c.run_asked.new.platform.journal (g.Out.Sink.written c.loop-line.output) c.in-Line.line ran.0 ran.1 NoMemory 0 (λ e. e) (λ e. cc)
