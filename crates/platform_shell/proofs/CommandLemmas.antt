@@ -1,8 +1,7 @@
 -- Lemmas on commands and what they answer.
-use Rattle.std.proofs.Common.{◌≡◌, ◌≢◌, ℕ, List, Bool, true, false, not, ◌&&◌, refl, sym, ap, ◌∙◌, subst, None, Some, Result, Ok, Err, inl, IfOk, is_none}
+use Rattle.std.proofs.Common.{◌≡◌, ◌≢◌, ℕ, List, Bool, true, false, not, ◌&&◌, refl, sym, ap, ◌∙◌, subst, None, Some, Result, Ok, Err, inl, is_none}
 use Rattle.std.specs.declared.option.Option.{Option}
 use Rattle.std.specs.declared.alloc.Global.{Global}
-use Rattle.std.specs.declared.alloc.AllocError.{AllocError}
 use Rattle.std.specs.Option.{option_map_or, option_or}
 use Rattle.std.specs.Prelude.{String, string_bytes}
 use Rattle.scr_core.specs.declared.command.Command.{Command}

@@ -1,5 +1,5 @@
 -- A run over the lines of an input: the journal and the text that it makes. Our own form.
-use Rattle.std.specs.Prelude.{◌≡◌, ◌≢◌, ℕ, List, [], ◌∷◌, ◌++◌, map, take, ◌||◌, Bool, true, not, Option, Result, Ok, Err, ◌⊎◌, String, string_bytes, if◌then◌else◌}
+use Rattle.std.specs.Prelude.{◌≡◌, ℕ, List, [], ◌∷◌, ◌++◌, map, take, ◌||◌, Bool, true, not, Option, Result, Ok, Err, ◌⊎◌, String, string_bytes, if◌then◌else◌}
 use Rattle.std.specs.List.{list_all}
 use Rattle.std.specs.declared.alloc.Global.{Global}
 use Rattle.std.specs.Io.KnownBytes.{Appends}

@@ -98,11 +98,7 @@ fn run_lines<In: Source, Out: Sink>(
 }
 
 // Runs what a line asks, and answers the text of its reply.
-fn run_asked(
-    alloc: Global,
-    platform: &mut Platform,
-    asked: ShellLine,
-) -> Result<String, NoReply>
+fn run_asked(alloc: Global, platform: &mut Platform, asked: ShellLine) -> Result<String, NoReply>
     ensures asked { RunsAsked platform.old.limits.journal asked platform.old.journal result platform.new.journal }
     ensures limits { platform.new.limits ≡ platform.old.limits }
 {
@@ -121,11 +117,7 @@ fn run_components(alloc: Global, platform: &Platform) -> Result<String, OutOfMem
     components_text(alloc, rows.as_slice())
 }
 
-fn run_command(
-    alloc: Global,
-    platform: &mut Platform,
-    command: Command,
-) -> Result<String, NoReply>
+fn run_command(alloc: Global, platform: &mut Platform, command: Command) -> Result<String, NoReply>
     ensures asked { RunsAsked platform.old.limits.journal (ShellLine.Command command) platform.old.journal result platform.new.journal }
     ensures limits { platform.new.limits ≡ platform.old.limits }
 {

@@ -140,6 +140,9 @@ fn a_full_journal_still_answers_what_needs_no_room(rt: HostRuntime) -> Result<()
     let mut output = sink(alloc, 100, &[])?;
     let status = run_within(alloc, 2, &["script"], &mut input, &mut output)?;
     assert_eq!(rt; status, Status::Done);
-    assert_eq!(rt; output.written(), b"ok bundle 1\nok\nok bundle 1\nok\nrefused NoBundle 7\nok 0\n".as_slice());
+    assert_eq!(rt;
+        output.written(),
+        b"ok bundle 1\nok\nok bundle 1\nok\nrefused NoBundle 7\nok 0\n".as_slice()
+    );
     Ok(())
 }
