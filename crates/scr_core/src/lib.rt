@@ -21,6 +21,8 @@ mod plan;
 mod platform_core;
 mod room;
 mod tables;
+#[cfg(test)]
+mod tests;
 mod turn;
 mod turn_growth;
 mod turn_steps;
