@@ -16,7 +16,7 @@ use Rattle.callback_orders.specs.Lives.{held_for, phase_of}
 use Rattle.callback_orders.specs.References.{is_held, is_desired, holds_all, desires_all, differs, to_bind}
 use Rattle.component_dto.specs.declared.description.Reference.{Reference}
 use Rattle.component_dto.specs.TextLists.{has_text}
-use Rattle.component_dto.proofs.TextListLemmas.{list_any-map}
+use Rattle.component_dto.proofs.TextListLemmas.{any_mapped}
 use Rattle.level_order.specs.Levels.{provides}
 use Rattle.component_state.specs.declared.component.Component.{Component}
 use Rattle.component_state.specs.declared.open_period.OpenPeriod.{OpenPeriod}
@@ -147,7 +147,7 @@ module _ (limit : ℕ) (w : World) (rest : IsAtRest limit w) where
         let wish : ℕ → Wish = λ n. record { service = n; ready = is_ready w.instances n } in
         let test = λ (x : Wish). x.ready && not (is_held v x.service) in
         let found : find test (map wish (s ∷ [])) ≡ None = ap (λ ns. find test (map wish ns)) (sym want.desired) ∙ none_of (λ (x : Wish). x.service) (find test v.desired) none in
-        sym (list_any-map (λ (x : HeldService). x.service == s) (λ n. record { service = n; changed = false }) (held_for r.1.name i.word))
+        sym (any_mapped (λ (x : HeldService). x.service == s) (λ n. record { service = n; changed = false }) (held_for r.1.name i.word))
         ∙ held_if (is_ready w.instances s) (is_held v s) (wish s) found ready
 
     -- what is held was chosen
@@ -159,7 +159,7 @@ module _ (limit : ℕ) (w : World) (rest : IsAtRest limit w) where
     agrees want held =
         let v = reference_view w i r in
         let wish : ℕ → Wish = λ n. record { service = n; ready = is_ready w.instances n } in
-        let service_held : is_held v want.service ≡ true = list_any-map (λ (x : HeldService). x.service == want.service) (λ n. record { service = n; changed = false }) (held_for r.1.name i.word) ∙ held in
+        let service_held : is_held v want.service ≡ true = any_mapped (λ (x : HeldService). x.service == want.service) (λ n. record { service = n; changed = false }) (held_for r.1.name i.word) ∙ held in
         let all_held : holds_all v ≡ true =
         ap (λ ns. list_all (λ (x : Wish). is_held v x.service) (map wish ns)) want.desired ∙ and_from (is_held v want.service) true service_held refl in
         let all_desired : desires_all v ≡ true = all_from (λ (x : HeldService). is_desired v x.service) v.held (λ x in_x.

@@ -19,7 +19,7 @@ use Rattle.callback_orders.specs.References.{is_desired}
 use Rattle.callback_orders.specs.Sequences.{begun, ended}
 use Rattle.callback_orders.proofs.HeldLemmas.{text_is, text_same}
 use Rattle.component_dto.specs.declared.description.Reference.{Reference}
-use Rattle.component_dto.proofs.TextListLemmas.{list_any-map}
+use Rattle.component_dto.proofs.TextListLemmas.{any_mapped}
 use Rattle.component_state.specs.Reasons.{choice_at}
 use Rattle.component_state.specs.Targets.{desired, desired_by, is_multiple, is_static, targets}
 use Rattle.component_state.specs.Words.{has, with_places}
@@ -104,7 +104,7 @@ desires_choice w i r static goes_on =
     ∙ static_desires r.1.policy r.1.policy_option (is_multiple r.1.cardinality) choice (held_for r.1.name i.word) (targets r.1 w.open_ones) static
 
 pub desires_among : (w : World) (i : Instance) (r : ℕ × Reference) (s : ℕ) → is_desired (reference_view w i r) s ≡ has (desired_for w i r.0 r.1) s
-desires_among w i r s = list_any-map (λ (x : Wish). x.service == s) (λ n. record { service = n; ready = is_ready w.instances n }) (desired_for w i r.0 r.1)
+desires_among w i r s = any_mapped (λ (x : Wish). x.service == s) (λ n. record { service = n; ready = is_ready w.instances n }) (desired_for w i r.0 r.1)
 
 desired_chosen : (w : World) (i : Instance) (r : ℕ × Reference) (s : ℕ) → is_static r.1.policy ≡ true → is_desired (reference_view w i r) s ≡ true → has (choice_at i.life.chosen r.0) s ≡ true
 desired_chosen w i r s static wanted = elim (cases_Bool (is_ending w.open_ones i)) [

@@ -6,7 +6,7 @@ use Rattle.std.proofs.lemmas.Bool.{eqb-true, eq-eqb, ne_eqb, and_parts, and_from
 use Rattle.std.proofs.lemmas.List.Sums.{sum_by-cons}
 use Rattle.std.proofs.lemmas.List.Elements.{Contains-append_left, Contains-append_right, Contains-append_cases}
 use Rattle.std.proofs.lemmas.List.Folds.{list_any_at, Any-from_list_any}
-use Rattle.component_dto.proofs.TextListLemmas.{list_any-map}
+use Rattle.component_dto.proofs.TextListLemmas.{any_mapped}
 use Rattle.component_state.specs.Words.{has}
 
 module _ {X : Type 0} where
@@ -101,11 +101,11 @@ in_has ns n is = let found = any_to (λ m. m == n) ns is in subst (λ (m : ℕ).
 
 module _ {X : Type 0} (f : X → ℕ) where
   pub has_from : (xs : List X) (x : X) (n : ℕ) → Contains xs x → f x ≡ n → has (map f xs) n ≡ true
-  has_from xs x n h is = list_any-map (λ m. m == n) f xs ∙ any_from (λ y. f y == n) xs x h (eq-eqb (f x) n is)
+  has_from xs x n h is = any_mapped (λ m. m == n) f xs ∙ any_from (λ y. f y == n) xs x h (eq-eqb (f x) n is)
 
   pub has_to : (xs : List X) (n : ℕ) → has (map f xs) n ≡ true → (x : X) × Contains xs x × (f x ≡ n)
   has_to xs n is =
-      let found = any_to (λ y. f y == n) xs (sym (list_any-map (λ m. m == n) f xs) ∙ is) in
+      let found = any_to (λ y. f y == n) xs (sym (any_mapped (λ m. m == n) f xs) ∙ is) in
       (found.0, found.1, eqb-true (f found.0) n found.2)
 
   -- each item has a number of its own

@@ -117,6 +117,7 @@ fn run_turn(
     core: &mut Core,
     outcome: Outcome,
 ) -> Result<Option<(Callback, Ended)>, CoreFault> {
+    core.note_legal();
     match core.take_turn(rt.alloc())? {
         Taken::Idle => Ok(None),
         Taken::Turn(turn, work) => match core.done(rt.alloc(), turn, outcome) {
