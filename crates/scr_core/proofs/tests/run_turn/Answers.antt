@@ -1,0 +1,16 @@
+use Rattle.std.proofs.Common.{◌≡◌, ℕ, Ok, sym, subst, true}
+use Rattle.std.specs.Prelude.{Result}
+use Rattle.scr_core.specs.Calls.{TakesTurn, world_at}
+use Rattle.scr_core.specs.Legal.{is_under_way}
+use Rattle.scr_core.specs.declared.command.CoreFault.{CoreFault}
+use Rattle.scr_core.specs.declared.turn.Taken.{Taken}
+use Rattle.scr_core.proofs.UnderWay.{taken_under_way}
+use Rattle.scr_core.proofs.tests.run_turn.Goals as goal
+
+pub done-requires : goal.done-requires
+done-requires c =
+    let limit = c.args.core.now.limits.journal in
+    let before = c.args.core.now.journal in
+    let after = c.take_turn.new.self.journal in
+    let taken = subst (λ (t : Taken). TakesTurn limit before (Ok t) after) c.in-Turn.is c.in_ok-take_turn.ensures.answer in
+    subst (λ (n : ℕ). is_under_way (world_at after) n ≡ true) (sym taken.0) (taken_under_way limit before after c.in-Turn.work c.note_legal.ensures taken.1)
