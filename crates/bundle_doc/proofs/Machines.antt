@@ -1,16 +1,14 @@
 -- The functions that stand for versions and clauses are what their grammars say.
-use Rattle.std.proofs.Common.{◌≡◌, ◌↔◌, refl, sym, ap, ◌∙◌, subst, ℕ, zero, suc, ◌+◌, ◌<◌, ◌≤◌, List, [], ◌∷◌, length, take, get_or, Option, Some, None, Result, Ok, Err, arith, inl, inr}
+use Rattle.std.proofs.Common.{◌≡◌, ◌↔◌, refl, sym, ap, ◌∙◌, subst, ℕ, suc, ◌<◌, ◌≤◌, List, [], ◌∷◌, length, take, get_or, Option, Some, None, Ok, Err, arith, inl, inr}
 use Rattle.std.specs.Prelude.{◌⊎◌, option_and_then}
-use Rattle.std.proofs.lemmas.Bool.{cases_lt}
 use Rattle.std.proofs.lemmas.List.{take_all}
-use Rattle.bundle_headers.specs.Clauses.{ReadsClauses, SpellsClauses}
+use Rattle.bundle_headers.specs.Clauses.{SpellsClauses}
 use Rattle.bundle_headers.specs.declared.clauses.Clauses.{Clauses}
 use Rattle.bundle_headers.proofs.ClauseReader.{clauses_reader}
 use Rattle.osgi_version.specs.Readings.{IsBadAt, IsRead, ReadsAs, run}
 use Rattle.osgi_version.specs.Versions.{SpellsVersion}
 use Rattle.osgi_version.specs.VersionSteps.{version_at_end, version_step}
 use Rattle.osgi_version.specs.VersionStart.{version_start}
-use Rattle.osgi_version.specs.declared.fault.VersionFault.{VersionFault}
 use Rattle.osgi_version.specs.declared.fault.VersionFault.TheVariants.{BadVersion}
 use Rattle.osgi_version.specs.declared.version.Version.{Version}
 use Rattle.osgi_version.proofs.Readers.{IsReader, bad_at_end, bad_in, reads}

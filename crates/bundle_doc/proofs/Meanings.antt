@@ -1,5 +1,5 @@
 -- From the meaning of JSON to that of bytes.
-use Rattle.std.proofs.Common.{◌≡◌, ℕ, List, ap, sym, refl, subst, Bool, true, false, Result, Ok, Err, Option, Some, None}
+use Rattle.std.proofs.Common.{◌≡◌, ℕ, List, ap, sym, refl, subst, Bool, true, false, Result, Err, Option, Some, None}
 use Rattle.std.specs.Str.{IsUtf8, is_utf8}
 use Rattle.std.proofs.lemmas.Str.{is_utf8-from_IsUtf8, IsUtf8-from_is_utf8}
 use Rattle.serde_json.specs.Data.{Data}

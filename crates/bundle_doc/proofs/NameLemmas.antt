@@ -1,7 +1,7 @@
 -- Texts that are cut at one byte after another.
-use Rattle.std.proofs.Common.{◌≡◌, refl, sym, ap, ◌∙◌, ℕ, zero, suc, ◌+◌, ◌<◌, ◌≤◌, List, [], ◌∷◌, Bool, true, false, not, cond, eqb, ◌||◌, length, take, drop, arith, ◌-◌, Option, Some, None, Bor, length-drop}
+use Rattle.std.proofs.Common.{◌≡◌, refl, sym, ap, ◌∙◌, ℕ, suc, ◌+◌, ◌<◌, ◌≤◌, List, [], ◌∷◌, Bool, true, false, cond, eqb, ◌||◌, length, take, drop, arith, ◌-◌, Option, Some, None, Bor, length-drop}
 use Rattle.std.specs.Prelude.{MatchOption}
-use Rattle.std.specs.List.{after_first, before_first, position_or_len, prefix_len}
+use Rattle.std.specs.List.{after_first, before_first, position_or_len}
 use Rattle.bundle_doc.specs.Names.{has_byte, last_part, onto, parted}
 
 -- where the first place of a byte is

@@ -1,5 +1,5 @@
 -- Where a target ceases to be a filter: there is one such place, and the machine finds it.
-use Rattle.std.proofs.Common.{◌≡◌, refl, sym, ap, ◌∙◌, subst, ℕ, zero, suc, ◌+◌, ◌<◌, ◌≤◌, List, [], ◌∷◌, ◌++◌, Bool, true, false, cond, Option, Some, None, length, take, arith, inl, inr, ◌&&◌, not}
+use Rattle.std.proofs.Common.{◌≡◌, refl, sym, ap, ◌∙◌, subst, ℕ, zero, suc, ◌+◌, ◌<◌, ◌≤◌, List, [], ◌∷◌, ◌++◌, Bool, true, false, cond, Option, Some, None, length, take, arith, inl, inr, ◌&&◌}
 use Rattle.std.specs.Prelude.{is_some, nat_le, option_map, slice_get, encode_utf8}
 use Rattle.std.specs.Bool.{OnTrue}
 use Rattle.std.proofs.lemmas.Bool.{cases_lt, lt-ltb, leb-true, leb-false}
@@ -11,7 +11,7 @@ use Rattle.ldap_filter.specs.Parsing.{IsTreeOf}
 use Rattle.ldap_filter.specs.Machine.{Frame, Mode, State, Wanted, accepted, step}
 use Rattle.ldap_filter.specs.Reading.{opens, read_char, wide}
 use Rattle.ldap_filter.proofs.SoFar.{SoFar, bad_byte, bad_end, opens_bracket, so_far_byte, so_far_start, too_deep, tree_read}
-use Rattle.component_dto.specs.Targets.{HasPlace, IsNoTargetAt, IsTarget, bad_place, bad_target, stop_at, stop_from}
+use Rattle.component_dto.specs.Targets.{HasPlace, IsNoTargetAt, bad_place, bad_target, stop_at, stop_from}
 
 inside : (text : List ℕ) (at : ℕ) → slice_get text at ≡ Some 40 → at < length text
 inside [] at is = cc

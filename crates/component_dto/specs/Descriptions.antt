@@ -1,6 +1,6 @@
 -- A description as JSON data: ComponentDescriptionDTO of OSGi Compendium 8, chapter 112. The defaults are those of its
 -- attributes and elements in section 112.4; that of the name is our own.
-use Rattle.std.specs.Prelude.{◌≡◌, ◌≤◌, ◌<◌, ℕ, true, List, [], ◌∷◌, length, map, codes, Option, Some, None, if◌then◌else◌, Result, Ok, Err}
+use Rattle.std.specs.Prelude.{ℕ, true, List, [], ◌∷◌, map, codes, if◌then◌else◌, Result, Ok, Err}
 use Rattle.std.specs.Option.{is_some, unwrap_or}
 use Rattle.std.specs.Str.{bytes_eq}
 use Rattle.serde_json.specs.Data.{Data}

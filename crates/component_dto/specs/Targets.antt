@@ -1,5 +1,5 @@
 -- The targets of references: filters (OSGi Core 8, section 3.2.7), of at most 64 levels.
-use Rattle.std.specs.Prelude.{◌≡◌, ◌⊎◌, ◌&&◌, ◌+◌, nat_le, ℕ, List, [], ◌∷◌, length, Bool, Option, Some, None, option_and_then, option_map, is_some, if◌then◌else◌}
+use Rattle.std.specs.Prelude.{◌⊎◌, ◌&&◌, ◌+◌, nat_le, ℕ, List, [], ◌∷◌, length, Bool, Option, Some, None, option_and_then, is_some, if◌then◌else◌}
 use Rattle.ldap_filter.specs.Machine.{State, accepted, start, step}
 use Rattle.ldap_filter.specs.Parsing.{IsTreeOf}
 use Rattle.ldap_filter.specs.Places.{IsBadAt, IsTooDeepAt}

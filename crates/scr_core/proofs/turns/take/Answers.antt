@@ -1,5 +1,5 @@
 use Rattle.std.proofs.Common.{◌≡◌, ◌∙◌, refl, subst, sym, None, Some}
-use Rattle.scr_core.specs.Dues.{due_in, next_begin}
+use Rattle.scr_core.specs.Dues.{due_in}
 use Rattle.scr_core.specs.Tables.{world_in}
 use Rattle.scr_core.specs.Worlds.{World}
 use Rattle.scr_core.proofs.Idle.{idle, next_has_work}
