@@ -8,6 +8,7 @@ use Rattle.component_state.specs.declared.component.Component.{Component}
 use Rattle.component_state.specs.declared.life.Life.{Life}
 use Rattle.component_state.specs.declared.open_period.OpenPeriod.{OpenPeriod}
 use Rattle.component_state.specs.declared.pass.PassEnd.{PassEnd}
+use Rattle.component_state.specs.Components.{lacks_configuration}
 use Rattle.component_state.specs.Passes.{Stage}
 use Rattle.component_state.specs.Periods.{is_open, is_current}
 use Rattle.component_state.specs.Reasons.{chose_outdated, is_outdated, choice_at}
@@ -56,7 +57,7 @@ module _ (c : Component) (these those : List OpenPeriod) (same : OfferSame c the
       (any_filter (offers r.interface_name) these ∙ ap (λ w. not (is_empty w)) (same.each r here) ∙ sym (any_filter (offers r.interface_name) those))
 
   pub stands_same : stands these c ≡ stands those c
-  stands_same = ap (λ b. c.lives && b) (all_same (is_met these) (is_met those) c.description.references met_same)
+  stands_same = ap (λ b. c.lives && (not (lacks_configuration c) && b)) (all_same (is_met these) (is_met those) c.description.references met_same)
 
   chose_same : (l : Life) → chose_outdated these c l ≡ chose_outdated those c l
   chose_same l =

@@ -1,7 +1,7 @@
 -- What stands in the end of a pass is what is satisfied from scratch.
 use Rattle.std.proofs.Common.{◌≡◌, ◌<◌, ℕ, zero, suc, List, ◌++◌, ap, sym, ◌∙◌, refl, Bool, true, false, ◌&&◌, ◌||◌, arith}
 use Rattle.std.specs.Prelude.{filter, not, ◌==◌}
-use Rattle.std.specs.List.{list_any, list_all}
+use Rattle.std.specs.List.{list_any}
 use Rattle.std.proofs.lemmas.Bool.{eqb-true, and_parts, and_from}
 use Rattle.std.proofs.lemmas.List.Elements.{filter-append}
 use Rattle.component_dto.specs.declared.description.Description.{Description}
@@ -10,10 +10,10 @@ use Rattle.component_dto.specs.TextLists.{has_text}
 use Rattle.level_order.specs.Levels.{provides, AreLevels}
 use Rattle.component_state.specs.declared.component.Component.{Component}
 use Rattle.component_state.specs.declared.open_period.OpenPeriod.{OpenPeriod}
-use Rattle.component_state.specs.Components.{are_numbered, interfaces_of, living, of_level, in_order_below, rank}
+use Rattle.component_state.specs.Components.{are_numbered, interfaces_of, lacks_configuration, living, of_level, in_order_below, rank}
 use Rattle.component_state.specs.Passes.{IsPeriodOf}
 use Rattle.component_state.specs.Periods.{is_open}
-use Rattle.component_state.specs.Runs.{is_met, stands}
+use Rattle.component_state.specs.Runs.{is_met, lacks_nothing, stands}
 use Rattle.component_state.specs.Scratch.{meets, is_satisfied, offering, satisfied_below}
 use Rattle.component_state.specs.Targets.{is_optional, offers}
 use Rattle.component_state.specs.Words.{has}
@@ -72,23 +72,23 @@ module _ (ds : List Description) (levels : List ℕ) (cs : List Component) (are 
       (among_kept (λ (d : Component). not (has out d.number)) (standing (rank ds levels c)) found.0
       (among_kept (stands now) (in_order_below ds levels cs (rank ds levels c)) found.0 (in_below ds levels cs (rank ds levels c) found.0 found.1 low) parts.0) parts.1) provided
 
-  satisfied_agrees : (c : Component) → Final (rank ds levels c) → is_satisfied (offering out (standing (rank ds levels c))) c ≡ list_all (is_met now) c.description.references
+  satisfied_agrees : (c : Component) → Final (rank ds levels c) → is_satisfied (offering out (standing (rank ds levels c))) c ≡ lacks_nothing now c
   satisfied_agrees c final =
-      all_same (meets (offering out (standing (rank ds levels c)))) (is_met now) c.description.references
+      ap (λ met. not (lacks_configuration c) && met) (all_same (meets (offering out (standing (rank ds levels c)))) (is_met now) c.description.references
       (λ r here. ap (λ b. is_optional r.cardinality || b)
       (same_bool (list_any (λ (o : Component). provides o.description r.interface_name) (offering out (standing (rank ds levels c)))) (list_any (offers r.interface_name) now)
-      (offer_open (rank ds levels c) final r) (open_offer c final r here)))
+      (offer_open (rank ds levels c) final r) (open_offer c final r here))))
 
   level_stands : (n : ℕ) → Final n → filter (is_satisfied (offering out (standing n))) (of_level ds levels (living cs) n) ≡ filter (stands now) (of_level ds levels cs n)
   level_stands n final =
       ap (filter (is_satisfied (offering out (standing n)))) (filter_twice (λ c. rank ds levels c == n) (λ (c : Component). c.lives) cs)
       ∙ filter_twice (is_satisfied (offering out (standing n))) (λ (c : Component). c.lives && (rank ds levels c == n)) cs
       ∙ filter_same (λ (c : Component). (c.lives && (rank ds levels c == n)) && is_satisfied (offering out (standing n)) c) (λ (c : Component). (rank ds levels c == n) && stands now c) cs
-      (λ c here. level_agrees c.lives (rank ds levels c == n) (is_satisfied (offering out (standing n)) c) (list_all (is_met now) c.description.references)
+      (λ c here. level_agrees c.lives (rank ds levels c == n) (is_satisfied (offering out (standing n)) c) (lacks_nothing now c)
       (λ on. at_level c (eqb-true (rank ds levels c) n on)))
       ∙ sym (filter_twice (stands now) (λ c. rank ds levels c == n) cs)
     where
-      at_level : (c : Component) → rank ds levels c ≡ n → is_satisfied (offering out (standing n)) c ≡ list_all (is_met now) c.description.references
+      at_level : (c : Component) → rank ds levels c ≡ n → is_satisfied (offering out (standing n)) c ≡ lacks_nothing now c
       at_level c same = ap (λ k. is_satisfied (offering out (standing k)) c) (sym same) ∙ satisfied_agrees c (λ d here low. final d here (omega (arith, low, same)))
 
   -- one level more

@@ -6,6 +6,7 @@ use Rattle.component_state.specs.declared.component.Component.{Component}
 use Rattle.component_state.specs.declared.life.Life.{Life}
 use Rattle.component_state.specs.declared.open_period.OpenPeriod.{OpenPeriod}
 use Rattle.component_state.specs.declared.pass.PassEnd.{PassEnd}
+use Rattle.component_state.specs.Components.{lacks_configuration}
 use Rattle.component_state.specs.Passes.{Stage, in_order, opened_one, next_after}
 use Rattle.component_state.specs.Periods.{is_open, is_current, opened_at}
 use Rattle.component_state.specs.Reasons.{chose_outdated}
@@ -16,9 +17,13 @@ use Rattle.component_state.specs.Words.{has}
 abbrev pub is_met : List OpenPeriod → Reference → Bool
 is_met now r = is_optional r.cardinality || list_any (offers r.interface_name) now
 
--- a component configuration hasn't ceased, and each of its references has its minimum of targets
+-- a component configuration has the configuration that its policy asks for, and each of its references has its minimum of targets
+abbrev pub lacks_nothing : List OpenPeriod → Component → Bool
+lacks_nothing now c = not (lacks_configuration c) && list_all (is_met now) c.description.references
+
+-- it hasn't ceased, and lacks nothing
 abbrev pub stands : List OpenPeriod → Component → Bool
-stands now c = c.lives && list_all (is_met now) c.description.references
+stands now c = c.lives && lacks_nothing now c
 
 -- a living instance of its period chose what is outdated
 abbrev pub is_misled : List OpenPeriod → List OpenPeriod → List Life → Component → Bool

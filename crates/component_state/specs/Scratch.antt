@@ -1,11 +1,11 @@
 -- The satisfied component configurations, evaluated from scratch, level by level. OSGi Compendium 8, chapter 112, satisfied component configurations.
-use Rattle.std.specs.Prelude.{ℕ, zero, suc, ◌||◌, List, [], ◌++◌, Bool, not, filter}
+use Rattle.std.specs.Prelude.{ℕ, zero, suc, ◌&&◌, ◌||◌, List, [], ◌++◌, Bool, not, filter}
 use Rattle.std.specs.List.{list_any, list_all}
 use Rattle.component_dto.specs.declared.description.Description.{Description}
 use Rattle.component_dto.specs.declared.description.Reference.{Reference}
 use Rattle.level_order.specs.Levels.{provides}
 use Rattle.component_state.specs.declared.component.Component.{Component}
-use Rattle.component_state.specs.Components.{living, of_level, numbers_of, top}
+use Rattle.component_state.specs.Components.{lacks_configuration, living, of_level, numbers_of, top}
 use Rattle.component_state.specs.Targets.{is_optional}
 use Rattle.component_state.specs.Words.{has}
 
@@ -13,9 +13,9 @@ use Rattle.component_state.specs.Words.{has}
 abbrev pub meets : List Component → Reference → Bool
 meets offering r = is_optional r.cardinality || list_any (λ (o : Component). provides o.description r.interface_name) offering
 
--- each reference has its minimum of targets
+-- it has the configuration that its policy asks for, and each reference has its minimum of targets
 abbrev pub is_satisfied : List Component → Component → Bool
-is_satisfied offering c = list_all (meets offering) c.description.references
+is_satisfied offering c = not (lacks_configuration c) && list_all (meets offering) c.description.references
 
 -- those that offer their services: the ones that aren't left out
 abbrev pub offering : List ℕ → List Component → List Component

@@ -27,5 +27,6 @@ pub use marks::failed_after;
 pub use one_pass::note_one_pass;
 pub use open_period::{OpenPeriod, is_current, is_open};
 pub use pass::{PassEnd, plain_pass};
+pub use satisfaction::lacks_configuration;
 pub use target_services::{chosen, desired, targets};
 pub use words::has;

@@ -6,7 +6,7 @@ ghost use Rattle.component_state.specs.Components.{are_numbered};
 
 use crate::samples::{described, needs, numbers};
 use crate::{Choice, Component, Life, PassEnd, is_current, plain_pass};
-use component_dto::{Description, Reference};
+use component_dto::{ConfigurationPolicy, Description, Reference};
 use level_order::levels;
 use prop_map::{Cardinality, Copies, List, OutOfMemory, PolicyOption};
 use std::alloc::{AllocError, Global};
@@ -163,5 +163,22 @@ fn an_outdated_choice_closes(rt: HostRuntime) -> Result<(), Fail> {
     assert_eq!(rt; reluctant.second.closed.as_slice().len(), 0);
     let right = choosing(rt, PolicyOption::Greedy, &[1])?;
     assert_eq!(rt; right.second.closed.as_slice().len(), 0);
+    Ok(())
+}
+
+#[test]
+fn a_required_configuration_is_wanting(rt: HostRuntime) -> Result<(), Fail> {
+    let alloc = rt.alloc();
+    let reader = needs(alloc, "L", Cardinality::ZeroOrMore)?;
+    let mut required = described(alloc, "logger", &["L"], None)?;
+    required.configuration_policy = ConfigurationPolicy::Require;
+    let mut descriptions = Vec::new(alloc);
+    descriptions.push(described(alloc, "reader", &[], Some(reader))?)?;
+    descriptions.push(required)?;
+    let passes = passes(rt, &descriptions, &[], &reader_with(alloc, &[])?)?;
+    assert_eq!(rt; passes.first.opened.as_slice().len(), 1);
+    assert_eq!(rt; passes.first.satisfied.as_slice(), [1u64].as_slice());
+    assert_eq!(rt; passes.second.closed.as_slice().len(), 0);
+    assert_eq!(rt; passes.second.satisfied.as_slice(), [1u64].as_slice());
     Ok(())
 }
