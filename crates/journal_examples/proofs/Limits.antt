@@ -39,7 +39,7 @@ bundles_full :
     ∷ reply 1000 (world_of (installs 128)) (Install own_consumer)
     ∷ reply 128 (world_of (installs 128)) (Install (numbered_document 128))
     ∷ reply 127 (world_of (installs 127)) (Install (numbered_document 127))
-    ∷ []) ≡ (Ok (R.Bundle 128) ∷ Err F.BundlesFull ∷ Ok (R.Bundle 6) ∷ Err F.Cycle ∷ Err F.BundlesFull ∷ Err F.JournalFull ∷ [])
+    ∷ []) ≡ (Ok (R.Bundle 128) ∷ Err F.BundlesFull ∷ Ok (R.Bundle 6) ∷ Err (F.Cycle []) ∷ Err F.BundlesFull ∷ Err F.JournalFull ∷ [])
 bundles_full = refl
 
 abbrev silent : Description

@@ -118,7 +118,7 @@ runs = refl
 ends : each ends_of_pass past6 (worlds past6) ≡ each ends_in_world past6 (worlds past6)
 ends = refl
 
-answers : (reply 4194304 (world_of past0) (Install doc1) ∷ reply 4194304 (world_of past1) (Install doc2) ∷ reply 4194304 (world_of past2) (Install doc4) ∷ reply 4194304 (world_of past2) (Install doc5) ∷ reply 4194304 (world_of past2) (Install doc3) ∷ reply 4194304 (world_of past3) (Install doc3) ∷ reply 4194304 (world_of past3) (Install doc4) ∷ reply 4194304 (world_of past3) (Start 1) ∷ reply 4194304 (world_of past4) (Start 2) ∷ reply 4194304 (world_of past5) (Start 3) ∷ []) ≡ (Ok (R.Bundle 1) ∷ Ok (R.Bundle 2) ∷ Err F.Cycle ∷ Err F.Cycle ∷ Ok (R.Bundle 3) ∷ Ok (R.Bundle 3) ∷ Ok (R.Bundle 3) ∷ Ok R.Done ∷ Ok R.Done ∷ Ok R.Done ∷ [])
+answers : (reply 4194304 (world_of past0) (Install doc1) ∷ reply 4194304 (world_of past1) (Install doc2) ∷ reply 4194304 (world_of past2) (Install doc4) ∷ reply 4194304 (world_of past2) (Install doc5) ∷ reply 4194304 (world_of past2) (Install doc3) ∷ reply 4194304 (world_of past3) (Install doc3) ∷ reply 4194304 (world_of past3) (Install doc4) ∷ reply 4194304 (world_of past3) (Start 1) ∷ reply 4194304 (world_of past4) (Start 2) ∷ reply 4194304 (world_of past5) (Start 3) ∷ []) ≡ (Ok (R.Bundle 1) ∷ Ok (R.Bundle 2) ∷ Err (F.Cycle []) ∷ Err (F.Cycle []) ∷ Ok (R.Bundle 3) ∷ Ok (R.Bundle 3) ∷ Ok (R.Bundle 3) ∷ Ok R.Done ∷ Ok R.Done ∷ Ok R.Done ∷ [])
 answers = refl
 
 lines : component_lines (world_of past6) ≡ (line 1 (codes "x") 4 ∷ line 2 (codes "y") 4 ∷ line 3 (codes "z") 4 ∷ [])

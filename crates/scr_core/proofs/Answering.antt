@@ -10,13 +10,14 @@ use Rattle.component_state.specs.declared.component.Component.{Component}
 use Rattle.component_state.specs.Words.{is_empty}
 use Rattle.journal_core.specs.declared.entry.Entry.{Entry}
 use Rattle.journal_core.specs.declared.entry.GateKey.{GateKey}
+use Rattle.level_order.specs.Cycles.{TellsCycle}
 use Rattle.level_order.specs.Levels.{AreLevels, IsAcyclic}
 use Rattle.scr_core.specs.declared.bundles.Bundle.{Bundle}
 use Rattle.scr_core.specs.declared.command.Accepted.{Accepted}
 use Rattle.scr_core.specs.declared.command.Command.{Command}
 use Rattle.scr_core.specs.declared.command.Command.TheVariants.{Install, Start, Stop}
 use Rattle.scr_core.specs.declared.command.CoreFault.{CoreFault}
-use Rattle.scr_core.specs.declared.command.CoreFault.TheVariants.{NoBundle, Stopping, Cycle, BundlesFull, ComponentsFull, JournalFull, OutOfMemory}
+use Rattle.scr_core.specs.declared.command.CoreFault.TheVariants.{NoBundle, NoComponent, Stopping, Cycle, BundlesFull, ComponentsFull, JournalFull, OutOfMemory}
 use Rattle.scr_core.specs.declared.command.Reply.{Reply}
 use Rattle.scr_core.specs.declared.command.Reply.TheVariants.{Bundle as InBundle}
 use Rattle.scr_core.specs.declared.command.Step.{Step}
@@ -117,12 +118,12 @@ module _ (w : World) (doc : BundleDoc) where
   pub new_effect : is_known w doc ≡ false → has_effect w (Install doc) ≡ true
   new_effect unknown = ap not unknown
 
-  new_refusal : is_known w doc ≡ false → (acyclic full : Bool) → stays_acyclic w doc ≡ acyclic → nat_le 128 (length w.bundles) ≡ full → refusal w (Install doc) ≡ option_or (refuse_if (not acyclic) Cycle) (refuse_if full BundlesFull)
+  new_refusal : is_known w doc ≡ false → (acyclic full : Bool) → stays_acyclic w doc ≡ acyclic → nat_le 128 (length w.bundles) ≡ full → refusal w (Install doc) ≡ option_or (refuse_if (not acyclic) (Cycle [])) (refuse_if full BundlesFull)
   new_refusal unknown acyclic full a f =
-      ap (λ b. cond b None (install_refusal w doc)) unknown ∙ ap (λ b. option_or (refuse_if (not b) Cycle) (refuse_if (nat_le 128 (length w.bundles)) BundlesFull)) a
-      ∙ ap (λ b. option_or (refuse_if (not acyclic) Cycle) (refuse_if b BundlesFull)) f
+      ap (λ b. cond b None (install_refusal w doc)) unknown ∙ ap (λ b. option_or (refuse_if (not b) (Cycle [])) (refuse_if (nat_le 128 (length w.bundles)) BundlesFull)) a
+      ∙ ap (λ b. option_or (refuse_if (not acyclic) (Cycle [])) (refuse_if b BundlesFull)) f
 
-  pub new_cycle : is_known w doc ≡ false → ¬ IsAcyclic (descriptions_of w.bundles ++ doc.descriptions) → refusal w (Install doc) ≡ Some Cycle
+  pub new_cycle : is_known w doc ≡ false → ¬ IsAcyclic (descriptions_of w.bundles ++ doc.descriptions) → refusal w (Install doc) ≡ Some (Cycle [])
   new_cycle unknown without = new_refusal unknown false (nat_le 128 (length w.bundles)) (no_levels (descriptions_of w.bundles ++ doc.descriptions) without) refl
 
   pub new_full : is_known w doc ≡ false → (levels : List ℕ) → AreLevels (descriptions_of w.bundles ++ doc.descriptions) levels → 128 ≤ length w.bundles → refusal w (Install doc) ≡ Some BundlesFull
@@ -195,7 +196,8 @@ module _ (t : Tables) (n : ℕ) (b : Bundle) (found : bundle_of t.bundles.items 
         (said limit journal t keeps (Start n) (Err ComponentsFull) (reply_refused limit (world_in t) (Start n) ComponentsFull (start_full (world_in t) n b found inactive is.0 (full_is ∙ is.1))), refl)
     start_refused OutOfMemory is = refl
     start_refused (NoBundle m) is = absurd is
-    start_refused Cycle is = absurd is
+    start_refused (NoComponent name) is = absurd is
+    start_refused (Cycle path) is = absurd is
     start_refused BundlesFull is = absurd is
     start_refused JournalFull is = absurd is
 
@@ -224,10 +226,13 @@ module _ (limit : ℕ) (journal : List (Entry Step)) (t : Tables) (keeps : Keeps
     its_ds : ds ≡ descriptions_of t.bundles.items ++ doc.descriptions
     its_ds = ds_is ∙ ap (λ (x : List Description). x ++ doc.descriptions) keeps.tables.descriptions
 
-    pub install_cycle : ¬ IsAcyclic ds → Commands limit journal (Install doc) (Err Cycle) journal
-    install_cycle without = (
-      said limit journal t keeps (Install doc) (Err Cycle) (reply_refused limit (world_in t) (Install doc) Cycle
-          (new_cycle (world_in t) doc (unknown_by (bundle_at t.bundles.items doc.location) unknown).0 (subst (λ (x : List Description). ¬ IsAcyclic x) its_ds without))),
+    pub install_cycle : ¬ IsAcyclic ds → (path : List (List ℕ)) → TellsCycle ds path → Commands limit journal (Install doc) (Err (Cycle path)) journal
+    install_cycle without path tells = (
+      (
+        said limit journal t keeps (Install doc) (Err (Cycle [])) (reply_refused limit (world_in t) (Install doc) (Cycle [])
+            (new_cycle (world_in t) doc (unknown_by (bundle_at t.bundles.items doc.location) unknown).0 (subst (λ (x : List Description). ¬ IsAcyclic x) its_ds without))),
+        subst (λ (w : World). TellsCycle (descriptions_of w.bundles ++ doc.descriptions) path) keeps.world (subst (λ (x : List Description). TellsCycle x path) its_ds tells),
+      ),
       refl,
     )
 

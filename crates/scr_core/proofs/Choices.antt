@@ -13,7 +13,7 @@ use Rattle.component_state.specs.declared.component.Component.{Component}
 use Rattle.component_state.specs.declared.life.Choice.{Choice}
 use Rattle.component_state.specs.declared.life.Life.{Life}
 use Rattle.component_state.specs.declared.open_period.OpenPeriod.{OpenPeriod}
-use Rattle.component_state.specs.Components.{living, of_level, numbers_of, top, interfaces_of, rank}
+use Rattle.component_state.specs.Components.{lacks_configuration, living, of_level, numbers_of, top, interfaces_of, rank}
 use Rattle.component_state.specs.Marks.{held_back}
 use Rattle.component_state.specs.Passes.{Stage, in_order, satisfied_in}
 use Rattle.component_state.specs.Periods.{is_open, is_current}
@@ -189,7 +189,8 @@ module _ (limit : ℕ) (w : World) (sound : IsSound limit w) where
       let found = has_to number_of (below last) c.number satisfied_here in
       let is_c : found.0 ≡ c = apart_same number_of w.components (sym (numbers_apart w.components) ∙ sound.numbered) found.0 c (in_world last found.0 found.1) h found.2 in
       let when = satisfied_when ds (levels_of ds) (living w.components) out last found.0 found.1 in
-      let met = all_to (meets (offering out (below when.0))) c.description.references (subst (λ (x : Component). is_satisfied (offering out (below when.0)) x ≡ true) is_c when.2) r in_r in
+      let lacks_none = subst (λ (x : Component). is_satisfied (offering out (below when.0)) x ≡ true) is_c when.2 in
+      let met = all_to (meets (offering out (below when.0))) c.description.references (and_parts (not (lacks_configuration c)) (list_all (meets (offering out (below when.0))) c.description.references) lacks_none).1 r in_r in
       elim (or_cases (is_optional r.cardinality) (list_any (λ (o : Component). provides o.description r.interface_name) (offering out (below when.0))) met) [
         | inl optional ↦ absurd (both_ways (is_optional r.cardinality) needed optional)
         | inr some ↦ (

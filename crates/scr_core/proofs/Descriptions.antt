@@ -77,7 +77,7 @@ same_numbers_equal (x ∷ xs) (y ∷ ys) e =
 pub levels_from : (ds : List Description) → has_levels ds ≡ true → AreLevels ds (levels_of ds)
 levels_from ds e = sym (same_numbers_equal (levels_within (suc (length ds)) ds) (levels_of ds) e)
 
-acyclic_if : (known acyclic full room : Bool) → (is_none (cond known None (option_or (cond (not acyclic) (Some Cycle) None) (cond full (Some BundlesFull) None))) && (not known && room)) ≡ true → acyclic ≡ true
+acyclic_if : (known acyclic full room : Bool) → (is_none (cond known None (option_or (cond (not acyclic) (Some (Cycle [])) None) (cond full (Some BundlesFull) None))) && (not known && room)) ≡ true → acyclic ≡ true
 acyclic_if true acyclic full room e = cc e
 acyclic_if false true full room e = refl
 acyclic_if false false full room e = cc e

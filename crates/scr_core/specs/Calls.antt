@@ -1,5 +1,5 @@
 -- What the calls of the core do to its journal, which contracts see as the list of its entries, the oldest first.
-use Rattle.std.specs.Prelude.{◌≡◌, ℕ, ◌==◌, ◌&&◌, List, [], ◌∷◌, ◌++◌, Bool, true, false, find, Some, None, Result, Ok, Err}
+use Rattle.std.specs.Prelude.{◌≡◌, ℕ, ◌==◌, ◌&&◌, List, [], ◌∷◌, ◌++◌, Bool, true, false, find, Option, option_map, Some, None, Result, Ok, Err}
 use Rattle.callback_orders.specs.declared.callback.Outcome.{Outcome}
 use Rattle.journal_core.specs.declared.entry.Entry.{Entry}
 use Rattle.journal_core.specs.declared.entry.GateKey.{GateKey}
@@ -14,10 +14,10 @@ use Rattle.scr_core.specs.declared.instance.Instance.{Instance}
 use Rattle.scr_core.specs.declared.turn.Ended.{Ended}
 use Rattle.scr_core.specs.declared.turn.Taken.{Taken}
 use Rattle.scr_core.specs.declared.turn.Taken.TheVariants.{Turn as TakenTurn, Idle}
-use Rattle.scr_core.specs.Consequences.{reopened_by, shut_between}
+use Rattle.scr_core.specs.Consequences.{gate_of, reopened_by, shut_between}
 use Rattle.scr_core.specs.Dues.{due_in, next_begin}
 use Rattle.scr_core.specs.Legal.{Follows, awaits_drain}
-use Rattle.scr_core.specs.Replies.{reply, changes}
+use Rattle.scr_core.specs.Replies.{Replies, changes}
 use Rattle.scr_core.specs.Room.{has_room, needed_by}
 use Rattle.scr_core.specs.Steps.{history_of}
 use Rattle.scr_core.specs.TurnSteps.{work_of}
@@ -39,9 +39,9 @@ GrownIf false limit old step new = new ≡ old
 -- what a command answers and does: want of memory may come at any time, and a refusal leaves the journal as it was
 abbrev pub Commands : ℕ → List (Entry Step) → Command → Result Accepted CoreFault → List (Entry Step) → Type 0
 Commands limit old command (Ok accepted) new =
-    (reply limit (world_at old) command ≡ Ok accepted.reply) × (accepted.shut ≡ shut_between (world_at old) (world_at new)) × GrownIf (changes limit (world_at old) command) limit old (Commanded command) new
+    Replies limit (world_at old) command (Ok accepted.reply) × (accepted.shut ≡ shut_between (world_at old) (world_at new)) × GrownIf (changes limit (world_at old) command) limit old (Commanded command) new
 Commands limit old command (Err OutOfMemory) new = new ≡ old
-Commands limit old command (Err fault) new = (reply limit (world_at old) command ≡ Err fault) × (new ≡ old)
+Commands limit old command (Err fault) new = Replies limit (world_at old) command (Err fault) × (new ≡ old)
 
 -- the turn that begins next was taken: its work is told, and the journal has grown by its beginning
 abbrev pub Takes : ℕ → List (Entry Step) → TurnWork → List (Entry Step) → Type 0
@@ -75,3 +75,7 @@ awaits_drain_at w key i = ((i.slot == key.slot) && (i.generation == key.generati
 -- the drain of a gate is that of the first instance that has it and awaits its drain
 abbrev pub Drains : ℕ → List (Entry Step) → GateKey → List (Entry Step) → Type 0
 Drains limit old key new = (i : Instance) × (find (awaits_drain_at (world_at old) key) (world_at old).instances ≡ Some i) × Grown limit old (Drained i.number) new
+
+-- the gate of the first instance that awaits its drain
+abbrev pub next_drain : World → Option GateKey
+next_drain w = option_map gate_of (find (awaits_drain w) w.instances)

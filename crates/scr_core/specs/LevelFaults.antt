@@ -5,5 +5,5 @@ use Rattle.scr_core.specs.declared.command.CoreFault.{CoreFault}
 use Rattle.scr_core.specs.declared.command.CoreFault.TheVariants.{Cycle, OutOfMemory}
 
 abbrev pub fault_of : LevelFault → CoreFault
-fault_of (InLevels path) = Cycle
+fault_of (InLevels path) = Cycle path
 fault_of NoMemory = OutOfMemory

@@ -17,9 +17,12 @@ pub mod Cores
 pub mod Sound
 pub mod Tables
 pub mod TurnSteps
+pub mod TurnLines
+pub mod HeldRows
 pub mod Plans
 pub mod Growths
 pub mod Changes
 pub mod Startings
 pub mod Reopenings
 pub mod Shutting
+pub mod CoreTables

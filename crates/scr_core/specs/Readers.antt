@@ -2,7 +2,7 @@
 use Rattle.std.specs.Prelude.{ℕ, ◌==◌, ◌&&◌, List, map, Bool, not, if◌then◌else◌}
 use Rattle.std.specs.List.{list_any}
 use Rattle.component_state.specs.declared.component.Component.{Component}
-use Rattle.component_state.specs.Components.{living}
+use Rattle.component_state.specs.Components.{lacks_configuration, living}
 use Rattle.component_state.specs.Periods.{is_open}
 use Rattle.component_state.specs.Words.{has}
 use Rattle.scr_core.specs.declared.component_rows.ComponentLine.{ComponentLine}
@@ -14,10 +14,10 @@ use Rattle.scr_core.specs.Worlds.{World, satisfied_in}
 abbrev pub has_active : List Instance → ℕ → Bool
 has_active is number = list_any (λ (i : Instance). (i.life.configuration == number) && is_active i) is
 
--- the state of a component configuration, the first that holds: 2 where it isn't satisfied, 16 where it failed, 8 where it is open with an
--- active instance, 4
+-- the state of a component configuration, the first that holds: 1 where it lacks the configuration that its policy asks for, 2 where it isn't
+-- satisfied, 16 where it failed, 8 where it is open with an active instance, 4
 abbrev pub state_by : World → List ℕ → Component → ℕ
-state_by w satisfied c = if not (has satisfied c.number) then 2 else (if has w.failed c.number then 16 else (if is_open w.open_ones c.number && has_active w.instances c.number then 8 else 4))
+state_by w satisfied c = if lacks_configuration c then 1 else (if not (has satisfied c.number) then 2 else (if has w.failed c.number then 16 else (if is_open w.open_ones c.number && has_active w.instances c.number then 8 else 4)))
 
 abbrev pub line_by : World → List ℕ → Component → ComponentLine
 line_by w satisfied c = record { configuration = c.number; name = c.description.name; state = state_by w satisfied c }

@@ -1,8 +1,9 @@
 -- What a command changes, and what it answers: OSGi Core 8, life cycle layer. The refusals, their order and the limits are our own.
-use Rattle.std.specs.Prelude.{ℕ, ◌+◌, ◌&&◌, ◌++◌, Bool, false, not, nat_le, nat_lt, length, find, is_none, is_some, Option, Some, None, option_map, Result, Ok, Err, if◌then◌else◌}
+use Rattle.std.specs.Prelude.{◌≡◌, ℕ, List, [], ◌+◌, ◌&&◌, ◌++◌, Bool, false, not, nat_le, nat_lt, length, find, is_none, is_some, Option, Some, None, option_map, Result, Ok, Err, if◌then◌else◌}
 use Rattle.std.specs.Option.{option_or, option_map_or}
 use Rattle.bundle_doc.specs.declared.document.BundleDoc.{BundleDoc}
 use Rattle.component_state.specs.Words.{is_empty}
+use Rattle.level_order.specs.Cycles.{TellsCycle}
 use Rattle.scr_core.specs.declared.bundles.Bundle.{Bundle}
 use Rattle.scr_core.specs.declared.command.Command.{Command}
 use Rattle.scr_core.specs.declared.command.Command.TheVariants.{Install, Start, Stop}
@@ -28,9 +29,9 @@ is_known w doc = is_some (bundle_at w.bundles doc.location)
 abbrev pub stays_acyclic : World → BundleDoc → Bool
 stays_acyclic w doc = has_levels (descriptions_of w.bundles ++ doc.descriptions)
 
--- why a document isn't installed from a location without a bundle: the first of these
+-- why a document isn't installed from a location without a bundle: the first of these; a cycle is told without its path here
 abbrev pub install_refusal : World → BundleDoc → Option CoreFault
-install_refusal w doc = option_or (refuse_if (not (stays_acyclic w doc)) Cycle) (refuse_if (nat_le 128 (length w.bundles)) BundlesFull)
+install_refusal w doc = option_or (refuse_if (not (stays_acyclic w doc)) (Cycle [])) (refuse_if (nat_le 128 (length w.bundles)) BundlesFull)
 
 -- a stopping bundle isn't started: the lowest instance that keeps it from having stopped is told
 abbrev pub still_stopping : World → Bundle → Option CoreFault
@@ -72,3 +73,14 @@ answer w (Stop bundle) = Done
 -- what a command answers: the first refusal, last that for want of room, else the answer
 abbrev pub reply : ℕ → World → Command → Result Reply CoreFault
 reply limit w command = option_map_or (λ fault. Err fault) (option_or (refusal w command) (refuse_if (lacks_room limit w command) JournalFull)) (Ok (answer w command))
+
+-- the told cycle of an install is that of all descriptions with those of its document behind them; no other command tells one
+abbrev pub TellsPath : World → Command → List (List ℕ) → Type 0
+TellsPath w (Install doc) path = TellsCycle (descriptions_of w.bundles ++ doc.descriptions) path
+TellsPath w (Start bundle) path = ⊥
+TellsPath w (Stop bundle) path = ⊥
+
+-- what a command answers, where a cycle is told with its path
+abbrev pub Replies : ℕ → World → Command → Result Reply CoreFault → Type 0
+Replies limit w command (Err (Cycle path)) = (reply limit w command ≡ Err (Cycle [])) × TellsPath w command path
+Replies limit w command answer = reply limit w command ≡ answer

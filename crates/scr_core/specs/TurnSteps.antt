@@ -1,6 +1,8 @@
 -- Steps that are no commands, and the turn that a step begins. OSGi Compendium 8, chapter 112; turns are our own.
-use Rattle.std.specs.Prelude.{ℕ, List, [], Bool, true, false, Option, Some, None, find, codes, pos, ◌==◌}
+use Rattle.std.specs.Prelude.{ℕ, List, [], ◌∷◌, Bool, true, false, Option, Some, None, find, codes, pos, option_map, option_and_then, ◌==◌}
 use Rattle.std.specs.Option.{option_map_or}
+use Rattle.callback_orders.specs.declared.callback.Callback.{Callback}
+use Rattle.callback_orders.specs.declared.word.Called.{Called}
 use Rattle.component_state.specs.declared.component.Component.{Component}
 use Rattle.kind_trait.specs.declared.site.Site.{Site}
 use Rattle.prop_map.specs.declared.properties.Property.{Property}
@@ -9,6 +11,8 @@ use Rattle.prop_map.specs.Maps.{put}
 use Rattle.turn_runner.specs.declared.turn_work.TurnWork.{TurnWork}
 use Rattle.scr_core.specs.declared.command.Step.{Step}
 use Rattle.scr_core.specs.declared.command.Step.TheVariants.{Command as Commanded, Begin}
+use Rattle.scr_core.specs.declared.instance.Instance.{Instance}
+use Rattle.scr_core.specs.Instances.{has_turn}
 use Rattle.scr_core.specs.Worlds.{World}
 
 abbrev pub is_turn_step : Step → Bool
@@ -39,3 +43,23 @@ work_of w (Begin turn instance configuration consumer callback chosen) = Some (r
   site = option_map_or site_of (found_in w.components configuration) empty_site;
 })
 work_of w _ = None
+
+-- the last callback that an instance was told of
+abbrev pub last_callback : List Called → Option Callback
+last_callback [] = None
+last_callback (c ∷ []) = Some c.callback
+last_callback (c ∷ d ∷ rest) = last_callback (d ∷ rest)
+
+-- the work of a turn by which an instance is told of a callback
+abbrev pub work_for : World → ℕ → Instance → Callback → TurnWork
+work_for w turn i callback = record {
+  number = turn;
+  callback = callback;
+  instance = i.number;
+  name = option_map_or (λ (c : Component). c.description.name) (found_in w.components i.life.configuration) [];
+  site = option_map_or site_of (found_in w.components i.life.configuration) empty_site;
+}
+
+-- the work of a turn that is under way; none where no such turn is
+abbrev pub work_under_way : World → ℕ → Option TurnWork
+work_under_way w turn = option_and_then (λ (i : Instance). option_map (work_for w turn i) (last_callback i.word)) (find (has_turn turn) w.instances)

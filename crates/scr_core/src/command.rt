@@ -7,7 +7,7 @@ use callback_orders::{Callback, Outcome};
 use component_state::Choice;
 use journal_core::GateKey;
 use level_order::LevelFault;
-use prop_map::List;
+use prop_map::{List, Str};
 use std::alloc::{AllocError, AllocFailed};
 
 /// The limits of a platform.
@@ -91,13 +91,18 @@ pub struct Accepted {
     pub shut: List<GateKey>,
 }
 
-/// Why a command is refused. A refused command changes nothing.
-#[derive(Clone, Copy, Debug, PartialEq, Eq, Drop)]
+/// Why a command or a question is refused. A refused command changes nothing.
+#[derive(Debug, PartialEq, Eq, Drop)]
 pub enum CoreFault {
     /// There is no bundle of this number. The number 0 counts as that of no bundle.
     NoBundle {
         /// The number.
         bundle: u64,
+    },
+    /// There is no component configuration of this name; where it was asked for by its number, this is the number in decimal.
+    NoComponent {
+        /// The name.
+        name: Str,
     },
     /// The bundle is still stopping.
     Stopping {
@@ -105,7 +110,12 @@ pub enum CoreFault {
         instance: u64,
     },
     /// With this document some description would have no level: it would consume itself over others.
-    Cycle,
+    Cycle {
+        /// The names of a cycle's descriptions, each of which consumes the next one: it begins at the first description that
+        /// lies on a cycle, is a shortest cycle through it, of several the one whose list of places is the least, and names
+        /// its first again at its end.
+        path: List<Str>,
+    },
     /// There are 128 bundles.
     BundlesFull,
     /// There would be more than 512 component configurations.
@@ -132,7 +142,7 @@ impl From<LevelFault> for CoreFault {
 
     fn from(fault: LevelFault) -> Self {
         match fault {
-            LevelFault::Cycle { .. } => CoreFault::Cycle,
+            LevelFault::Cycle { path } => CoreFault::Cycle { path },
             LevelFault::OutOfMemory => CoreFault::OutOfMemory,
         }
     }

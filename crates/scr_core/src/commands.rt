@@ -179,7 +179,7 @@ pub(crate) fn install(
     let all = descriptions_with(alloc, &tables.descriptions, doc.descriptions.as_slice())?;
     let levels = match levels(alloc, &all) {
         Ok(levels) => levels,
-        Err(LevelFault::Cycle { .. }) => return Err(CoreFault::Cycle),
+        Err(LevelFault::Cycle { path }) => return Err(CoreFault::Cycle { path }),
         Err(LevelFault::OutOfMemory) => return Err(CoreFault::OutOfMemory),
     };
     let Some(number) = next_number(&tables.bundles) else {

@@ -6,7 +6,7 @@ ghost use Rattle.scr_core.specs.Tables.{world_in};
 use crate::instance::Instance;
 use crate::instances::is_active;
 use crate::tables::Tables;
-use component_state::{Component, has, is_open};
+use component_state::{Component, has, is_open, lacks_configuration};
 use prop_map::{Copies, List, OutOfMemory, Str};
 use std::alloc::Global;
 
@@ -17,7 +17,8 @@ pub struct ComponentLine {
     pub configuration: u64,
     /// The name of its description.
     pub name: Str,
-    /// Its state: 2 where it isn't satisfied, 16 where its creation or activation failed, 8 where it has an active instance, else 4.
+    /// Its state, the first that holds: 1 where it lacks the configuration that its policy asks for, 2 where it isn't satisfied, 16
+    /// where its creation or activation failed, 8 where it has an active instance, else 4.
     pub state: u8,
 }
 
@@ -31,7 +32,9 @@ fn has_active(instances: &[Instance], configuration: u64) -> bool
 fn state(tables: &Tables, component: &Component) -> u8
     ensures { result ≡ state_by (world_in tables.now) tables.now.satisfied component.now }
 {
-    if !has(tables.satisfied.as_slice(), component.number) {
+    if lacks_configuration(component) {
+        1
+    } else if !has(tables.satisfied.as_slice(), component.number) {
         2
     } else if has(tables.failed.as_slice(), component.number) {
         16

@@ -125,7 +125,7 @@ fn was_draining(before: &[OpenPeriod], instances: &[Instance], number: u64) -> b
 }
 
 // The name of an instance's gate. A slot that doesn't fit counts as want of memory.
-fn gate_of(instance: &Instance) -> Result<GateKey, OutOfMemory>
+pub(crate) fn gate_of(instance: &Instance) -> Result<GateKey, OutOfMemory>
     ensures { IfOk result (λ key. key ≡ gate_of instance.now) }
 {
     match u32::try_from(instance.slot) {

@@ -2,46 +2,55 @@
 ghost use Rattle.std.specs.Prelude.{◌≡◌, [], true, IfErr, IfOk, OnOk, OnErr, is_some};
 ghost use Rattle.std.specs.List.{list_any};
 ghost use Rattle.scr_core.specs.declared.command.CoreFault.TheVariants.{OutOfMemory};
-ghost use Rattle.scr_core.specs.Calls.{Commands, Drains, EndsTurn, TakesTurn, awaits_drain_at, world_at};
+ghost use Rattle.scr_core.specs.Calls.{Commands, Drains, EndsTurn, TakesTurn, awaits_drain_at, next_drain, world_at};
 ghost use Rattle.scr_core.specs.Dues.{due_in};
+ghost use Rattle.scr_core.specs.HeldRows.{TellsHeld};
 ghost use Rattle.scr_core.specs.Legal.{IsLegal, is_under_way};
 ghost use Rattle.scr_core.specs.Readers.{component_lines};
+ghost use Rattle.scr_core.specs.Sound.{IsSound};
 ghost use Rattle.scr_core.specs.Steps.{history_of};
+ghost use Rattle.scr_core.specs.TurnLines.{turns_above};
+ghost use Rattle.scr_core.specs.TurnSteps.{work_under_way};
 
 use crate::command::{Accepted, Command, CoreFault, Limits, Step};
 use crate::commands::{install, start, stop};
 use crate::component_rows::{ComponentLine, lines};
 use crate::dues::due_in;
+use crate::held_rows::{HeldLine, held_rows};
 use crate::tables::{Tables, no_tables};
 use crate::turn::{Ended, Taken, Turn};
+use crate::turn_lines::{TurnLine, lines_above};
 use crate::turns::{drain, end, take};
+use crate::under_way::{next_drain, work_under_way};
 use callback_orders::Outcome;
 use journal_core::{GateKey, Journal};
 use prop_map::{List, OutOfMemory};
 use std::alloc::Global;
 use std::marker::Model;
+use turn_runner::TurnWork;
 
 /// The core of a platform. Contracts see its limits and the entries of its journal, the oldest first.
 ///
 /// Beside the journal it keeps what the journal says: the bundles, their descriptions and levels, the component
-/// configurations, which of them are open, satisfied and failed, and the living instances. So no command and no turn reads
-/// the journal again.
+/// configurations, which of them are open, satisfied and failed, the living instances, and the turns so far. So no command, no
+/// turn and no question reads the journal again.
 #[derive(Drop)]
 pub struct Core {
     limits: Limits,
     journal: Journal<Step>,
     tables: Tables,
+    lines: Vec<TurnLine>,
 }
 
 impl Model for Core {
     ghost use Rattle.scr_core.specs.Cores.{CoreView};
-    ghost use Rattle.scr_core.specs.Tables.{Keeps};
+    ghost use Rattle.scr_core.specs.CoreTables.{KeepsAll};
 
     ghost Value = { CoreView };
 
     ghost view = { λ c. record { limits = c.limits; journal = c.journal } };
 
-    ghost invariant = { λ c. Keeps c.limits.journal c.journal c.tables };
+    ghost invariant = { λ c. KeepsAll c.limits.journal c.journal c.tables c.lines.items };
 }
 
 impl Core {
@@ -57,6 +66,7 @@ impl Core {
             limits,
             journal: Journal::new(alloc),
             tables: no_tables(alloc),
+            lines: Vec::new(alloc),
         })
     }
 
@@ -64,8 +74,8 @@ impl Core {
     /// it is.
     ///
     /// # Errors
-    /// The first refusal whose condition holds. An install from a location that isn't known yet is refused `Cycle` where
-    /// some description would then have no level, and `BundlesFull` where there are 128 bundles. A start is refused
+    /// The first refusal whose condition holds. An install from a location that isn't known yet is refused `Cycle`, with the
+    /// told cycle, where some description would then have no level, and `BundlesFull` where there are 128 bundles. A start is refused
     /// `NoBundle` where there is no such bundle, `Stopping` with the lowest instance that keeps the bundle from having
     /// stopped, and `ComponentsFull` where it would make component configurations come and there would be more than 512;
     /// a stop is refused `NoBundle`. Last comes `JournalFull`, where the journal has no room for the entry of a command that
@@ -115,6 +125,7 @@ impl Core {
             self.limits.journal,
             &mut self.journal,
             &mut self.tables,
+            &mut self.lines,
         )
     }
 
@@ -140,6 +151,7 @@ impl Core {
             self.limits.journal,
             &mut self.journal,
             &mut self.tables,
+            &mut self.lines,
             number,
             outcome,
         ) {
@@ -187,6 +199,48 @@ impl Core {
         lines(alloc, &self.tables)
     }
 
+    /// The services that the living instances of a component configuration hold: by instance, then by reference.
+    ///
+    /// # Errors
+    /// `NoComponent` with the number as its name exactly where there is no such component configuration, or it has ceased.
+    /// Otherwise only want of memory.
+    pub fn held_rows(&self, alloc: Global, configuration: u64) -> Result<List<HeldLine>, CoreFault>
+        ensures { TellsHeld (world_at self.now.journal) configuration result }
+    {
+        held_rows(alloc, &self.tables, configuration)
+    }
+
+    /// The turns with a number above this one, by number, each with its outcome once it has ended.
+    ///
+    /// # Errors
+    /// Only want of memory.
+    pub fn trace(&self, alloc: Global, after: u64) -> Result<List<TurnLine>, OutOfMemory>
+        ensures { IfOk result (λ lines. lines ≡ turns_above after (history_of self.now.journal)) }
+    {
+        lines_above(alloc, &self.lines, after)
+    }
+
+    /// The work of a turn that is under way: `None` exactly where no turn of this number is.
+    ///
+    /// # Errors
+    /// Only want of memory.
+    pub fn turn_work(&self, alloc: Global, turn: u64) -> Result<Option<TurnWork>, OutOfMemory>
+        ensures { IfOk result (λ work. work ≡ work_under_way (world_at self.now.journal) turn) }
+    {
+        work_under_way(alloc, &self.tables, turn)
+    }
+
+    /// The gate of the first instance whose drain isn't posted though its gate is shut, to be given to [`Core::drained`] once nobody
+    /// is inside; `None` where no instance awaits its drain.
+    ///
+    /// # Errors
+    /// Only want of memory: a slot that is no number of 32 bits counts as that.
+    pub fn next_drain(&self) -> Result<Option<GateKey>, OutOfMemory>
+        ensures { IfOk result (λ key. key ≡ next_drain (world_at self.now.journal)) }
+    {
+        next_drain(&self.tables)
+    }
+
     /// The limits that it was made with.
     pub fn limits(&self) -> Limits
         ensures { result ≡ self.now.limits }
@@ -200,6 +254,13 @@ impl Core {
         ensures legal { IsLegal self.now.limits.journal (history_of self.now.journal) }
     {
         &self.journal
+    }
+
+    /// For contracts alone: what holds of the world of every legal journal.
+    pub fn note_sound(&self)
+        ensures { IsSound self.now.limits.journal (world_at self.now.journal) }
+    {
+        let _tables = &self.tables;
     }
 
     /// For contracts alone: the journal is legal.

@@ -36,6 +36,33 @@ fn plain(rt: HostRuntime, interface: &str) -> Result<Reference, AllocError> {
     })
 }
 
+fn described(
+    rt: HostRuntime,
+    name: &str,
+    provided: &[&str],
+    needed: &[&str],
+    policy: ConfigurationPolicy,
+) -> Result<Description, AllocError> {
+    let alloc = rt.alloc();
+    let mut references = Vec::new(alloc);
+    for need in needed {
+        references.push(plain(rt, need)?)?;
+    }
+    Ok(Description {
+        name: text(rt, name)?,
+        scope: Scope::Singleton,
+        implementation_class: text(rt, name)?,
+        default_enabled: true,
+        immediate: provided.is_empty(),
+        service_interfaces: texts(rt, provided)?,
+        properties: Properties::new(alloc),
+        references: List::of(references),
+        modified: None,
+        configuration_policy: policy,
+        configuration_pids: texts(rt, &[name])?,
+    })
+}
+
 // A bundle of one component of its location's name.
 fn document(
     rt: HostRuntime,
@@ -43,25 +70,22 @@ fn document(
     provided: &[&str],
     needed: &[&str],
 ) -> Result<BundleDoc, AllocError> {
+    let optional = ConfigurationPolicy::Optional;
+    document_of(
+        rt,
+        location,
+        described(rt, location, provided, needed, optional)?,
+    )
+}
+
+fn document_of(
+    rt: HostRuntime,
+    location: &str,
+    description: Description,
+) -> Result<BundleDoc, AllocError> {
     let alloc = rt.alloc();
-    let mut references = Vec::new(alloc);
-    for need in needed {
-        references.push(plain(rt, need)?)?;
-    }
     let mut descriptions = Vec::new(alloc);
-    descriptions.push(Description {
-        name: text(rt, location)?,
-        scope: Scope::Singleton,
-        implementation_class: text(rt, location)?,
-        default_enabled: true,
-        immediate: provided.is_empty(),
-        service_interfaces: texts(rt, provided)?,
-        properties: Properties::new(alloc),
-        references: List::of(references),
-        modified: None,
-        configuration_policy: ConfigurationPolicy::Optional,
-        configuration_pids: texts(rt, &[location])?,
-    })?;
+    descriptions.push(description)?;
     Ok(BundleDoc {
         location: text(rt, location)?,
         name: text(rt, location)?,
@@ -134,6 +158,17 @@ fn run(rt: HostRuntime, core: &mut Core) -> Result<String, Fail> {
         })?;
     }
     Ok(told)
+}
+
+// Posts the drains that are awaited, ten at most.
+fn drain_all(rt: HostRuntime, core: &mut Core) -> Result<(), AllocError> {
+    for _ in 0..10 {
+        let Some(key) = core.next_drain()? else {
+            return Ok(());
+        };
+        core.drained(rt.alloc(), key)?;
+    }
+    Ok(())
 }
 
 #[test]
@@ -219,5 +254,126 @@ fn a_full_journal_refuses_last(rt: HostRuntime) -> Result<(), Fail> {
         reply(rt, &mut core, Command::Stop { bundle: 1 }),
         Err(CoreFault::JournalFull)
     );
+    Ok(())
+}
+
+// A core with a consumer and its provider, on which nothing is due.
+fn settled(rt: HostRuntime) -> Result<Core, Fail> {
+    let mut core = Core::new(rt.alloc(), LIMITS).ok().ok_or("a core")?;
+    started(rt, &mut core).ok().ok_or("two bundles")?;
+    run(rt, &mut core)?;
+    Ok(core)
+}
+
+#[test]
+fn a_shut_gate_is_drained(rt: HostRuntime) -> Result<(), Fail> {
+    let mut core = settled(rt)?;
+    reply(rt, &mut core, Command::Stop { bundle: 2 })
+        .ok()
+        .ok_or("a stop")?;
+    drain_all(rt, &mut core)?;
+    assert!(rt; core.next_drain()?.is_none());
+    assert_eq!(rt; run(rt, &mut core)?.as_str(), "duxdx");
+    Ok(())
+}
+
+fn tells_no_work(rt: HostRuntime, core: &Core) -> Result<bool, AllocError> {
+    Ok(core.turn_work(rt.alloc(), 1)?.is_none())
+}
+
+fn tells_work(rt: HostRuntime, core: &mut Core) -> Result<bool, CoreFault> {
+    match core.take_turn(rt.alloc())? {
+        Taken::Idle => Ok(false),
+        Taken::Turn(_, work) => Ok(core.turn_work(rt.alloc(), 1)? == Some(work)),
+    }
+}
+
+#[test]
+fn a_turn_under_way_has_its_work(rt: HostRuntime) -> Result<(), Fail> {
+    let mut core = Core::new(rt.alloc(), LIMITS).ok().ok_or("a core")?;
+    started(rt, &mut core).ok().ok_or("two bundles")?;
+    assert!(rt; tells_no_work(rt, &core)?);
+    assert!(rt; tells_work(rt, &mut core).ok().ok_or("a turn")?);
+    Ok(())
+}
+
+fn tells_last_turn(rt: HostRuntime, core: &Core) -> Result<bool, AllocError> {
+    let lines = core.trace(rt.alloc(), 4)?;
+    Ok(match lines.as_slice() {
+        [line] => {
+            line.turn == 5
+                && line.callback == Callback::Activate
+                && line.instance == 1
+                && line.name.as_str() == "c"
+                && line.outcome == Some(Outcome::Done)
+        }
+        _ => false,
+    })
+}
+
+#[test]
+fn turns_are_told(rt: HostRuntime) -> Result<(), Fail> {
+    let core = settled(rt)?;
+    assert!(rt; tells_last_turn(rt, &core)?);
+    Ok(())
+}
+
+fn tells_held(rt: HostRuntime, core: &Core) -> bool {
+    match core.held_rows(rt.alloc(), 1) {
+        Ok(lines) => match lines.as_slice() {
+            [line] => line.instance == 1 && line.service == 1,
+            _ => false,
+        },
+        Err(_) => false,
+    }
+}
+
+fn tells_none(rt: HostRuntime, core: &Core) -> bool {
+    match core.held_rows(rt.alloc(), 12) {
+        Err(CoreFault::NoComponent { name }) => name.as_str() == "12",
+        _ => false,
+    }
+}
+
+#[test]
+fn held_services_are_told(rt: HostRuntime) -> Result<(), Fail> {
+    let core = settled(rt)?;
+    assert!(rt; tells_held(rt, &core));
+    assert!(rt; tells_none(rt, &core));
+    Ok(())
+}
+
+fn install(rt: HostRuntime, core: &mut Core, doc: BundleDoc) -> Result<(), CoreFault> {
+    reply(rt, core, Command::Install { doc })?;
+    Ok(())
+}
+
+// Three bundles, each of which consumes the next one, and the last one the first.
+fn in_a_circle(rt: HostRuntime, core: &mut Core) -> Result<(), CoreFault> {
+    install(rt, core, document(rt, "x", &["X"], &["Y"])?)?;
+    install(rt, core, document(rt, "y", &["Y"], &["Z"])?)?;
+    install(rt, core, document(rt, "z", &["Z"], &["X"])?)
+}
+
+#[test]
+fn a_cycle_is_told(rt: HostRuntime) -> Result<(), Fail> {
+    let mut core = Core::new(rt.alloc(), LIMITS).ok().ok_or("a core")?;
+    let path = texts(rt, &["x", "y", "z", "x"])?;
+    assert_eq!(rt; in_a_circle(rt, &mut core), Err(CoreFault::Cycle { path }));
+    Ok(())
+}
+
+fn start_required(rt: HostRuntime, core: &mut Core) -> Result<(), CoreFault> {
+    let description = described(rt, "r", &[], &[], ConfigurationPolicy::Require)?;
+    install(rt, core, document_of(rt, "r", description)?)?;
+    reply(rt, core, Command::Start { bundle: 1 })?;
+    Ok(())
+}
+
+#[test]
+fn a_configuration_is_required(rt: HostRuntime) -> Result<(), Fail> {
+    let mut core = Core::new(rt.alloc(), LIMITS).ok().ok_or("a core")?;
+    start_required(rt, &mut core).ok().ok_or("a bundle")?;
+    assert_eq!(rt; states(rt, &core)?.as_slice(), [1u8].as_slice());
     Ok(())
 }

@@ -5,7 +5,9 @@ ghost use Rattle.std.specs.Option.{option_copied, option_map_or};
 ghost use Rattle.scr_core.specs.Calls.{Drains, EndsTurn, TakesTurn, awaits_drain_at, world_at};
 ghost use Rattle.scr_core.specs.Consequences.{is_draining, reopened_by};
 ghost use Rattle.scr_core.specs.Legal.{is_under_way};
+ghost use Rattle.scr_core.specs.Steps.{history_of};
 ghost use Rattle.scr_core.specs.Tables.{Keeps, world_in};
+ghost use Rattle.scr_core.specs.TurnLines.{turn_lines};
 ghost use Rattle.scr_core.specs.TurnSteps.{component_properties, empty_site, found_in, site_of, work_of};
 
 use crate::command::{CoreFault, Step};
@@ -17,6 +19,7 @@ use crate::room::{has_room, needed_by};
 use crate::tables::Tables;
 use crate::turn::{Ended, Taken, Turn};
 use crate::turn_growth::grow_by_turn;
+use crate::turn_lines::{TurnLine, end_line, line_for};
 use crate::turn_steps::reopening;
 use crate::views::component_of;
 use callback_orders::Outcome;
@@ -66,7 +69,11 @@ pub(crate) fn name_in(
     }
 }
 
-fn site_in(alloc: Global, components: &[Component], configuration: u64) -> Result<Site, OutOfMemory>
+pub(crate) fn site_in(
+    alloc: Global,
+    components: &[Component],
+    configuration: u64,
+) -> Result<Site, OutOfMemory>
     ensures { IfOk result (λ site. site ≡ option_map_or site_of (found_in components.now configuration) empty_site) }
 {
     match component_of(components, configuration) {
@@ -107,9 +114,12 @@ pub(crate) fn take(
     limit: u64,
     journal: &mut Journal<Step>,
     tables: &mut Tables,
+    lines: &mut Vec<TurnLine>,
 ) -> Result<Taken, CoreFault>
-    requires { Keeps limit journal.old tables.old }
+    requires keeps { Keeps limit journal.old tables.old }
+    requires lines { lines.old.items ≡ turn_lines (history_of journal.old) }
     ensures keeps { Keeps limit journal.new tables.new }
+    ensures lines { lines.new.items ≡ turn_lines (history_of journal.new) }
     ensures answer { TakesTurn limit journal.old result journal.new }
 {
     let Some(step) = next_begin(alloc, tables)? else {
@@ -122,7 +132,10 @@ pub(crate) fn take(
         return Ok(Taken::Idle);
     };
     let turn = Turn::new(work.number);
+    let line = line_for(alloc, &work)?;
+    lines.reserve(1)?;
     grow_by_turn(alloc, limit, journal, tables, step)?;
+    lines.push_reserved(line);
     Ok(Taken::Turn(turn, work))
 }
 
@@ -146,17 +159,21 @@ pub(crate) fn end(
     limit: u64,
     journal: &mut Journal<Step>,
     tables: &mut Tables,
+    lines: &mut [TurnLine],
     turn: u64,
     outcome: Outcome,
 ) -> Result<Ended, OutOfMemory>
     requires keeps { Keeps limit journal.old tables.old }
+    requires lines { lines.old ≡ turn_lines (history_of journal.old) }
     requires turn { is_under_way (world_at journal.old) turn ≡ true }
     ensures keeps { Keeps limit journal.new tables.new }
+    ensures lines { lines.new ≡ turn_lines (history_of journal.new) }
     ensures ok { IfOk result (λ ended. EndsTurn limit journal.old turn outcome ended journal.new) }
     ensures err { OnErr result (journal.new ≡ journal.old) }
 {
     let reopened = reopened(tables, turn, outcome)?;
     let shut = grow_by_turn(alloc, limit, journal, tables, Step::End { turn, outcome })?;
+    end_line(lines, turn, outcome);
     Ok(Ended { shut, reopened })
 }
 

@@ -1,4 +1,6 @@
-use Rattle.std.proofs.Common.{◌∙◌, sym}
+use Rattle.std.proofs.Common.{◌∙◌, List, subst, sym}
+use Rattle.component_dto.specs.declared.description.Description.{Description}
+use Rattle.level_order.specs.Cycles.{TellsCycle}
 use Rattle.scr_core.proofs.Answering.{install_known, install_cycle, install_full, install_no_room, install_changes}
 use Rattle.scr_core.proofs.commands.install.Goals as goal
 
@@ -8,7 +10,11 @@ returns-in-Some-clause-answer c = install_known c.args.limit c.args.journal.now 
 pub returns-in-Err-Cycle-clause-answer : goal.returns-in-Err-Cycle-clause-answer
 returns-in-Err-Cycle-clause-answer c =
     let none = rw c.in-Err-Cycle.field-0-is at c.in-Err-Cycle.ensures in
+    rw c.in-Err-Cycle.field-0-is
+    (
     install_cycle c.args.limit c.args.journal.now c.args.tables.now c.requires c.args.doc (sym c.known.ensures ∙ c.in_default.is) c.in_ok-all.all.items (rw (c.deref.ensures.value, c.as_slice.ensures) at c.in_ok-all.ensures) (rw c.deref-2.ensures.value at none.0)
+    c.in-Err-Cycle.path (subst (λ (ds : List Description). TellsCycle ds c.in-Err-Cycle.path) c.deref-2.ensures.value none.1)
+    )
 
 pub returns-in_default-next_number-clause-answer : goal.returns-in_default-next_number-clause-answer
 returns-in_default-next_number-clause-answer c =

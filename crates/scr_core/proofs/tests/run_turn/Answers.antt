@@ -1,8 +1,6 @@
 use Rattle.std.proofs.Common.{◌≡◌, ℕ, Ok, sym, subst, true}
-use Rattle.std.specs.Prelude.{Result}
 use Rattle.scr_core.specs.Calls.{TakesTurn, world_at}
 use Rattle.scr_core.specs.Legal.{is_under_way}
-use Rattle.scr_core.specs.declared.command.CoreFault.{CoreFault}
 use Rattle.scr_core.specs.declared.turn.Taken.{Taken}
 use Rattle.scr_core.proofs.UnderWay.{taken_under_way}
 use Rattle.scr_core.proofs.tests.run_turn.Goals as goal

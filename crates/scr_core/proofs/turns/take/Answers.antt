@@ -7,7 +7,7 @@ use Rattle.scr_core.proofs.turns.take.Goals as goal
 
 pub returns-in_default-clause-answer : goal.returns-in_default-clause-answer
 returns-in_default-clause-answer c =
-    (subst (λ (w : World). due_in w ≡ None) c.requires.world (idle c.args.limit (world_in c.args.tables.now) c.requires.tables.sound (sym c.in_ok-step.ensures ∙ c.in_default.is)), refl)
+    (subst (λ (w : World). due_in w ≡ None) c.requires.keeps.world (idle c.args.limit (world_in c.args.tables.now) c.requires.keeps.tables.sound (sym c.in_ok-step.ensures ∙ c.in_default.is)), refl)
 
 pub returns-in_default-2-clause-answer : goal.returns-in_default-2-clause-answer
 returns-in_default-2-clause-answer c =

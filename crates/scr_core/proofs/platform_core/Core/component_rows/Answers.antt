@@ -12,5 +12,5 @@ pub returns : goal.returns
 returns c =
     let t = c.self.inside.tables in
     subst (λ (v : CoreView). IfOk c.lines.result (λ ls. ls ≡ component_lines (world_at v.journal))) c.self.view_is
-    (subst (λ (w : World). IfOk c.lines.result (λ ls. ls ≡ component_lines w)) c.self.invariant.world
-    (subst (λ ns. IfOk c.lines.result (λ ls. ls ≡ map (line_by (world_in t) ns) (living t.components.items))) c.self.invariant.tables.satisfied c.lines.ensures))
+    (subst (λ (w : World). IfOk c.lines.result (λ ls. ls ≡ component_lines w)) c.self.invariant.tables.world
+    (subst (λ ns. IfOk c.lines.result (λ ls. ls ≡ map (line_by (world_in t) ns) (living t.components.items))) c.self.invariant.tables.tables.satisfied c.lines.ensures))
