@@ -1,0 +1,3 @@
+pub mod ShellLines
+pub mod FaultTexts
+pub mod ReplyTexts
