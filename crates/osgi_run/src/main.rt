@@ -1,6 +1,7 @@
-//! The program: the words of the command line, standard input and standard output.
+//! The program: the words of the command line, standard input and standard output, over the component code of the demonstration.
 #![tactic(auto)]
 
+use demonstration_kinds::Demonstration;
 use fault_count::{StdSink, StdSource};
 use platform_shell::{Platform, Status, run_script};
 use scr_core::Limits;
@@ -30,7 +31,7 @@ fn main(rt: HostRuntime) -> ExitCode {
             return ended(Status::NoMemory);
         }
     }
-    let Ok(mut platform) = Platform::new(alloc, LIMITS) else {
+    let Ok(mut platform) = Platform::new(alloc, Demonstration, LIMITS) else {
         return ended(Status::NoMemory);
     };
     let mut input = StdSource::new(rt.reader());

@@ -1,66 +1,177 @@
--- How a run makes the journal grow.
-use Rattle.std.proofs.Common.{◌≡◌, ℕ, List, [], ◌∷◌, ◌++◌, map, Bool, true, false, cond, sym, ap, ◌∙◌, subst, append_assoc, append-nil}
-use Rattle.std.proofs.lemmas.List.{map-append, reverse-append}
+-- How the calls of a platform make its journal grow.
+use Rattle.std.proofs.Common.{◌≡◌, ℕ, zero, suc, List, [], ◌∷◌, ◌++◌, Bool, true, false, cond, not, ◌&&◌, refl, sym, ap, ◌∙◌, subst, append_assoc, append-nil, None, Some, Ok, Err, inl, inr, is_none}
+use Rattle.std.specs.Prelude.{Result}
+use Rattle.std.specs.declared.option.Option.{Option}
+use Rattle.std.specs.Option.{option_map_or, option_or}
+use Rattle.std.proofs.lemmas.List.{reverse-append}
+use Rattle.std.proofs.lemmas.Grind.{flat_map-append}
+use Rattle.callback_orders.specs.declared.callback.Outcome.{Outcome}
 use Rattle.journal_core.specs.declared.entry.Entry.{Entry}
+use Rattle.kind_trait.specs.Meanings.{Told}
+use Rattle.prop_map.specs.declared.properties.Property.{Property}
 use Rattle.scr_core.specs.declared.command.Command.{Command}
+use Rattle.scr_core.specs.declared.command.CoreFault.{CoreFault}
+use Rattle.scr_core.specs.declared.command.CoreFault.TheVariants.{NoBundle, NoComponent, Stopping, Cycle, BundlesFull, ComponentsFull, JournalFull as InCore, OutOfMemory as NoMemory}
+use Rattle.scr_core.specs.declared.command.Limits.{Limits}
+use Rattle.scr_core.specs.declared.command.Reply.{Reply}
 use Rattle.scr_core.specs.declared.command.Step.{Step}
-use Rattle.scr_core.specs.declared.command.Step.TheVariants.{Command as Stepped}
-use Rattle.scr_core.specs.Calls.{Grown, GrownIf, world_at}
+use Rattle.scr_core.specs.declared.command.Step.TheVariants.{Command as Stepped, Begin, End, Drained as DrainStep}
+use Rattle.scr_core.specs.Calls.{Grown, GrownIf}
+use Rattle.scr_core.specs.Cores.{CoreView}
 use Rattle.scr_core.specs.Legal.{IsLegal}
-use Rattle.scr_core.specs.Replies.{changes}
+use Rattle.scr_core.specs.Replies.{answer, changes, has_effect, refusal, refuse_if, reply}
+use Rattle.scr_core.specs.Room.{has_room}
 use Rattle.scr_core.specs.Steps.{history_of}
-use Rattle.platform_shell.specs.declared.shell_line.ShellLine.{ShellLine}
-use Rattle.platform_shell.specs.declared.shell_line.ShellLine.TheVariants.{Silent, Quit, Components, Command as Commanded, Refused}
-use Rattle.platform_shell.specs.ShellLines.{shell_line}
-use Rattle.platform_shell.specs.Runs.{Asks, Entries, Grew, Ran}
+use Rattle.scr_core.specs.TurnSteps.{work_of}
+use Rattle.scr_core.specs.Worlds.{World}
+use Rattle.turn_runner.specs.declared.settle_fault.SettleFault.{SettleFault}
+use Rattle.turn_runner.specs.declared.settle_fault.SettleFault.TheVariants.{Unsettled, JournalFull, OutOfMemory}
+use Rattle.turn_runner.specs.declared.turn_work.TurnWork.{TurnWork}
+use Rattle.turn_runner.specs.Turns.{Ends as EndsTurn, IsCutOff, Settles as SettlesBy, Turns}
+use Rattle.platform_hall.specs.Platforms.{Accepts, Begins, Drained, Ends, Posts, Settles, TakesCommand, world}
+use Rattle.platform_shell.specs.Asks.{changed}
+use Rattle.platform_shell.specs.Runs.{Grew, command_in, commands_in}
 
 -- a history grows at its front
-history_more : (journal : Entries) (entry : Entry Step) → history_of (journal ++ entry ∷ []) ≡ entry ∷ history_of journal
+pub history_more : (journal : List (Entry Step)) (entry : Entry Step) → history_of (journal ++ entry ∷ []) ≡ entry ∷ history_of journal
 history_more journal entry = reverse-append journal (entry ∷ [])
 
--- no command changed anything
-grew_not : (limit : ℕ) (before after : Entries) (commands : List Command) → after ≡ before → commands ≡ [] → Grew limit before after commands
-grew_not limit before after commands same none = record {
+-- nothing happened
+pub grew_not : (before after : CoreView) → after ≡ before → Grew before after []
+grew_not before after same = record {
   entries = [];
-  grown = same ∙ sym (append-nil before);
-  steps = sym (ap (λ cs. map (λ c. Stepped c) cs) none);
-  legal = λ legal. (let P : Entries → Type 0 = λ j. IsLegal limit (history_of j) in subst P (sym same) legal);
+  grown = ap (λ (p : CoreView). p.journal) same ∙ sym (append-nil before.journal);
+  told = refl;
+  limits = ap (λ (p : CoreView). p.limits) same;
+  legal = λ legal. (let P : CoreView → Type 0 = λ p. IsLegal p.limits.journal (history_of p.journal) in subst P (sym same) legal);
 }
 
--- one command changed something
-grew_one : (limit : ℕ) (before after : Entries) (command : Command) → Grown limit before (Stepped command) after → Grew limit before after (command ∷ [])
-grew_one limit before after command (entry, step, follows, more) = record {
+-- one entry
+pub grew_step : (before after : CoreView) (step : Step) (commands : List Command) → after.limits ≡ before.limits → Grown before.limits.journal before.journal step after.journal
+    → command_in step ≡ commands → Grew before after commands
+grew_step before after step commands same (entry, is, follows, more) told = record {
   entries = entry ∷ [];
   grown = more;
-  steps = ap (λ s. s ∷ []) step;
+  told = append-nil (command_in entry.step) ∙ ap command_in is ∙ told;
+  limits = same;
   legal = λ legal.
-      let P : Entries → Type 0 = λ h. IsLegal limit h in
-      subst P (sym (ap history_of more ∙ history_more before entry)) (follows, legal);
+      let P : Limits → Type 0 = λ limits. IsLegal limits.journal (history_of after.journal) in
+      let Q : List (Entry Step) → Type 0 = λ h. IsLegal before.limits.journal h in
+      subst P (sym same) (subst Q (sym (ap history_of more ∙ history_more before.journal entry)) (follows, legal));
 }
 
-grew_if : (change : Bool) (limit : ℕ) (before after : Entries) (command : Command) (commands : List Command) → GrownIf change limit before (Stepped command) after
-    → commands ≡ cond change (command ∷ []) [] → Grew limit before after commands
-grew_if true limit before after command commands grown is = let P : List Command → Type 0 = λ cs. Grew limit before after cs in subst P (sym is) (grew_one limit before after command grown)
-grew_if false limit before after command commands same is = grew_not limit before after commands same is
-
-grew_asked : (limit : ℕ) (asked : ShellLine) (before after : Entries) (commands : List Command) (text : List ℕ) → Asks limit asked before after commands text → Grew limit before after commands
-grew_asked limit Silent before after commands text (same, none, told) = grew_not limit before after commands same none
-grew_asked limit Quit before after commands text (same, none, told) = grew_not limit before after commands same none
-grew_asked limit Components before after commands text (same, none, told) = grew_not limit before after commands same none
-grew_asked limit (Refused fault) before after commands text (same, none, told) = grew_not limit before after commands same none
-grew_asked limit (Commanded command) before after commands text (grown, is, told, room) = grew_if (changes limit (world_at before) command) limit before after command commands grown is
-
-grew_trans : (limit : ℕ) (a b c : Entries) (now later commands : List Command) → Grew limit a b now → Grew limit b c later → commands ≡ now ++ later → Grew limit a c commands
-grew_trans limit a b c now later commands first second all = record {
+pub grew_trans : (a b c : CoreView) (now later : List Command) → Grew a b now → Grew b c later → Grew a c (now ++ later)
+grew_trans a b c now later first second = record {
   entries = first.entries ++ second.entries;
-  grown = second.grown ∙ ap (λ w. w ++ second.entries) first.grown ∙ append_assoc a first.entries second.entries;
-  steps = map-append (λ (e : Entry Step). e.step) first.entries second.entries ∙ ap (λ w. w ++ map (λ (e : Entry Step). e.step) second.entries) first.steps ∙ ap (λ w. map (λ c. Stepped c) now ++ w) second.steps
-      ∙ sym (map-append (λ c. Stepped c) now later) ∙ ap (λ cs. map (λ c. Stepped c) cs) (sym all);
+  grown = second.grown ∙ ap (λ w. w ++ second.entries) first.grown ∙ append_assoc a.journal first.entries second.entries;
+  told = flat_map-append (λ (e : Entry Step). command_in e.step) first.entries second.entries ∙ ap (λ w. w ++ commands_in second.entries) first.told ∙ ap (λ w. now ++ w) second.told;
+  limits = second.limits ∙ first.limits;
   legal = λ legal. second.legal (first.legal legal);
 }
 
--- lines that ran made the journal grow by what they changed
-pub grew_ran : (limit : ℕ) (lines : List (List ℕ)) (before after : Entries) (commands : List Command) (text : List ℕ) → Ran limit lines before after commands text → Grew limit before after commands
-grew_ran limit [] before after commands text (same, none, told) = grew_not limit before after commands same none
-grew_ran limit (line ∷ lines) before after commands text (between, now, later, first, rest, answered, ran, all, whole) =
-    grew_trans limit before between after now later commands (grew_asked limit (shell_line line) before between now first answered) (grew_ran limit lines between after later rest ran) all
+-- the same commands, otherwise put together
+pub grew_same : (before after : CoreView) (commands commands' : List Command) → commands ≡ commands' → Grew before after commands → Grew before after commands'
+grew_same before after commands commands' same grew = let P : List Command → Type 0 = λ cs. Grew before after cs in subst P same grew
+
+-- no command behind some
+grew_behind : (a b c : CoreView) (now : List Command) → Grew a b now → Grew b c [] → Grew a c now
+grew_behind a b c now first second = grew_same a c (now ++ []) now (append-nil now) (grew_trans a b c now [] first second)
+
+-- a platform with this journal
+abbrev with_journal : CoreView → List (Entry Step) → CoreView
+with_journal p journal = record { limits = p.limits; journal = journal }
+
+grew_drained : (count : ℕ) (before : CoreView) (journal : List (Entry Step)) → Drained before.limits.journal count before.journal journal → Grew before (with_journal before journal) []
+grew_drained zero before journal same = grew_not before (with_journal before journal) (ap (with_journal before) same)
+grew_drained (suc count) before journal (between, key, drained, (i, found, grown)) =
+    grew_behind before (with_journal before between) (with_journal before journal) [] (grew_drained count before between drained)
+    (grew_step (with_journal before between) (with_journal before journal) (DrainStep i.number) [] refl grown refl)
+
+-- drains
+pub grew_posts : (before after : CoreView) → Posts before after → Grew before after []
+grew_posts before after (same, count, drained) =
+    let P : CoreView → Type 0 = λ p. Grew before p [] in
+    subst P (sym (ap (λ (l : Limits). record { limits = l; journal = after.journal }) same)) (grew_drained count before after.journal drained)
+
+grew_if : (change : Bool) (before after : CoreView) (command : Command) → after.limits ≡ before.limits → GrownIf change before.limits.journal before.journal (Stepped command) after.journal
+    → Grew before after (cond change (command ∷ []) [])
+grew_if true before after command same grown = grew_step before after (Stepped command) (command ∷ []) same grown refl
+grew_if false before after command same still = grew_not before after (ap (λ (l : Limits). record { limits = l; journal = after.journal }) same ∙ ap (with_journal before) still)
+
+-- a command that isn't refused
+pub grew_accepts : (before after : CoreView) (command : Command) (said : Reply) → Accepts before command said after → Grew before after (changed before command)
+grew_accepts before after command said (accepted, between, is, (same, (replies, shut, grown)), posts) =
+    grew_behind before between after (changed before command) (grew_if (changes before.limits.journal (world before) command) before between command same grown) (grew_posts between after posts)
+
+refused_by : (refused : Option CoreFault) (effect room : Bool) (said : Reply) (fault : CoreFault)
+    → option_map_or (λ f. Err f) (option_or refused (refuse_if (effect && not room) InCore)) (Ok said) ≡ Err fault → (is_none refused && (effect && room)) ≡ false
+refused_by (Some f) effect room said fault is = refl
+refused_by None false room said fault is = refl
+refused_by None true false said fault is = refl
+refused_by None true true said fault is = cc
+
+-- a command that is refused changes nothing
+pub refused_changes_nothing : (limit : ℕ) (w : World) (command : Command) (fault : CoreFault) → reply limit w command ≡ Err fault → changes limit w command ≡ false
+refused_changes_nothing limit w command fault is = refused_by (refusal w command) (has_effect w command) (has_room limit w 1) (answer w command) fault is
+
+-- a platform whose limits and journal stay
+pub stays_whole : (before after : CoreView) → after.limits ≡ before.limits → after.journal ≡ before.journal → after ≡ before
+stays_whole before after same still = ap (λ (l : Limits). record { limits = l; journal = after.journal }) same ∙ ap (with_journal before) still
+
+-- a command that is refused
+grew_refused : (before after : CoreView) (command : Command) (fault : CoreFault) → after.limits ≡ before.limits → reply before.limits.journal (world before) command ≡ Err fault → after.journal ≡ before.journal
+    → Grew before after (changed before command)
+grew_refused before after command fault same is still =
+    grew_same before after [] (changed before command) (sym (ap (λ (b : Bool). cond b (command ∷ []) []) (refused_changes_nothing before.limits.journal (world before) command fault is)))
+    (grew_not before after (stays_whole before after same still))
+
+-- a command that is answered
+pub grew_takes : (before after : CoreView) (command : Command) (said : Result Reply CoreFault) → TakesCommand before command said after → (said ≡ Err NoMemory → ⊥) → Grew before after (changed before command)
+grew_takes before after command (Ok said) (accepts, none) told = grew_accepts before after command said accepts
+grew_takes before after command (Err (NoBundle bundle)) (same, (is, still)) told = grew_refused before after command (NoBundle bundle) same is still
+grew_takes before after command (Err (NoComponent name)) (same, (is, still)) told = grew_refused before after command (NoComponent name) same is still
+grew_takes before after command (Err (Stopping instance)) (same, (is, still)) told = grew_refused before after command (Stopping instance) same is still
+grew_takes before after command (Err (Cycle path)) (same, ((is, tells), still)) told = grew_refused before after command (Cycle []) same is still
+grew_takes before after command (Err BundlesFull) (same, (is, still)) told = grew_refused before after command BundlesFull same is still
+grew_takes before after command (Err ComponentsFull) (same, (is, still)) told = grew_refused before after command ComponentsFull same is still
+grew_takes before after command (Err InCore) (same, (is, still)) told = grew_refused before after command InCore same is still
+grew_takes before after command (Err NoMemory) ran told = absurd (told refl)
+
+-- a step that begins a turn is no command
+no_command : (w : World) (step : Step) (work : TurnWork) → work_of w step ≡ Some work → command_in step ≡ []
+no_command w (Stepped command) work is = absurd cc
+no_command w (Begin turn instance configuration consumer callback chosen) work is = refl
+no_command w (End turn outcome) work is = refl
+no_command w (DrainStep instance) work is = refl
+
+-- the beginning of a turn
+pub grew_begins : (before after : CoreView) (work : TurnWork) → Begins before work after → Grew before after []
+grew_begins before after work (same, (step, next, is, grown)) = grew_step before after step [] same grown (no_command (world before) step work is)
+
+-- its end
+pub grew_ends : (before after : CoreView) (turn : ℕ) (outcome : Outcome) → Ends before turn outcome after → Grew before after []
+grew_ends before after turn outcome (same, grown) = grew_step before after (End turn outcome) [] same grown refl
+
+grew_turn : (before after : CoreView) (work : TurnWork) (outcome : Outcome) → EndsTurn Begins Ends Posts work outcome before after → Grew before after []
+grew_turn before after work outcome (begun, over, begins, ends, posts) =
+    grew_behind before begun after [] (grew_begins before begun work begins) (grew_behind begun over after [] (grew_ends begun over work.number outcome ends) (grew_posts over after posts))
+
+grew_turns : (refuses : List ℕ → List Property → Told → Bool) (count : ℕ) (before after : CoreView) → Turns Begins Ends Posts refuses count before after → Grew before after []
+grew_turns refuses zero before after same = grew_not before after (sym same)
+grew_turns refuses (suc count) before after (between, turns, (work, turn)) = grew_behind before between after [] (grew_turns refuses count before between turns) (grew_turn between after work _ turn)
+
+grew_settles : (refuses : List ℕ → List Property → Told → Bool) (count : ℕ) (before after : CoreView) → SettlesBy Begins Ends Posts refuses count before after → Grew before after []
+grew_settles refuses count before after (start, posts, turns) = grew_behind before start after [] (grew_posts before start posts) (grew_turns refuses count start after turns)
+
+grew_cut_off : (refuses : List ℕ → List Property → Told → Bool) (before after : CoreView) → IsCutOff Begins Ends Posts refuses before after → Grew before after []
+grew_cut_off refuses before after (inl (work, begins)) = grew_begins before after work begins
+grew_cut_off refuses before after (inr (work, outcome, is, ends)) = grew_turn before after work outcome ends
+
+-- a settling, however it ends
+pub grew_settled : (refuses : List ℕ → List Property → Told → Bool) (turns : ℕ) (before after : CoreView) (said : Result ℕ SettleFault) → Settles refuses turns before said after → Grew before after []
+grew_settled refuses turns before after (Ok count) (within, settles, due, drain) = grew_settles refuses count before after settles
+grew_settled refuses turns before after (Err Unsettled) (settles, due) = grew_settles refuses turns before after settles
+grew_settled refuses turns before after (Err JournalFull) (count, below, settles, due, room) = grew_settles refuses count before after settles
+grew_settled refuses turns before after (Err OutOfMemory) (inl (count, within, settles)) = grew_settles refuses count before after settles
+grew_settled refuses turns before after (Err OutOfMemory) (inr (count, between, below, settles, cut)) =
+    grew_behind before between after [] (grew_settles refuses count before between settles) (grew_cut_off refuses between after cut)

@@ -1,8 +1,11 @@
 pub mod LineLemmas
 pub mod ReadingLemmas
-pub mod CommandLemmas
-pub mod TextLemmas
 pub mod Writing
 pub mod Growth
+pub mod LineGrowth
+pub mod Refusals
+pub mod Resting
+pub mod PlainDocuments
+pub mod Plain
 pub mod Progress
 pub mod EndingLemmas

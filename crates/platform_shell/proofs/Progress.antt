@@ -1,6 +1,7 @@
 -- How far a run has come, and how it goes on.
-use Rattle.std.proofs.Common.{◌≡◌, ◌≢◌, ◌<◌, ◌≤◌, ℕ, List, [], ◌∷◌, ◌++◌, ◌+◌, length, take, ap, sym, ◌∙◌, refl, append_assoc, append-nil, true, false, subst, arith}
+use Rattle.std.proofs.Common.{◌≡◌, ◌≢◌, ◌<◌, ◌≤◌, ℕ, List, [], ◌∷◌, ◌++◌, ◌+◌, length, take, ap, sym, ◌∙◌, refl, append_assoc, append-nil, true, false, subst, arith, Ok, Err, inr}
 use Rattle.std.proofs.lemmas.Bool.Decides.{nat_tests}
+use Rattle.std.proofs.lemmas.Grind.{flat_map-append}
 use Rattle.std.proofs.lemmas.List.{take_all}
 use Rattle.std.proofs.Math.Seq.{take-append-add}
 use Rattle.std.specs.declared.option.Option.{Option}
@@ -8,18 +9,29 @@ use Rattle.std.specs.Io.KnownBytes.{Appends}
 use Rattle.std.proofs.KnownBytes.{Appends-trans, Appends-nil}
 use Rattle.fault_count.specs.Steps.{next_count}
 use Rattle.scr_core.specs.declared.command.Command.{Command}
+use Rattle.scr_core.specs.Cores.{CoreView}
+use Rattle.scr_core.specs.Quiet.{are_plain}
+use Rattle.turn_runner.specs.declared.settle_fault.SettleFault.{SettleFault}
+use Rattle.turn_runner.specs.declared.settle_fault.SettleFault.TheVariants.{Unsettled as StillDue, JournalFull as NoRoom, OutOfMemory}
+use Rattle.platform_hall.specs.Platforms.{none_under_way, world}
+use Rattle.shell_lang.specs.declared.shell_reply.ShellReply.{ShellReply}
+use Rattle.shell_lang.specs.ReplyTexts.{reply_text}
+use Rattle.shell_lang.specs.ShellLines.{shell_line, is_quit}
 use Rattle.platform_shell.specs.declared.line_input.LineStep.TheVariants.{Line as OfLine, TooLong, End}
-use Rattle.platform_shell.specs.declared.shell_line.ShellLine.{ShellLine}
-use Rattle.platform_shell.specs.declared.shell_line.ShellLine.TheVariants.{Silent, Quit, Components, Command as Commanded, Refused}
 use Rattle.platform_shell.specs.declared.status.Status.{Status}
-use Rattle.platform_shell.specs.declared.status.Status.TheVariants.{Done, JournalFull, LineTooLong}
+use Rattle.platform_shell.specs.declared.status.Status.TheVariants.{Done, WriteFault, NoMemory, LineTooLong}
+use Rattle.platform_shell.specs.Asks.{Setting, commands_of}
+use Rattle.platform_shell.specs.Carries.{RunsAsked}
+use Rattle.platform_shell.specs.Cuts.{Cuts}
 use Rattle.platform_shell.specs.Lines.{Line, is_too_long, lines_of, longest_line}
 use Rattle.platform_shell.specs.Reading.{Tells, NextLine}
-use Rattle.platform_shell.specs.Runs.{Answered, Entries, FindsNoRoom, HasRunOver, Ran, ending, script_lines}
-use Rattle.platform_shell.specs.ShellLines.{shell_line, is_quit}
-use Rattle.platform_shell.specs.Statuses.{IsEnding}
-use Rattle.platform_shell.proofs.Growth.{grew_ran}
+use Rattle.platform_shell.specs.Runs.{HasRun, HasRunOver, Ran, RunsLine, Stops, as_list, ending, script_lines, texts}
+use Rattle.platform_shell.specs.Statuses.{IsEnding, status_of}
+use Rattle.platform_shell.proofs.Growth.{grew_trans}
+use Rattle.platform_shell.proofs.LineGrowth.{grew_carried, grew_ran, grew_stops}
+use Rattle.platform_shell.proofs.Plain.{plain_asked, plain_grew}
 use Rattle.platform_shell.proofs.ReadingLemmas.{some_told}
+use Rattle.platform_shell.proofs.Resting.{quiet_still}
 
 -- what the lines of these bytes are, behind those that ran
 abbrev pub GoesOn : Option (List ℕ) → Option (List ℕ) → List ℕ → List (List ℕ) → ℕ → Type 0
@@ -27,41 +39,55 @@ GoesOn left left' pending lines number =
     (more : List ℕ) → Tells left' more → (bytes : List ℕ) × Tells left bytes
     × (script_lines (lines_of bytes) ≡ lines ++ script_lines (lines_of (pending ++ more))) × (ending 1 (lines_of bytes) ≡ ending number (lines_of (pending ++ more)))
 
--- so far: these lines ran, all their text is written, and whatever comes stands behind them
-pub record Progress (limit : ℕ) (left left' : Option (List ℕ)) (pending : List ℕ) (before after : Entries) (written written' : Option (List ℕ)) (number : ℕ) : Type 0 where
+-- so far: these lines ran, all their text is written, and whatever comes stands behind them; no turn is under way and all is plain, where that was so
+pub record Progress (s : Setting) (left left' : Option (List ℕ)) (pending : List ℕ) (before after : CoreView) (written written' : Option (List ℕ)) (number : ℕ) : Type 0 where
   pub lines : List (List ℕ)
   pub commands : List Command
-  pub text : List ℕ
-  pub ran : Ran limit lines before after commands text
-  pub wrote : Appends written written' text
+  pub replies : List ShellReply
+  pub ran : Ran s before lines before after commands replies
+  pub wrote : Appends written written' (texts replies)
   pub reads : GoesOn left left' pending lines number
+  pub still : s.is_manual ≡ false → none_under_way before ≡ true → none_under_way after ≡ true
+  pub plain : are_plain (world before) ≡ true → are_plain (world after) ≡ true
 
 -- one line more
-pub Ran_snoc : (limit : ℕ) (lines : List (List ℕ)) (line : List ℕ) (before between after : Entries) (commands now : List Command) (text reply : List ℕ)
-    → Ran limit lines before between commands text → Answered limit line between after now reply → Ran limit (lines ++ line ∷ []) before after (commands ++ now) (text ++ reply)
-Ran_snoc limit [] line before between after commands now text reply (same, none, nothing) answered =
-    let P : Entries → Type 0 = λ j. Answered limit line j after now reply in
-    (after, now, [], reply, [], subst P same answered, (refl, refl, refl), ap (λ w. w ++ now) none ∙ sym (append-nil now), ap (λ w. w ++ reply) nothing ∙ sym (append-nil reply))
-Ran_snoc limit (first ∷ lines) line before between after commands now text reply (middle, done, later, head, rest, answer, ran, all, whole) answered =
-    (middle, done, later ++ now, head, rest ++ reply, answer, Ran_snoc limit lines line middle between after later now rest reply ran answered, ap (λ w. w ++ now) all ∙ append_assoc done later now, ap (λ w. w ++ reply) whole ∙ append_assoc head rest reply)
+pub Ran_snoc : (s : Setting) (first : CoreView) (lines : List (List ℕ)) (line : List ℕ) (before between after : CoreView) (commands : List Command) (replies : List ShellReply) (told : Option ShellReply)
+    → Ran s first lines before between commands replies → RunsLine s first (shell_line line) between told after
+    → Ran s first (lines ++ line ∷ []) before after (commands ++ commands_of between (shell_line line)) (replies ++ as_list told)
+Ran_snoc s first [] line before between after commands replies told (same, none, nothing) runs =
+    let P : CoreView → Type 0 = λ p. RunsLine s first (shell_line line) p told after in (
+      after,
+      told,
+      [],
+      [],
+      subst P same runs,
+      (refl, refl, refl),
+      ap (λ w. w ++ commands_of between (shell_line line)) none ∙ ap (λ (p : CoreView). commands_of p (shell_line line)) same ∙ sym (append-nil (commands_of before (shell_line line))),
+      ap (λ w. w ++ as_list told) nothing ∙ sym (append-nil (as_list told)),
+    )
+Ran_snoc s first (head ∷ lines) line before between after commands replies told (middle, said, later, rest, answer, ran, all, whole) runs = (
+  middle,
+  said,
+  later ++ commands_of between (shell_line line),
+  rest ++ as_list told,
+  answer,
+  Ran_snoc s first lines line middle between after later rest told ran runs,
+  ap (λ w. w ++ commands_of between (shell_line line)) all ∙ append_assoc (commands_of before (shell_line head)) later (commands_of between (shell_line line)),
+  ap (λ w. w ++ as_list told) whole ∙ append_assoc (as_list said) rest (as_list told),
+)
 
 -- nothing ran yet
-pub progress_start : (limit : ℕ) (left written : Option (List ℕ)) (before : Entries) → Progress limit left left [] before before written written 1
-progress_start limit left written before = record {
+pub progress_start : (s : Setting) (left written : Option (List ℕ)) (before : CoreView) → Progress s left left [] before before written written 1
+progress_start s left written before = record {
   lines = [];
   commands = [];
-  text = [];
+  replies = [];
   ran = (refl, refl, refl);
   wrote = Appends-nil written;
   reads = λ more told. (more, told, refl, refl);
+  still = λ auto none. none;
+  plain = λ plain. plain;
 }
-
-pub not_quit : (asked : ShellLine) → (asked ≡ Quit → ⊥) → is_quit asked ≡ false
-not_quit Silent other = refl
-not_quit Quit other = absurd (other refl)
-not_quit Components other = refl
-not_quit (Commanded command) other = refl
-not_quit (Refused fault) other = refl
 
 short_line : (line : Line) → line.size ≤ longest_line → is_too_long line ≡ false
 short_line line short = grind (arith, nat_tests)
@@ -92,131 +118,154 @@ goes_on left left' left'' pending pending' lines number line so_far (size, short
     let step = script_line number (lines_of (pending ++ here.0)) (lines_of (pending' ++ more)) (record { text = line; size = size }) here.2 short other in
     (all.0, all.1, all.2 ∙ ap (λ w. lines ++ w) step.0 ∙ sym (append_assoc lines (line ∷ []) (script_lines (lines_of (pending' ++ more)))), all.3 ∙ step.1)
 
--- a line ran, and its reply is written
-pub progress_line : {limit : ℕ} {left left' : Option (List ℕ)} {pending : List ℕ} {before now : Entries} {written written' : Option (List ℕ)} {number : ℕ} →
-    Progress limit left left' pending before now written written' number →
-    (left'' : Option (List ℕ)) (pending' : List ℕ) (after : Entries) (written'' : Option (List ℕ)) (line : List ℕ) (commands : List Command) (reply : List ℕ)
-    → NextLine left' left'' pending pending' (OfLine line) → is_quit (shell_line line) ≡ false → Answered limit line now after commands reply
-    → Appends written' written'' reply → Progress limit left left'' pending' before after written written'' (next_count number)
-progress_line {limit} {left} {left'} {pending} {before} {now} {written} {written'} {number} so_far left'' pending' after written'' line commands reply next other answered wrote = record {
-  lines = so_far.lines ++ line ∷ [];
-  commands = so_far.commands ++ commands;
-  text = so_far.text ++ reply;
-  ran = Ran_snoc limit so_far.lines line before now after so_far.commands commands so_far.text reply so_far.ran answered;
-  wrote = Appends-trans written written' written'' so_far.text reply so_far.wrote wrote;
-  reads = goes_on left left' left'' pending pending' so_far.lines number line so_far.reads next other;
-}
-
--- a run that stops before its end, with these lines run and these bytes written
-stopped : (limit : ℕ) (left left' : Option (List ℕ)) (pending : List ℕ) (before after : Entries) (written written' : Option (List ℕ)) (number : ℕ)
-    (lines : List (List ℕ)) (commands : List Command) (text : List ℕ) (count : ℕ) (status : Status) → (IsEnding status → ⊥) → status ≢ JournalFull
-    → GoesOn left left' pending lines number → Ran limit lines before after commands text → Appends written written' (take count text) → HasRunOver limit left before after written written' status
-stopped limit left left' pending before after written written' number lines commands text count status other roomy reads ran wrote =
-    let more = some_told left' in
-    let all = reads more.0 more.1 in (
-      all.0,
-      all.1,
-      record {
-        lines = lines;
-        unread = script_lines (lines_of (pending ++ more.0));
-        commands = commands;
-        text = text;
-        count = count;
-        first = all.2;
-        ran = ran;
-        grew = grew_ran limit lines before after commands text ran;
-        wrote = wrote;
-        ended = λ e. absurd (other e);
-        full = λ e. absurd (roomy e);
-      },
+-- what running a line leaves: the platform stays plain, and is at rest in a run that began with another one
+line_of_run : {s : Setting} {left left' : Option (List ℕ)} {pending : List ℕ} {first now : CoreView} {written written' : Option (List ℕ)} {number : ℕ} → Progress s left left' pending first now written written' number
+    → (line : List ℕ) (told : Option ShellReply) (after : CoreView) → RunsAsked s (shell_line line) now (Ok told) after → (are_plain (world now) ≡ true → are_plain (world after) ≡ true) × RunsLine s first (shell_line line) now told after
+line_of_run {s} {left} {left'} {pending} {first} {now} {written} {written'} {number} so_far line told after (between, asks, rests, comes) =
+    let plain : are_plain (world now) ≡ true → are_plain (world after) ≡ true = plain_grew now after (commands_of now (shell_line line)) (grew_carried s (shell_line line) now between after told asks rests) (plain_asked now line) in (
+      plain,
+      (between, asks, rests, λ auto none. (let good = comes auto (so_far.still auto none) in (good.0, λ at_first. good.1 (plain (so_far.plain at_first))))),
     )
 
--- a line ran, and the front of its reply is written
-pub run_stops_in_line : {limit : ℕ} {left left' : Option (List ℕ)} {pending : List ℕ} {before now : Entries} {written written' : Option (List ℕ)} {number : ℕ} →
-    Progress limit left left' pending before now written written' number →
-    (left'' : Option (List ℕ)) (pending' : List ℕ) (after : Entries) (written'' : Option (List ℕ)) (line : List ℕ) (commands : List Command) (reply : List ℕ) (status : Status) (count : ℕ)
-    → (IsEnding status → ⊥) → status ≢ JournalFull → NextLine left' left'' pending pending' (OfLine line) → is_quit (shell_line line) ≡ false
-    → Answered limit line now after commands reply → Appends written' written'' (take count reply) → HasRunOver limit left before after written written'' status
-run_stops_in_line {limit} {left} {left'} {pending} {before} {now} {written} {written'} {number} so_far left'' pending' after written'' line commands reply status count other roomy next not_quit answered wrote =
-    stopped limit left left'' pending' before after written written'' (next_count number) (so_far.lines ++ line ∷ []) (so_far.commands ++ commands) (so_far.text ++ reply) (length so_far.text + count) status other roomy
-    (goes_on left left' left'' pending pending' so_far.lines number line so_far.reads next not_quit) (Ran_snoc limit so_far.lines line before now after so_far.commands commands so_far.text reply so_far.ran answered)
-    (let P : List ℕ → Type 0 = λ w. Appends written written'' w in
-    subst P (sym (take-append-add so_far.text reply count)) (Appends-trans written written' written'' so_far.text (take count reply) so_far.wrote wrote))
+more_texts : (written written' written'' : Option (List ℕ)) (replies more : List ShellReply) (count : ℕ) → Appends written written' (texts replies) → Appends written' written'' (take count (texts more))
+    → Appends written written'' (take (length (texts replies) + count) (texts (replies ++ more)))
+more_texts written written' written'' replies more count before now =
+    let P : List ℕ → Type 0 = λ w. Appends written written'' w in
+    subst P (sym (ap (λ w. take (length (texts replies) + count) w) (flat_map-append reply_text replies more) ∙ take-append-add (texts replies) (texts more) count))
+    (Appends-trans written written' written'' (texts replies) (take count (texts more)) before now)
+
+-- a line ran, and its reply is written
+pub progress_line : {s : Setting} {left left' : Option (List ℕ)} {pending : List ℕ} {first now : CoreView} {written written' : Option (List ℕ)} {number : ℕ} → Progress s left left' pending first now written written' number
+    → (left'' : Option (List ℕ)) (pending' : List ℕ) (after : CoreView) (written'' : Option (List ℕ)) (line : List ℕ) (told : Option ShellReply)
+    → NextLine left' left'' pending pending' (OfLine line) → is_quit (shell_line line) ≡ false → RunsAsked s (shell_line line) now (Ok told) after
+    → Appends written' written'' (texts (as_list told)) → Progress s left left'' pending' first after written written'' (next_count number)
+progress_line {s} {left} {left'} {pending} {first} {now} {written} {written'} {number} so_far left'' pending' after written'' line told next other runs wrote =
+    let run = line_of_run so_far line told after runs in
+    let P : List ℕ → Type 0 = λ w. Appends written written'' w in
+    record {
+      lines = so_far.lines ++ line ∷ [];
+      commands = so_far.commands ++ commands_of now (shell_line line);
+      replies = so_far.replies ++ as_list told;
+      ran = Ran_snoc s first so_far.lines line first now after so_far.commands so_far.replies told so_far.ran run.1;
+      wrote = subst P (sym (flat_map-append reply_text so_far.replies (as_list told))) (Appends-trans written written' written'' (texts so_far.replies) (texts (as_list told)) so_far.wrote wrote);
+      reads = goes_on left left' left'' pending pending' so_far.lines number line so_far.reads next other;
+      still = λ auto none. quiet_still after (runs.3 auto (so_far.still auto none)).0;
+      plain = λ plain. run.0 (so_far.plain plain);
+    }
+
+-- how a run has gone, from its parts
+has_run : (s : Setting) (bytes : List ℕ) (first now after : CoreView) (written written' : Option (List ℕ)) (status : Status) (lines unread : List (List ℕ)) (commands cut : List Command) (replies : List ShellReply) (count : ℕ)
+    → script_lines (lines_of bytes) ≡ lines ++ unread → Ran s first lines first now commands replies → Stops s status now after unread cut → Appends written written' (take count (texts replies))
+    → (status ≢ WriteFault → status ≢ NoMemory → take count (texts replies) ≡ texts replies) → (IsEnding status → (status ≡ ending 1 (lines_of bytes)) × (unread ≡ [])) → HasRun s bytes first after written written' status
+has_run s bytes first now after written written' status lines unread commands cut replies count all ran stops wrote whole ended = record {
+  lines = lines;
+  unread = unread;
+  between = now;
+  commands = commands;
+  cut = cut;
+  replies = replies;
+  count = count;
+  first = all;
+  ran = ran;
+  stops = stops;
+  grew = grew_trans first now after commands cut (grew_ran s first lines first now commands replies ran) (grew_stops s status now after unread cut stops);
+  wrote = wrote;
+  whole = whole;
+  ended = ended;
+}
 
 all_written : (written written' : Option (List ℕ)) (text : List ℕ) → Appends written written' text → Appends written written' (take (length text) text)
 all_written written written' text wrote = let P : List ℕ → Type 0 = λ w. Appends written written' w in subst P (sym (take_all (length text) text (omega arith))) wrote
 
--- the run stops between two lines
-pub run_stops : {limit : ℕ} {left left' : Option (List ℕ)} {pending : List ℕ} {before now : Entries} {written written' : Option (List ℕ)} {number : ℕ} → Progress limit left left' pending before now written written' number
-    → (status : Status) → (IsEnding status → ⊥) → status ≢ JournalFull → HasRunOver limit left before now written written' status
-run_stops {limit} {left} {left'} {pending} {before} {now} {written} {written'} {number} so_far status other roomy =
-    stopped limit left left' pending before now written written' number so_far.lines so_far.commands so_far.text (length so_far.text) status other roomy so_far.reads so_far.ran (all_written written written' so_far.text so_far.wrote)
+whole_text : (text : List ℕ) → take (length text) text ≡ text
+whole_text text = take_all (length text) text (omega arith)
 
--- the run comes to the end of the script
-run_ends : {limit : ℕ} {left left' : Option (List ℕ)} {pending : List ℕ} {before now : Entries} {written written' : Option (List ℕ)} {number : ℕ} → Progress limit left left' pending before now written written' number
-    → (status : Status) (more : List ℕ) → status ≢ JournalFull → Tells left' more → (script_lines (lines_of (pending ++ more)) ≡ []) × (ending number (lines_of (pending ++ more)) ≡ status) → HasRunOver limit left before now written written' status
-run_ends {limit} {left} {left'} {pending} {before} {now} {written} {written'} so_far status more roomy told (ends, is) =
-    let all = so_far.reads more told in (
+-- the run stops between two lines
+pub run_stops : {s : Setting} {left left' : Option (List ℕ)} {pending : List ℕ} {first now : CoreView} {written written' : Option (List ℕ)} {number : ℕ} → Progress s left left' pending first now written written' number
+    → (status : Status) → (IsEnding status → ⊥) → ((unread : List (List ℕ)) → Stops s status now now unread []) → HasRunOver s left first now written written' status
+run_stops {s} {left} {left'} {pending} {first} {now} {written} {written'} {number} so_far status other stops =
+    let more = some_told left' in
+    let all = so_far.reads more.0 more.1 in
+    let unread = script_lines (lines_of (pending ++ more.0)) in (
       all.0,
       all.1,
-      record {
-        lines = so_far.lines;
-        unread = [];
-        commands = so_far.commands;
-        text = so_far.text;
-        count = length so_far.text;
-        first = all.2 ∙ ap (λ w. so_far.lines ++ w) ends;
-        ran = so_far.ran;
-        grew = grew_ran limit so_far.lines before now so_far.commands so_far.text so_far.ran;
-        wrote = all_written written written' so_far.text so_far.wrote;
-        ended = λ e. (sym (all.3 ∙ is), refl, take_all (length so_far.text) so_far.text (omega arith));
-        full = λ e. absurd (roomy e);
-      },
+      has_run s all.0 first now now written written' status so_far.lines unread so_far.commands [] so_far.replies (length (texts so_far.replies)) all.2 so_far.ran (stops unread)
+          (all_written written written' (texts so_far.replies) so_far.wrote) (λ sink memory. whole_text (texts so_far.replies)) (λ e. absurd (other e)),
     )
 
--- at a line that is too long
-pub run_ends_long : {limit : ℕ} {left left' : Option (List ℕ)} {pending : List ℕ} {before now : Entries} {written written' : Option (List ℕ)} {number : ℕ} → Progress limit left left' pending before now written written' number
-    → (left'' : Option (List ℕ)) (pending' : List ℕ) → NextLine left' left'' pending pending' TooLong → HasRunOver limit left before now written written' (LineTooLong number)
-run_ends_long {limit} {left} {left'} {pending} {before} {now} {written} {written'} {number} so_far left'' pending' (more, line, lines, told, long, is) =
-    run_ends so_far (LineTooLong number) more (λ e. cc) told (script_long number (lines_of (pending ++ more)) lines line is long)
-
--- behind the last line
-pub run_ends_here : {limit : ℕ} {left left' : Option (List ℕ)} {pending : List ℕ} {before now : Entries} {written written' : Option (List ℕ)} {number : ℕ} → Progress limit left left' pending before now written written' number
-    → (left'' : Option (List ℕ)) (pending' : List ℕ) → NextLine left' left'' pending pending' End → HasRunOver limit left before now written written' Done
-run_ends_here {limit} {left} {left'} {pending} {before} {now} {written} {written'} {number} so_far left'' pending' (more, told, none) =
-    run_ends so_far Done more (λ e. cc) told (ap script_lines none, ap (ending number) none)
-
--- at `quit`
-pub run_quits : {limit : ℕ} {left left' : Option (List ℕ)} {pending : List ℕ} {before now : Entries} {written written' : Option (List ℕ)} {number : ℕ} → Progress limit left left' pending before now written written' number
-    → (left'' : Option (List ℕ)) (pending' line : List ℕ) → NextLine left' left'' pending pending' (OfLine line) → is_quit (shell_line line) ≡ true → HasRunOver limit left before now written written' Done
-run_quits {limit} {left} {left'} {pending} {before} {now} {written} {written'} {number} so_far left'' pending' line (size, short, next) quits =
+-- a line ran, and a front of its reply is written
+pub run_stops_in_line : {s : Setting} {left left' : Option (List ℕ)} {pending : List ℕ} {first now : CoreView} {written written' : Option (List ℕ)} {number : ℕ} → Progress s left left' pending first now written written' number
+    → (left'' : Option (List ℕ)) (pending' : List ℕ) (after : CoreView) (written'' : Option (List ℕ)) (line : List ℕ) (told : Option ShellReply) (status : Status) (count : ℕ)
+    → (IsEnding status → ⊥) → (status ≢ WriteFault → status ≢ NoMemory → ⊥) → ((unread : List (List ℕ)) → Stops s status after after unread [])
+    → NextLine left' left'' pending pending' (OfLine line) → is_quit (shell_line line) ≡ false → RunsAsked s (shell_line line) now (Ok told) after
+    → Appends written' written'' (take count (texts (as_list told))) → HasRunOver s left first after written written'' status
+run_stops_in_line {s} {left} {left'} {pending} {first} {now} {written} {written'} {number} so_far left'' pending' after written'' line told status count other cut stops next not_quit runs wrote =
     let more = some_told left'' in
-    let here = next more.0 more.1 in
-    run_ends so_far Done here.0 (λ e. cc) here.1 (script_quit number (lines_of (pending ++ here.0)) (lines_of (pending' ++ more.0)) (record { text = line; size = size }) here.2 short quits)
+    let run = line_of_run so_far line told after runs in
+    let lines = so_far.lines ++ line ∷ [] in
+    let all = goes_on left left' left'' pending pending' so_far.lines number line so_far.reads next not_quit more.0 more.1 in
+    let unread = script_lines (lines_of (pending' ++ more.0)) in (
+      all.0,
+      all.1,
+      has_run s all.0 first after after written written'' status lines unread (so_far.commands ++ commands_of now (shell_line line)) [] (so_far.replies ++ as_list told) (length (texts so_far.replies) + count) all.2
+          (Ran_snoc s first so_far.lines line first now after so_far.commands so_far.replies told so_far.ran run.1) (stops unread)
+          (more_texts written written' written'' so_far.replies (as_list told) count so_far.wrote wrote) (λ sink memory. absurd (cut sink memory)) (λ e. absurd (other e)),
+    )
 
--- just before a command that finds no room
-pub run_meets_full : {limit : ℕ} {left left' : Option (List ℕ)} {pending : List ℕ} {before now : Entries} {written written' : Option (List ℕ)} {number : ℕ} →
-    Progress limit left left' pending before now written written' number →
-    (left'' : Option (List ℕ)) (pending' line : List ℕ) (command : Command) → NextLine left' left'' pending pending' (OfLine line) → shell_line line ≡ Commanded command
-    → FindsNoRoom limit now command → HasRunOver limit left before now written written' JournalFull
-run_meets_full {limit} {left} {left'} {pending} {before} {now} {written} {written'} {number} so_far left'' pending' line command (size, short, next) asked full =
+no_ending : (fault : SettleFault) → IsEnding (status_of fault) → ⊥
+no_ending StillDue ends = ends
+no_ending NoRoom ends = ends
+no_ending OutOfMemory ends = ends
+
+cut_stops : (s : Setting) (fault : SettleFault) (now after : CoreView) (line : List ℕ) (unread : List (List ℕ)) (cut : List Command) → Cuts s (shell_line line) fault now after cut → Stops s (status_of fault) now after (line ∷ unread) cut
+cut_stops s StillDue now after line unread cut cuts = cuts
+cut_stops s NoRoom now after line unread cut cuts = cuts
+cut_stops s OutOfMemory now after line unread cut cuts = inr cuts
+
+-- a line is cut off
+pub run_cuts : {s : Setting} {left left' : Option (List ℕ)} {pending : List ℕ} {first now : CoreView} {written written' : Option (List ℕ)} {number : ℕ} → Progress s left left' pending first now written written' number
+    → (left'' : Option (List ℕ)) (pending' : List ℕ) (after : CoreView) (line : List ℕ) (fault : SettleFault)
+    → NextLine left' left'' pending pending' (OfLine line) → is_quit (shell_line line) ≡ false → RunsAsked s (shell_line line) now (Err fault) after → HasRunOver s left first after written written' (status_of fault)
+run_cuts {s} {left} {left'} {pending} {first} {now} {written} {written'} {number} so_far left'' pending' after line fault (size, short, next) other (cut, cuts) =
     let more = some_told left'' in
     let here = next more.0 more.1 in
     let all = so_far.reads here.0 here.1 in
-    let step = script_line number (lines_of (pending ++ here.0)) (lines_of (pending' ++ more.0)) (record { text = line; size = size }) here.2 short (ap is_quit asked) in (
+    let rest = lines_of (pending' ++ more.0) in
+    let step = script_line number (lines_of (pending ++ here.0)) rest (record { text = line; size = size }) here.2 short other in (
       all.0,
       all.1,
-      record {
-        lines = so_far.lines;
-        unread = line ∷ script_lines (lines_of (pending' ++ more.0));
-        commands = so_far.commands;
-        text = so_far.text;
-        count = length so_far.text;
-        first = all.2 ∙ ap (λ w. so_far.lines ++ w) step.0;
-        ran = so_far.ran;
-        grew = grew_ran limit so_far.lines before now so_far.commands so_far.text so_far.ran;
-        wrote = all_written written written' so_far.text so_far.wrote;
-        ended = λ e. absurd e;
-        full = λ e. ((command, asked, full), take_all (length so_far.text) so_far.text (omega arith));
-      },
+      has_run s all.0 first now after written written' (status_of fault) so_far.lines (line ∷ script_lines rest) so_far.commands cut so_far.replies (length (texts so_far.replies))
+          (all.2 ∙ ap (λ w. so_far.lines ++ w) step.0) so_far.ran (cut_stops s fault now after line (script_lines rest) cut cuts)
+          (all_written written written' (texts so_far.replies) so_far.wrote) (λ sink memory. whole_text (texts so_far.replies)) (λ e. absurd (no_ending fault e)),
     )
+
+-- the run comes to the end of the script
+run_ends : {s : Setting} {left left' : Option (List ℕ)} {pending : List ℕ} {first now : CoreView} {written written' : Option (List ℕ)} {number : ℕ} → Progress s left left' pending first now written written' number
+    → (status : Status) (more : List ℕ) → Stops s status now now [] [] → Tells left' more → (script_lines (lines_of (pending ++ more)) ≡ []) × (ending number (lines_of (pending ++ more)) ≡ status) → HasRunOver s left first now written written' status
+run_ends {s} {left} {left'} {pending} {first} {now} {written} {written'} {number} so_far status more stops told (ends, is) =
+    let all = so_far.reads more told in (
+      all.0,
+      all.1,
+      has_run s all.0 first now now written written' status so_far.lines [] so_far.commands [] so_far.replies (length (texts so_far.replies))
+          (all.2 ∙ ap (λ w. so_far.lines ++ w) ends) so_far.ran stops (all_written written written' (texts so_far.replies) so_far.wrote) (λ sink memory. whole_text (texts so_far.replies)) (λ e. (sym (all.3 ∙ is), refl)),
+    )
+
+-- at a line that is too long
+pub run_ends_long : {s : Setting} {left left' : Option (List ℕ)} {pending : List ℕ} {first now : CoreView} {written written' : Option (List ℕ)} {number : ℕ} → Progress s left left' pending first now written written' number
+    → (left'' : Option (List ℕ)) (pending' : List ℕ) → NextLine left' left'' pending pending' TooLong → HasRunOver s left first now written written' (LineTooLong number)
+run_ends_long {s} {left} {left'} {pending} {first} {now} {written} {written'} {number} so_far left'' pending' (more, line, lines, told, long, is) =
+    run_ends so_far (LineTooLong number) more (refl, refl) told (script_long number (lines_of (pending ++ more)) lines line is long)
+
+-- behind the last line
+pub run_ends_here : {s : Setting} {left left' : Option (List ℕ)} {pending : List ℕ} {first now : CoreView} {written written' : Option (List ℕ)} {number : ℕ} → Progress s left left' pending first now written written' number
+    → (left'' : Option (List ℕ)) (pending' : List ℕ) → NextLine left' left'' pending pending' End → HasRunOver s left first now written written' Done
+run_ends_here {s} {left} {left'} {pending} {first} {now} {written} {written'} {number} so_far left'' pending' (more, told, none) =
+    run_ends so_far Done more (refl, refl) told (ap script_lines none, ap (ending number) none)
+
+-- at `quit`
+pub run_quits : {s : Setting} {left left' : Option (List ℕ)} {pending : List ℕ} {first now : CoreView} {written written' : Option (List ℕ)} {number : ℕ} → Progress s left left' pending first now written written' number
+    → (left'' : Option (List ℕ)) (pending' line : List ℕ) → NextLine left' left'' pending pending' (OfLine line) → is_quit (shell_line line) ≡ true → HasRunOver s left first now written written' Done
+run_quits {s} {left} {left'} {pending} {first} {now} {written} {written'} {number} so_far left'' pending' line (size, short, next) quits =
+    let more = some_told left'' in
+    let here = next more.0 more.1 in
+    run_ends so_far Done here.0 (refl, refl) here.1 (script_quit number (lines_of (pending ++ here.0)) (lines_of (pending' ++ more.0)) (record { text = line; size = size }) here.2 short quits)

@@ -1,7 +1,8 @@
 pub mod Lines
-pub mod ShellLines
-pub mod ReplyTexts
 pub mod Reading
 pub mod Statuses
-pub mod Platforms
+pub mod Asks
+pub mod Cuts
+pub mod Rests
+pub mod Carries
 pub mod Runs

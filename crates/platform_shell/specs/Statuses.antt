@@ -1,8 +1,10 @@
--- How a run ends. Our own form.
-use Rattle.std.specs.Prelude.{◌≡◌, ℕ, List, [], ◌∷◌, codes, Option, Some, None, if◌then◌else◌}
+-- How a run ends, and the words that ask for one. Our own form.
+use Rattle.std.specs.Prelude.{◌≡◌, ℕ, List, [], ◌∷◌, Bool, true, false, codes, Result, Ok, Err, if◌then◌else◌}
 use Rattle.std.specs.Str.{bytes_eq}
+use Rattle.turn_runner.specs.declared.settle_fault.SettleFault.{SettleFault}
+use Rattle.turn_runner.specs.declared.settle_fault.SettleFault.TheVariants.{Unsettled as StillDue, JournalFull as NoRoom, OutOfMemory}
 use Rattle.platform_shell.specs.declared.status.Status.{Status}
-use Rattle.platform_shell.specs.declared.status.Status.TheVariants.{Done, Usage, ReadFault, WriteFault, NoMemory, JournalFull, LineTooLong}
+use Rattle.platform_shell.specs.declared.status.Status.TheVariants.{Done, Usage, ReadFault, WriteFault, NoMemory, JournalFull, LineTooLong, Unsettled}
 
 -- the number of a status, with which the program ends
 abbrev pub code_of : Status → ℕ
@@ -13,32 +15,38 @@ code_of WriteFault = 3
 code_of NoMemory = 4
 code_of JournalFull = 5
 code_of (LineTooLong line) = 6
+code_of Unsettled = 7
 
-abbrev pub after_script : List (List ℕ) → Option ℕ
-after_script [] = None
-after_script (word ∷ words) = Some 1
+-- nothing follows `script --manual`
+abbrev pub after_manual : List (List ℕ) → Result Bool ℕ
+after_manual [] = Ok true
+after_manual (word ∷ words) = Err 2
 
--- the first word with which no form continues, or the number of words; none where the words are the one form, `script`
-abbrev pub words_fault : List (List ℕ) → Option ℕ
-words_fault [] = Some 0
-words_fault (word ∷ words) = if bytes_eq word (codes "script") then after_script words else Some 0
+-- what may follow `script`
+abbrev pub after_script : List (List ℕ) → Result Bool ℕ
+after_script [] = Ok false
+after_script (word ∷ words) = if bytes_eq word (codes "--manual") then after_manual words else Err 1
+
+-- whether the words are `script --manual`, where they are that or `script`; else the first word with which no form continues, or the number of words
+abbrev pub form_of : List (List ℕ) → Result Bool ℕ
+form_of [] = Err 0
+form_of (word ∷ words) = if bytes_eq word (codes "script") then after_script words else Err 0
 
 -- the statuses of a run that came to an end of its script
 abbrev pub IsEnding : Status → Type 0
 IsEnding Done = Unit {0}
-IsEnding (Usage at) = ⊥
-IsEnding ReadFault = ⊥
-IsEnding WriteFault = ⊥
-IsEnding NoMemory = ⊥
-IsEnding JournalFull = ⊥
 IsEnding (LineTooLong line) = Unit {0}
+IsEnding _ = ⊥
 
--- the cause of a status: words that are no form, a source that failed, a sink that failed; that of a full journal stands with what ran
-abbrev pub HasCause : Status → Option ℕ → Type 0 → Type 0 → Type 0
-HasCause Done fault read_failed write_failed = Unit {0}
-HasCause (Usage at) fault read_failed write_failed = fault ≡ Some at
-HasCause ReadFault fault read_failed write_failed = read_failed
-HasCause WriteFault fault read_failed write_failed = write_failed
-HasCause NoMemory fault read_failed write_failed = Unit {0}
-HasCause JournalFull fault read_failed write_failed = Unit {0}
-HasCause (LineTooLong line) fault read_failed write_failed = Unit {0}
+-- the cause of a status: words that are no form, a source that failed, a sink that failed; the others' stands with what ran
+abbrev pub HasCause : Status → Result Bool ℕ → Type 0 → Type 0 → Type 0
+HasCause (Usage at) form read_failed write_failed = form ≡ Err at
+HasCause ReadFault form read_failed write_failed = read_failed
+HasCause WriteFault form read_failed write_failed = write_failed
+HasCause _ form read_failed write_failed = Unit {0}
+
+-- how a run ends whose line is cut off
+abbrev pub status_of : SettleFault → Status
+status_of StillDue = Unsettled
+status_of NoRoom = JournalFull
+status_of OutOfMemory = NoMemory

@@ -1,69 +1,72 @@
 //! The run of a script: a line, its reply, and so on to the end.
-ghost use Rattle.std.specs.Prelude.{◌≡◌, ◌≢◌, IfOk, ℕ, MatchOption, None, map, string_bytes};
+ghost use Rattle.std.specs.Prelude.{◌≡◌, ◌≢◌, Ok, IsOk, IfErr, MatchResult, OnOk, map};
 ghost use Rattle.std.specs.Io.KnownBytes.{Keeps};
 ghost use Rattle.fault_count.specs.Steps.{Rose};
-ghost use Rattle.scr_core.specs.Calls.{world_at};
 ghost use Rattle.scr_core.specs.Legal.{IsLegal};
-ghost use Rattle.scr_core.specs.Readers.{component_lines};
 ghost use Rattle.scr_core.specs.Steps.{history_of};
-ghost use Rattle.platform_shell.specs.ReplyTexts.{components_text};
-ghost use Rattle.platform_shell.specs.Runs.{EndsScript, HasRunOver, RunsAsked};
-ghost use Rattle.platform_shell.specs.Statuses.{HasCause, IsEnding, words_fault};
+ghost use Rattle.platform_shell.specs.Runs.{EndsScript, HasRunOver};
+ghost use Rattle.platform_shell.specs.Statuses.{HasCause, form_of};
 
+use crate::line_ask::{AskStep, read_ask};
 use crate::line_input::{LineStep, ReadAhead, next_line};
-use crate::reply_output::write_all;
-use crate::reply_text::{NoReply, answer_text, components_text, line_fault_text, refusal_text};
-use crate::shell_line::{ShellLine, read_line};
-use crate::status::words_fault;
+use crate::line_run::run_line;
+use crate::reply_output::{told_text, write_all};
+use crate::status::form_of;
 use crate::{Platform, Status};
 use fault_count::{Sink, Source};
-use prop_map::OutOfMemory;
-use scr_core::Command;
+use kind_trait::Kinds;
 use std::alloc::Global;
 
 /// Runs the lines of the input and writes their replies, each before it waits for the next line.
 ///
-/// Where the words are the one form, `script`, the lines are run up to `quit`, to a line that is too long or to the end
-/// of the input. Other words end the run before anything is read. `JournalFull` ends the run just before a command that
-/// finds no room in the journal, with all replies before it written, and comes nowhere else. Where neither end fails, memory
-/// suffices and the journal isn't full, the run ends with all replies written: `LineTooLong` where a line before `quit` is too
-/// long, else `Done`.
-pub fn run_script<In: Source, Out: Sink>(
+/// The words `script` and `script --manual` are the forms; other words end the run before anything is read. The lines are run up to
+/// `quit`, to a line that is too long or to the end of the input. In `script` the platform is settled behind each line, also one without
+/// a reply, and then its reply is written: a platform that was quiet at the start is quiet whenever a reply is written, and right as long as
+/// only plain documents were installed. In `script --manual` turns run where a line asks for it alone.
+///
+/// A line ends the run with `JournalFull` where its command, its turn or a turn of its settling finds no room in the journal, with `Unsettled`
+/// where the settling ran as many turns as the limit says and one is still due, and with `NoMemory`. Its reply isn't written then, and all
+/// replies before it are, but for want of memory. Where neither end fails and none of these comes, the run ends with all
+/// replies written: `LineTooLong` where a line before `quit` is too long, else `Done`.
+pub fn run_script<K: Kinds + Drop, In: Source, Out: Sink>(
     alloc: Global,
-    platform: &mut Platform,
+    platform: &mut Platform<K>,
     words: &[&str],
     input: &mut In,
     output: &mut Out,
 ) -> Status
-    ensures run { MatchOption (words_fault (map (λ word. word.now) words.now))
-        (HasRunOver platform.old.limits.journal (In.left input.old) platform.old.journal platform.new.journal (Out.written output.old) (Out.written output.new) result)
+    ensures run { MatchResult (form_of (map (λ word. word.now) words.now))
+        (λ manual. HasRunOver (record { is_manual = manual; refuses = K.refuses }) (In.left input.old) platform.old platform.new (Out.written output.old) (Out.written output.new) result)
         (λ at. (result ≡ Status.Usage at) × (platform.new ≡ platform.old) × Keeps (In.left input.old) (In.left input.new) × Keeps (Out.written output.old) (Out.written output.new)) }
-    ensures cause { HasCause result (words_fault (map (λ word. word.now) words.now))
+    ensures cause { HasCause result (form_of (map (λ word. word.now) words.now))
         (Rose (In.fault_count input.old) (In.fault_count input.new)) (Rose (Out.fault_count output.old) (Out.fault_count output.new)) }
-    ensures complete { words_fault (map (λ word. word.now) words.now) ≡ None → ¬ Rose (In.fault_count input.old) (In.fault_count input.new) → ¬ Rose (Out.fault_count output.old) (Out.fault_count output.new)
-        → result ≢ Status.NoMemory → result ≢ Status.JournalFull → EndsScript (In.left input.old) result }
+    ensures complete { IsOk (form_of (map (λ word. word.now) words.now)) → ¬ Rose (In.fault_count input.old) (In.fault_count input.new) → ¬ Rose (Out.fault_count output.old) (Out.fault_count output.new)
+        → result ≢ Status.NoMemory → result ≢ Status.JournalFull → result ≢ Status.Unsettled → EndsScript (In.left input.old) result }
     ensures legal { IsLegal platform.new.limits.journal (history_of platform.new.journal) }
     ensures limits { platform.new.limits ≡ platform.old.limits }
 {
-    if let Some(at) = words_fault(words) {
-        platform.core();
-        return Status::Usage { at };
-    }
-    let status = run_lines(alloc, platform, input, output);
+    let manual = match form_of(words) {
+        Ok(manual) => manual,
+        Err(at) => {
+            platform.core();
+            return Status::Usage { at };
+        }
+    };
+    let status = run_lines(alloc, manual, platform, input, output);
     platform.core();
     status
 }
 
 // Runs the lines of the input up to an end.
-fn run_lines<In: Source, Out: Sink>(
+fn run_lines<K: Kinds + Drop, In: Source, Out: Sink>(
     alloc: Global,
-    platform: &mut Platform,
+    manual: bool,
+    platform: &mut Platform<K>,
     input: &mut In,
     output: &mut Out,
 ) -> Status
-    ensures run { HasRunOver platform.old.limits.journal (In.left input.old) platform.old.journal platform.new.journal (Out.written output.old) (Out.written output.new) result }
-    ensures cause { HasCause result None (Rose (In.fault_count input.old) (In.fault_count input.new)) (Rose (Out.fault_count output.old) (Out.fault_count output.new)) }
-    ensures limits { platform.new.limits ≡ platform.old.limits }
+    ensures run { HasRunOver (record { is_manual = manual; refuses = K.refuses }) (In.left input.old) platform.old platform.new (Out.written output.old) (Out.written output.new) result }
+    ensures cause { HasCause result (Ok manual) (Rose (In.fault_count input.old) (In.fault_count input.new)) (Rose (Out.fault_count output.old) (Out.fault_count output.new)) }
 {
     let mut ahead = ReadAhead {
         bytes: Vec::new(alloc),
@@ -78,51 +81,22 @@ fn run_lines<In: Source, Out: Sink>(
             LineStep::Failed => return Status::ReadFault,
             LineStep::NoMemory => return Status::NoMemory,
         };
-        let asked = match read_line(alloc, line.as_slice()) {
-            Ok(asked) => asked,
+        let asked = match read_ask(alloc, line.as_slice()) {
+            AskStep::Asked(asked) => asked,
+            AskStep::Quit => return Status::Done,
+            AskStep::NoMemory => return Status::NoMemory,
+        };
+        let told = match run_line(alloc, manual, platform, asked) {
+            Ok(told) => told,
+            Err(fault) => return Status::from(fault),
+        };
+        let text = match told_text(alloc, told) {
+            Ok(text) => text,
             Err(_) => return Status::NoMemory,
         };
-        if let ShellLine::Quit = asked {
-            return Status::Done;
-        }
-        let text = match run_asked(alloc, platform, asked) {
-            Ok(text) => text,
-            Err(NoReply::JournalFull) => return Status::JournalFull,
-            Err(NoReply::OutOfMemory) => return Status::NoMemory,
-        };
-        if !write_all(output, text.as_bytes()) {
+        if !write_all(output, text.as_slice()) {
             return Status::WriteFault;
         }
         number = number.saturating_add(1);
-    }
-}
-
-// Runs what a line asks, and answers the text of its reply.
-fn run_asked(alloc: Global, platform: &mut Platform, asked: ShellLine) -> Result<String, NoReply>
-    ensures asked { RunsAsked platform.old.limits.journal asked platform.old.journal result platform.new.journal }
-    ensures limits { platform.new.limits ≡ platform.old.limits }
-{
-    match asked {
-        ShellLine::Silent | ShellLine::Quit => Ok(String::new(alloc)),
-        ShellLine::Refused(fault) => Ok(line_fault_text(alloc, fault)?),
-        ShellLine::Components => Ok(run_components(alloc, platform)?),
-        ShellLine::Command(command) => run_command(alloc, platform, command),
-    }
-}
-
-fn run_components(alloc: Global, platform: &Platform) -> Result<String, OutOfMemory>
-    ensures { IfOk result (λ text. string_bytes text ≡ components_text (component_lines (world_at platform.now.journal))) }
-{
-    let rows = platform.core().component_rows(alloc)?;
-    components_text(alloc, rows.as_slice())
-}
-
-fn run_command(alloc: Global, platform: &mut Platform, command: Command) -> Result<String, NoReply>
-    ensures asked { RunsAsked platform.old.limits.journal (ShellLine.Command command) platform.old.journal result platform.new.journal }
-    ensures limits { platform.new.limits ≡ platform.old.limits }
-{
-    match platform.command(alloc, command) {
-        Ok(reply) => Ok(answer_text(alloc, reply)?),
-        Err(fault) => refusal_text(alloc, fault),
     }
 }

@@ -1,6 +1,8 @@
 //! How a run ends, and the words that ask for one.
 ghost use Rattle.std.specs.Prelude.{◌≡◌, map};
-ghost use Rattle.platform_shell.specs.Statuses.{code_of, words_fault};
+ghost use Rattle.platform_shell.specs.Statuses.{after_script, code_of, form_of};
+
+use turn_runner::SettleFault;
 
 /// How a run ends.
 #[derive(Clone, Copy, Debug, PartialEq, Eq)]
@@ -18,13 +20,15 @@ pub enum Status {
     WriteFault,
     /// There was no memory.
     NoMemory,
-    /// The journal has no room for a command of the script.
+    /// The journal has no room for a command or a turn.
     JournalFull,
     /// A line has more than 1,048,576 bytes before its end.
     LineTooLong {
         /// Its number, from 1 on.
         line: u64,
     },
+    /// As many turns ran as one settling may run, and one is still due.
+    Unsettled,
 }
 
 impl Status {
@@ -40,17 +44,45 @@ impl Status {
             Status::NoMemory => 4,
             Status::JournalFull => 5,
             Status::LineTooLong { .. } => 6,
+            Status::Unsettled => 7,
         }
     }
 }
 
-// The first word with which no form continues, or the number of words; none where they are the one form.
-pub(crate) fn words_fault(words: &[&str]) -> Option<u64>
-    ensures { result ≡ words_fault (map (λ word. word.now) words.now) }
+impl From<SettleFault> for Status {
+    ghost use Rattle.std.specs.Prelude.{◌≡◌};
+    ghost use Rattle.platform_shell.specs.Statuses.{status_of};
+
+    ghost from_gives = { λ fault status. status ≡ status_of fault };
+
+    fn from(fault: SettleFault) -> Status {
+        match fault {
+            SettleFault::Unsettled => Status::Unsettled,
+            SettleFault::JournalFull => Status::JournalFull,
+            SettleFault::OutOfMemory => Status::NoMemory,
+        }
+    }
+}
+
+// Whether the words are `script --manual`, where they are that or `script`; else the first word with which no form continues, or
+// the number of words.
+pub(crate) fn form_of(words: &[&str]) -> Result<bool, u64>
+    ensures { result ≡ form_of (map (λ word. word.now) words.now) }
 {
     match words {
-        [word] if *word == "script" => None,
-        [word, _, ..] if *word == "script" => Some(1),
-        _ => Some(0),
+        [word, rest @ ..] if *word == "script" => form_behind(rest),
+        _ => Err(0),
+    }
+}
+
+// What follows `script`.
+fn form_behind(words: &[&str]) -> Result<bool, u64>
+    ensures { result ≡ after_script (map (λ word. word.now) words.now) }
+{
+    match words {
+        [] => Ok(false),
+        [word] if *word == "--manual" => Ok(true),
+        [word, _, ..] if *word == "--manual" => Err(2),
+        _ => Err(1),
     }
 }

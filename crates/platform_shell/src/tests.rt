@@ -1,41 +1,37 @@
 use crate::{Platform, Status, run_script};
 use fault_count::{MemorySink, MemorySource};
+use kind_trait::NumberedKind;
 use scr_core::Limits;
 use std::alloc::Global;
 use std::test::Fail;
 
-const FIRST_RUN: &str =
-    "install {\"location\":\"c\",\"components\":{\"c\":{\"name\":\"c\",\"implementationClass\":\"C\",\"references\":[{\"name\":\"p\",\"interfaceName\":\"P\"}]}}}
-start 1
-components
-install {\"location\":\"p\",\"components\":{\"p\":{\"name\":\"p\",\"implementationClass\":\"P\",\"serviceInterfaces\":[\"P\"]}}}
-start 2
-components
-";
+const C: &str =
+    "install {\"location\":\"c\",\"components\":{\"c\":{\"name\":\"c\",\"implementationClass\":\"C\",\"references\":[{\"name\":\"p\",\"interfaceName\":\"P\"}]}}}";
 
-const FIRST_REPLIES: &str = "ok bundle 1\nok\nok 1\n1 c 2\nok bundle 2\nok\nok 2\n1 c 4\n2 p 4\n";
+const P: &str =
+    "install {\"location\":\"p\",\"components\":{\"p\":{\"name\":\"p\",\"implementationClass\":\"P\",\"serviceInterfaces\":[\"P\"]}}}";
 
-fn run(
-    alloc: Global,
-    words: &[&str],
-    source: &mut MemorySource,
-    sink: &mut MemorySink,
-) -> Result<Status, Fail> {
-    run_within(alloc, 100, words, source, sink)
-}
+const A: &str =
+    "install {\"location\":\"a\",\"components\":{\"a\":{\"name\":\"a\",\"implementationClass\":\"A\",\"serviceInterfaces\":[\"A\"]}}}";
+
+const M_AND_T: &str =
+    "install {\"location\":\"m\",\"components\":{\"m\":{\"name\":\"m\",\"implementationClass\":\"M\",\"serviceInterfaces\":[\"M\"],\"references\":[{\"name\":\"a\",\"interfaceName\":\"A\"}]},\"t\":{\"name\":\"t\",\"implementationClass\":\"T\",\"references\":[{\"name\":\"m\",\"interfaceName\":\"M\"}]}}}";
+
+const LIMITS: Limits = Limits {
+    journal: 100,
+    turns: 100,
+};
 
 fn run_within(
     alloc: Global,
-    journal: u64,
+    limits: Limits,
     words: &[&str],
     source: &mut MemorySource,
     sink: &mut MemorySink,
 ) -> Result<Status, Fail> {
-    let limits = Limits {
-        journal,
-        turns: 100,
-    };
-    let mut platform = Platform::new(alloc, limits).ok().ok_or("no memory")?;
+    let mut platform = Platform::new(alloc, NumberedKind::new(), limits)
+        .ok()
+        .ok_or("no memory")?;
     Ok(run_script(alloc, &mut platform, words, source, sink))
 }
 
@@ -53,7 +49,7 @@ fn an_empty_input_has_no_replies(rt: HostRuntime) -> Result<(), Fail> {
     let alloc = rt.alloc();
     let mut input = source(alloc, "", 1, &[])?;
     let mut output = sink(alloc, 1, &[])?;
-    let status = run(alloc, &["script"], &mut input, &mut output)?;
+    let status = run_within(alloc, LIMITS, &["script"], &mut input, &mut output)?;
     assert_eq!(rt; status, Status::Done);
     assert_eq!(rt; status.code(), 0);
     assert_eq!(rt; output.written(), b"".as_slice());
@@ -61,22 +57,133 @@ fn an_empty_input_has_no_replies(rt: HostRuntime) -> Result<(), Fail> {
 }
 
 #[test]
-fn the_first_run_comes_in_pieces(rt: HostRuntime) -> Result<(), Fail> {
+fn a_component_waits_for_its_service(rt: HostRuntime) -> Result<(), Fail> {
     let alloc = rt.alloc();
-    let mut input = source(alloc, FIRST_RUN, 7, &[])?;
+    let script = format!(in alloc; "{C}\nstart 1\ncomponents\n{P}\nstart 2\ncomponents\n")?;
+    let mut input = source(alloc, script.as_str(), 7, &[])?;
     let mut output = sink(alloc, 3, &[])?;
-    let status = run(alloc, &["script"], &mut input, &mut output)?;
+    let status = run_within(alloc, LIMITS, &["script"], &mut input, &mut output)?;
     assert_eq!(rt; status, Status::Done);
-    assert_eq!(rt; output.written(), FIRST_REPLIES.as_bytes());
+    assert_eq!(rt;
+        output.written(),
+        b"ok bundle 1\nok\nok 1\n1 c 2\nok bundle 2\nok\nok 2\n1 c 8\n2 p 8\n".as_slice()
+    );
+    Ok(())
+}
+
+#[test]
+fn the_turns_of_a_stop_are_told(rt: HostRuntime) -> Result<(), Fail> {
+    let alloc = rt.alloc();
+    let script = format!(in alloc; "{P}\n{C}\nstart 1\nstart 2\nstop 1\ntrace 0\n")?;
+    let mut input = source(alloc, script.as_str(), 100, &[])?;
+    let mut output = sink(alloc, 100, &[])?;
+    let status = run_within(alloc, LIMITS, &["script"], &mut input, &mut output)?;
+    assert_eq!(rt; status, Status::Done);
+    assert_eq!(rt;
+        output.written(),
+        b"ok bundle 1\nok bundle 2\nok\nok\nok\nok 10\n1 create 1 c\n2 create 2 p\n3 activate 2 p\n4 bind 1 c p 1\n5 activate 1 c\n6 deactivate 1 c\n7 unbind 1 c p 1\n8 destroy 1 c\n9 deactivate 2 p\n10 destroy 2 p\n".as_slice()
+    );
+    Ok(())
+}
+
+#[test]
+fn a_chain_goes_and_comes_back(rt: HostRuntime) -> Result<(), Fail> {
+    let alloc = rt.alloc();
+    let script = format!(in alloc; "{A}\n{M_AND_T}\nstart 1\nstart 2\nstop 1\nstart 1\ntrace 8\n")?;
+    let mut input = source(alloc, script.as_str(), 100, &[])?;
+    let mut output = sink(alloc, 100, &[])?;
+    let status = run_within(alloc, LIMITS, &["script"], &mut input, &mut output)?;
+    assert_eq!(rt; status, Status::Done);
+    assert_eq!(rt;
+        output.written(),
+        b"ok bundle 1\nok bundle 2\nok\nok\nok\nok\nok 16\n9 deactivate 1 t\n10 unbind 1 t m 2\n11 destroy 1 t\n12 deactivate 2 m\n13 unbind 2 m a 1\n14 destroy 2 m\n15 deactivate 3 a\n16 destroy 3 a\n17 create 4 t\n18 create 5 m\n19 create 6 a\n20 activate 6 a\n21 bind 5 m a 3\n22 activate 5 m\n23 bind 4 t m 4\n24 activate 4 t\n".as_slice()
+    );
+    Ok(())
+}
+
+#[test]
+fn turns_run_by_hand(rt: HostRuntime) -> Result<(), Fail> {
+    let alloc = rt.alloc();
+    let script = format!(in alloc;
+        "{P}\n{C}\nstart 1\nstart 2\nbegin\nfinish 1\nbegin\nfinish 2\nbegin\nfinish 3\nbegin\nstop 1\nstart 1\nbegin\nfinish 4\nbegin\nfinish 5\nbegin\nfinish 6\nbegin\nfinish 7\nbegin\nfinish 8\nstart 1\nsettle\ncomponents\nfinish 4\n"
+    )?;
+    let mut input = source(alloc, script.as_str(), 100, &[])?;
+    let mut output = sink(alloc, 100, &[])?;
+    let status = run_within(
+        alloc,
+        LIMITS,
+        &["script", "--manual"],
+        &mut input,
+        &mut output,
+    )?;
+    assert_eq!(rt; status, Status::Done);
+    assert_eq!(rt;
+        output.written(),
+        b"ok bundle 1\nok bundle 2\nok\nok\nok turn 1 create 1 c\nok done\nok turn 2 create 2 p\nok done\nok turn 3 activate 2 p\nok done\nok turn 4 bind 1 c p 1\nok\nrefused Stopping 2\nok idle\nok done\nok turn 5 unbind 1 c p 1\nok done\nok turn 6 destroy 1 c\nok done\nok turn 7 deactivate 2 p\nok done\nok turn 8 destroy 2 p\nok done\nok\nok turns 5\nok 2\n2 c 8\n3 p 8\nrefused NoTurn 4\n".as_slice()
+    );
+    Ok(())
+}
+
+#[test]
+fn a_turn_is_still_due(rt: HostRuntime) -> Result<(), Fail> {
+    let alloc = rt.alloc();
+    let script = format!(in alloc; "{P}\n{C}\nstart 1\nstart 2\n")?;
+    let mut input = source(alloc, script.as_str(), 100, &[])?;
+    let mut output = sink(alloc, 100, &[])?;
+    let limits = Limits {
+        journal: 100,
+        turns: 3,
+    };
+    let status = run_within(alloc, limits, &["script"], &mut input, &mut output)?;
+    assert_eq!(rt; status, Status::Unsettled);
+    assert_eq!(rt; status.code(), 7);
+    assert_eq!(rt;
+        output.written(),
+        b"ok bundle 1\nok bundle 2\nok\n".as_slice()
+    );
+    Ok(())
+}
+
+#[test]
+fn a_turn_finds_no_room(rt: HostRuntime) -> Result<(), Fail> {
+    let alloc = rt.alloc();
+    let script = format!(in alloc; "{P}\n{C}\nstart 1\nstart 2\n")?;
+    let mut input = source(alloc, script.as_str(), 100, &[])?;
+    let mut output = sink(alloc, 100, &[])?;
+    let limits = Limits {
+        journal: 5,
+        turns: 100,
+    };
+    let status = run_within(alloc, limits, &["script"], &mut input, &mut output)?;
+    assert_eq!(rt; status, Status::JournalFull);
+    assert_eq!(rt;
+        output.written(),
+        b"ok bundle 1\nok bundle 2\nok\n".as_slice()
+    );
+    Ok(())
+}
+
+#[test]
+fn turns_by_hand_need_the_other_form(rt: HostRuntime) -> Result<(), Fail> {
+    let alloc = rt.alloc();
+    let script = "begin\nfinish 1\nsettle\nheld 1\n";
+    let mut input = source(alloc, script, 100, &[])?;
+    let mut output = sink(alloc, 100, &[])?;
+    let status = run_within(alloc, LIMITS, &["script"], &mut input, &mut output)?;
+    assert_eq!(rt; status, Status::Done);
+    assert_eq!(rt;
+        output.written(),
+        b"refused NotManual\nrefused NotManual\nok turns 0\nrefused NoComponent 1\n".as_slice()
+    );
     Ok(())
 }
 
 #[test]
 fn a_source_fails(rt: HostRuntime) -> Result<(), Fail> {
     let alloc = rt.alloc();
-    let mut input = source(alloc, FIRST_RUN, 100, &[0])?;
+    let mut input = source(alloc, "components\n", 100, &[0])?;
     let mut output = sink(alloc, 100, &[])?;
-    let status = run(alloc, &["script"], &mut input, &mut output)?;
+    let status = run_within(alloc, LIMITS, &["script"], &mut input, &mut output)?;
     assert_eq!(rt; status, Status::ReadFault);
     assert_eq!(rt; output.written(), b"".as_slice());
     Ok(())
@@ -85,9 +192,10 @@ fn a_source_fails(rt: HostRuntime) -> Result<(), Fail> {
 #[test]
 fn a_sink_fails(rt: HostRuntime) -> Result<(), Fail> {
     let alloc = rt.alloc();
-    let mut input = source(alloc, FIRST_RUN, 100, &[])?;
+    let script = format!(in alloc; "{C}\nstart 1\n")?;
+    let mut input = source(alloc, script.as_str(), 100, &[])?;
     let mut output = sink(alloc, 1, &[4])?;
-    let status = run(alloc, &["script"], &mut input, &mut output)?;
+    let status = run_within(alloc, LIMITS, &["script"], &mut input, &mut output)?;
     assert_eq!(rt; status, Status::WriteFault);
     assert_eq!(rt; output.written(), b"ok b".as_slice());
     Ok(())
@@ -96,12 +204,16 @@ fn a_sink_fails(rt: HostRuntime) -> Result<(), Fail> {
 #[test]
 fn other_words_are_no_form(rt: HostRuntime) -> Result<(), Fail> {
     let alloc = rt.alloc();
-    let mut input = source(alloc, FIRST_RUN, 100, &[])?;
+    let mut input = source(alloc, "components\n", 100, &[])?;
     let mut output = sink(alloc, 100, &[])?;
-    let status = run(alloc, &["scrip"], &mut input, &mut output)?;
+    let status = run_within(alloc, LIMITS, &["scrip"], &mut input, &mut output)?;
     assert_eq!(rt; status, Status::Usage { at: 0 });
-    let status = run(alloc, &["script", "x"], &mut input, &mut output)?;
+    let status = run_within(alloc, LIMITS, &["script", "x"], &mut input, &mut output)?;
     assert_eq!(rt; status, Status::Usage { at: 1 });
+    let words = ["script", "--manual", "x"];
+    let status = run_within(alloc, LIMITS, &words, &mut input, &mut output)?;
+    assert_eq!(rt; status, Status::Usage { at: 2 });
+    assert_eq!(rt; output.written(), b"".as_slice());
     Ok(())
 }
 
@@ -111,23 +223,9 @@ fn a_line_is_too_long(rt: HostRuntime) -> Result<(), Fail> {
     let long = vec![in alloc; b'#'; 1_048_577]?;
     let mut input = MemorySource::new(long, 65_536, Vec::new(alloc));
     let mut output = sink(alloc, 1, &[])?;
-    let status = run(alloc, &["script"], &mut input, &mut output)?;
+    let status = run_within(alloc, LIMITS, &["script"], &mut input, &mut output)?;
     assert_eq!(rt; status, Status::LineTooLong { line: 1 });
     assert_eq!(rt; output.written(), b"".as_slice());
-    Ok(())
-}
-
-#[test]
-fn a_full_journal_ends_the_run(rt: HostRuntime) -> Result<(), Fail> {
-    let alloc = rt.alloc();
-    let script =
-        "install {\"location\":\"d\"}\nstart 1\ninstall {\"location\":\"e\"}\ncomponents\n";
-    let mut input = source(alloc, script, 100, &[])?;
-    let mut output = sink(alloc, 100, &[])?;
-    let status = run_within(alloc, 2, &["script"], &mut input, &mut output)?;
-    assert_eq!(rt; status, Status::JournalFull);
-    assert_eq!(rt; status.code(), 5);
-    assert_eq!(rt; output.written(), b"ok bundle 1\nok\n".as_slice());
     Ok(())
 }
 
@@ -135,14 +233,19 @@ fn a_full_journal_ends_the_run(rt: HostRuntime) -> Result<(), Fail> {
 fn a_full_journal_still_answers_what_needs_no_room(rt: HostRuntime) -> Result<(), Fail> {
     let alloc = rt.alloc();
     let script =
-        "install {\"location\":\"d\"}\nstart 1\ninstall {\"location\":\"d\"}\nstart 1\nstart 7\ncomponents\n";
+        "install {\"location\":\"d\"}\nstart 1\ninstall {\"location\":\"d\"}\nstart 7\ninstall {\"location\":\"e\"}\ncomponents\n";
     let mut input = source(alloc, script, 100, &[])?;
     let mut output = sink(alloc, 100, &[])?;
-    let status = run_within(alloc, 2, &["script"], &mut input, &mut output)?;
-    assert_eq!(rt; status, Status::Done);
+    let limits = Limits {
+        journal: 2,
+        turns: 100,
+    };
+    let status = run_within(alloc, limits, &["script"], &mut input, &mut output)?;
+    assert_eq!(rt; status, Status::JournalFull);
+    assert_eq!(rt; status.code(), 5);
     assert_eq!(rt;
         output.written(),
-        b"ok bundle 1\nok\nok bundle 1\nok\nrefused NoBundle 7\nok 0\n".as_slice()
+        b"ok bundle 1\nok\nok bundle 1\nrefused NoBundle 7\n".as_slice()
     );
     Ok(())
 }

@@ -1,0 +1,147 @@
+-- How the lines of a run make the journal grow.
+use Rattle.std.proofs.Common.{◌≡◌, ℕ, List, [], ◌∷◌, ◌++◌, Bool, true, false, sym, ap, ◌∙◌, subst, append-nil, None, Some, Ok, Err, inl, inr}
+use Rattle.std.specs.Prelude.{Result}
+use Rattle.std.specs.declared.option.Option.{Option}
+use Rattle.callback_orders.specs.declared.callback.Outcome.{Outcome}
+use Rattle.callback_orders.specs.declared.callback.Outcome.TheVariants.{NoMemory as Wanting}
+use Rattle.kind_trait.specs.Meanings.{Told}
+use Rattle.prop_map.specs.declared.properties.Property.{Property}
+use Rattle.scr_core.specs.declared.command.Command.{Command}
+use Rattle.scr_core.specs.declared.command.CoreFault.{CoreFault}
+use Rattle.scr_core.specs.declared.command.CoreFault.TheVariants.{OutOfMemory as NoMemory}
+use Rattle.scr_core.specs.declared.command.Reply.{Reply}
+use Rattle.scr_core.specs.Cores.{CoreView}
+use Rattle.turn_runner.specs.declared.settle_fault.SettleFault.{SettleFault}
+use Rattle.turn_runner.specs.declared.settle_fault.SettleFault.TheVariants.{Unsettled as StillDue, JournalFull as NoRoom, OutOfMemory}
+use Rattle.platform_hall.specs.declared.finish_fault.FinishFault.{FinishFault}
+use Rattle.platform_hall.specs.declared.finish_fault.FinishFault.TheVariants.{NoTurn as NoSuchTurn, OutOfMemory as NoMemoryLeft}
+use Rattle.platform_hall.specs.Platforms.{BeginsTurn, Finishes, FinishesTurn}
+use Rattle.shell_lang.specs.declared.shell_line.ShellLine.TheVariants.{Silent, Quit, Command as Commanded, Components, Held, Trace, Settle, Begin, Finish}
+use Rattle.shell_lang.specs.declared.shell_reply.ShellReply.{ShellReply}
+use Rattle.shell_lang.specs.ShellLines.{Asked, shell_line}
+use Rattle.platform_shell.specs.declared.status.Status.{Status}
+use Rattle.platform_shell.specs.declared.status.Status.TheVariants.{Done, Usage, ReadFault, WriteFault, NoMemory as Short, JournalFull, LineTooLong, Unsettled}
+use Rattle.platform_shell.specs.Asks.{Asks, AsksBegin, AsksFinish, IsAnswer, Manually, Setting, changed, commands_of}
+use Rattle.platform_shell.specs.Cuts.{Cuts, CutsAsked, CutsBegin, CutsCommand, CutsFinish, CutsFirst, Stays}
+use Rattle.platform_shell.specs.Rests.{Rests, RestsBy}
+use Rattle.platform_shell.specs.Runs.{Grew, Ran, RunsLine, Stops}
+use Rattle.platform_shell.proofs.Growth.{grew_accepts, grew_begins, grew_ends, grew_not, grew_posts, grew_same, grew_settled, grew_takes, grew_trans}
+
+grew_finishes : (refuses : List ℕ → List Property → Told → Bool) (before after : CoreView) (turn : ℕ) (outcome : Outcome) → Finishes refuses before turn outcome after → Grew before after []
+grew_finishes refuses before after turn outcome (work, over, runs, is, ends, posts) = grew_trans before over after [] [] (grew_ends before over turn outcome ends) (grew_posts over after posts)
+
+grew_finished : (refuses : List ℕ → List Property → Told → Bool) (before after : CoreView) (turn : ℕ) (said : Result Outcome FinishFault) → FinishesTurn refuses before turn said after → Grew before after []
+grew_finished refuses before after turn (Ok outcome) (finishes, none) = grew_finishes refuses before after turn outcome finishes
+grew_finished refuses before after turn (Err NoSuchTurn) (none, same) = grew_not before after same
+grew_finished refuses before after turn (Err NoMemoryLeft) (inl same) = grew_not before after same
+grew_finished refuses before after turn (Err NoMemoryLeft) (inr (outcome, finishes)) = grew_finishes refuses before after turn outcome finishes
+
+grew_begun : (before after : CoreView) (taken : Option ℕ) → BeginsTurn before (Ok taken) after → Grew before after []
+grew_begun before after None (due, same) = grew_not before after same
+grew_begun before after (Some turn) (work, is, begins, runs) = grew_begins before after work begins
+
+answered : (said : Result Reply CoreFault) → IsAnswer said → said ≡ Err NoMemory → ⊥
+answered (Ok said) told is = cc
+answered (Err fault) told is = let P : Result Reply CoreFault → Type 0 = IsAnswer in let no = subst P is told in cc
+
+grew_manually : (manual : Bool) (asks : CoreView → ShellReply → CoreView → Type 0) (before after : CoreView) (said : ShellReply) → ((asks before said after) → Grew before after []) → Manually manual asks before said after → Grew before after []
+grew_manually true asks before after said grows asked = grows asked
+grew_manually false asks before after said grows (is, same) = grew_not before after same
+
+-- a line that is carried out
+pub grew_asks : (s : Setting) (asked : Asked) (before after : CoreView) (told : Option ShellReply) → Asks s asked before told after → Grew before after (commands_of before asked)
+grew_asks s (Ok Silent) before after told (none, same) = grew_not before after same
+grew_asks s (Ok Quit) before after told (none, same) = grew_not before after same
+grew_asks s (Ok (Commanded command)) before after told (said, is, (answer, takes, tells, replied)) = grew_takes before after command answer takes (answered answer tells)
+grew_asks s (Ok Components) before after told (is, same) = grew_not before after same
+grew_asks s (Ok (Held configuration)) before after told (said, is, (answer, held, tells, replied, same)) = grew_not before after same
+grew_asks s (Ok (Trace number)) before after told (is, same) = grew_not before after same
+grew_asks s (Ok Settle) before after told (said, is, (count, settles, replied)) = grew_settled s.refuses before.limits.turns before after (Ok count) settles
+grew_asks s (Ok Begin) before after told (said, is, asked) =
+    grew_manually s.is_manual AsksBegin before after said (λ asks. grew_begun before after asks.0 asks.1) asked
+grew_asks s (Ok (Finish turn)) before after told (said, is, asked) =
+    grew_manually s.is_manual (AsksFinish s.refuses turn) before after said (λ asks. grew_finished s.refuses before after turn asks.0 asks.1) asked
+grew_asks s (Err fault) before after told (is, same) = grew_not before after same
+
+grew_rests_by : (manual : Bool) (s : Setting) (between after : CoreView) → RestsBy manual s between after → Grew between after []
+grew_rests_by true s between after same = grew_not between after same
+grew_rests_by false s between after (count, settles) = grew_settled s.refuses between.limits.turns between after (Ok count) settles
+
+-- the rest behind it
+pub grew_rests : (s : Setting) (between after : CoreView) → Rests s between after → Grew between after []
+grew_rests s between after rests = grew_rests_by s.is_manual s between after rests
+
+grew_none : (before after : CoreView) (commands : List Command) → commands ≡ [] → Grew before after [] → Grew before after commands
+grew_none before after commands none grew = grew_same before after [] commands (sym none) grew
+
+grew_cut_command : (command : Command) (fault : SettleFault) (before after : CoreView) (commands : List Command) → CutsCommand command fault before after commands → Grew before after commands
+grew_cut_command command StillDue before after commands cut = absurd cut
+grew_cut_command command NoRoom before after commands ((same, (is, still)), none) = grew_none before after commands none (grew_not before after (ap (λ (l : _). record { limits = l; journal = after.journal }) same ∙ ap (λ (j : _). record { limits = before.limits; journal = j }) still))
+grew_cut_command command OutOfMemory before after commands (inl (same, none)) = grew_none before after commands none (grew_not before after same)
+grew_cut_command command OutOfMemory before after commands (inr (said, accepts, is)) = grew_same before after (changed before command) commands (sym is) (grew_accepts before after command said accepts)
+
+grew_cut_begin : (fault : SettleFault) (before after : CoreView) → CutsBegin fault before after → Grew before after []
+grew_cut_begin StillDue before after cut = absurd cut
+grew_cut_begin NoRoom before after (due, room, same) = grew_not before after same
+grew_cut_begin OutOfMemory before after (inl same) = grew_not before after same
+grew_cut_begin OutOfMemory before after (inr (turn, begins)) = grew_begun before after (Some turn) begins
+
+grew_cut_finish : (refuses : List ℕ → List Property → Told → Bool) (turn : ℕ) (fault : SettleFault) (before after : CoreView) → CutsFinish refuses turn fault before after → Grew before after []
+grew_cut_finish refuses turn StillDue before after cut = absurd cut
+grew_cut_finish refuses turn NoRoom before after cut = absurd cut
+grew_cut_finish refuses turn OutOfMemory before after (inl finishes) = grew_finished refuses before after turn (Err NoMemoryLeft) finishes
+grew_cut_finish refuses turn OutOfMemory before after (inr finishes) = grew_finished refuses before after turn (Ok Wanting) finishes
+
+grew_cut_asked : (s : Setting) (asked : Asked) (fault : SettleFault) (before after : CoreView) (commands : List Command) → CutsAsked s asked fault before after commands → Grew before after commands
+grew_cut_asked s (Ok Silent) fault before after commands (is, (same, none)) = grew_none before after commands none (grew_not before after same)
+grew_cut_asked s (Ok Quit) fault before after commands (is, (same, none)) = grew_none before after commands none (grew_not before after same)
+grew_cut_asked s (Ok (Commanded command)) fault before after commands cut = grew_cut_command command fault before after commands cut
+grew_cut_asked s (Ok Components) fault before after commands (is, (same, none)) = grew_none before after commands none (grew_not before after same)
+grew_cut_asked s (Ok (Held configuration)) fault before after commands (is, (same, none)) = grew_none before after commands none (grew_not before after same)
+grew_cut_asked s (Ok (Trace number)) fault before after commands (is, (same, none)) = grew_none before after commands none (grew_not before after same)
+grew_cut_asked s (Ok Settle) fault before after commands (cut, none) = grew_none before after commands none (grew_settled s.refuses before.limits.turns before after (Err fault) cut)
+grew_cut_asked s (Ok Begin) fault before after commands (manual, cut, none) = grew_none before after commands none (grew_cut_begin fault before after cut)
+grew_cut_asked s (Ok (Finish turn)) fault before after commands (manual, cut, none) = grew_none before after commands none (grew_cut_finish s.refuses turn fault before after cut)
+grew_cut_asked s (Err why) fault before after commands (is, (same, none)) = grew_none before after commands none (grew_not before after same)
+
+-- a line that is cut off
+pub grew_cuts : (s : Setting) (asked : Asked) (fault : SettleFault) (before after : CoreView) (commands : List Command) → Cuts s asked fault before after commands → Grew before after commands
+grew_cuts s asked fault before after commands (inl cut) = grew_cut_asked s asked fault before after commands cut
+grew_cuts s asked fault before after commands (inr (manual, (between, told, asks, cut), is)) =
+    grew_same before after (commands_of before asked ++ []) commands (append-nil (commands_of before asked) ∙ sym is)
+    (grew_trans before between after (commands_of before asked) [] (grew_asks s asked before between told asks) (grew_settled s.refuses between.limits.turns between after (Err fault) cut))
+
+-- a line that is carried out, and the rest behind it
+pub grew_carried : (s : Setting) (asked : Asked) (before between after : CoreView) (told : Option ShellReply) → Asks s asked before told between → Rests s between after → Grew before after (commands_of before asked)
+grew_carried s asked before between after told asks rests =
+    grew_same before after (commands_of before asked ++ []) (commands_of before asked) (append-nil (commands_of before asked))
+    (grew_trans before between after (commands_of before asked) [] (grew_asks s asked before between told asks) (grew_rests s between after rests))
+
+grew_line : (s : Setting) (first : CoreView) (asked : Asked) (before after : CoreView) (told : Option ShellReply) → RunsLine s first asked before told after → Grew before after (commands_of before asked)
+grew_line s first asked before after told (between, asks, rests, good) = grew_carried s asked before between after told asks rests
+
+-- lines that ran
+pub grew_ran : (s : Setting) (first : CoreView) (lines : List (List ℕ)) (before after : CoreView) (commands : List Command) (replies : List ShellReply) → Ran s first lines before after commands replies → Grew before after commands
+grew_ran s first [] before after commands replies (same, none, nothing) = grew_none before after commands none (grew_not before after same)
+grew_ran s first (line ∷ lines) before after commands replies (between, told, later, rest, runs, ran, all, whole) =
+    grew_same before after (commands_of before (shell_line line) ++ later) commands (sym all)
+    (grew_trans before between after (commands_of before (shell_line line)) later (grew_line s first (shell_line line) before between told runs) (grew_ran s first lines between after later rest ran))
+
+grew_stays : (before after : CoreView) (commands : List Command) → Stays before after commands → Grew before after commands
+grew_stays before after commands (same, none) = grew_none before after commands none (grew_not before after same)
+
+grew_cuts_first : (s : Setting) (unread : List (List ℕ)) (fault : SettleFault) (before after : CoreView) (commands : List Command) → CutsFirst s unread fault before after commands → Grew before after commands
+grew_cuts_first s [] fault before after commands cut = absurd cut
+grew_cuts_first s (line ∷ lines) fault before after commands cut = grew_cuts s (shell_line line) fault before after commands cut
+
+-- how a run ended
+pub grew_stops : (s : Setting) (status : Status) (before after : CoreView) (unread : List (List ℕ)) (commands : List Command) → Stops s status before after unread commands → Grew before after commands
+grew_stops s Done before after unread commands stops = grew_stays before after commands stops
+grew_stops s (Usage at) before after unread commands stops = absurd stops
+grew_stops s ReadFault before after unread commands stops = grew_stays before after commands stops
+grew_stops s WriteFault before after unread commands stops = grew_stays before after commands stops
+grew_stops s Short before after unread commands (inl stays) = grew_stays before after commands stays
+grew_stops s Short before after unread commands (inr cut) = grew_cuts_first s unread OutOfMemory before after commands cut
+grew_stops s JournalFull before after unread commands cut = grew_cuts_first s unread NoRoom before after commands cut
+grew_stops s (LineTooLong line) before after unread commands stops = grew_stays before after commands stops
+grew_stops s Unsettled before after unread commands cut = grew_cuts_first s unread StillDue before after commands cut

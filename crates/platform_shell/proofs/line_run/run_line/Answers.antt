@@ -1,0 +1,18 @@
+use Rattle.std.proofs.Common.{inr, refl}
+use Rattle.platform_shell.specs.Asks.{Setting, commands_of}
+use Rattle.platform_shell.proofs.Resting.{asks_still}
+use Rattle.platform_shell.proofs.line_run.run_line.Goals as goal
+
+pub returns-in-Ok : goal.returns-in-Ok
+returns-in-Ok g c =
+    let s : Setting = record { is_manual = c.args.manual; refuses = g.K.Kinds.refuses } in
+    let rests = c.in-Ok.ensures in (
+      c.carry_out.new.platform,
+      c.in_ok-told.ensures,
+      rests.0,
+      λ auto none. rests.1 auto (asks_still c.note_turns_end.ensures s c.args.asked c.args.platform.now c.carry_out.new.platform c.in_ok-told.told auto c.core.ensures.legal c.in_ok-told.ensures none),
+    )
+
+pub returns-in-Err : goal.returns-in-Err
+returns-in-Err g c =
+    let cut = c.in-Err.ensures in (commands_of c.args.platform.now c.args.asked, inr (cut.0, (c.carry_out.new.platform, c.in_ok-told.told, c.in_ok-told.ensures, cut.1), refl))

@@ -1,0 +1,128 @@
+-- What a line asks, carried out: the platform before and after, and what is told. Our own form.
+use Rattle.std.specs.Prelude.{◌≡◌, ℕ, List, [], ◌∷◌, Bool, true, false, Option, Some, None, Result, Ok, Err, IfErr, if◌then◌else◌}
+use Rattle.callback_orders.specs.declared.callback.Outcome.{Outcome}
+use Rattle.callback_orders.specs.declared.callback.Outcome.TheVariants.{Done as IsDone, Refused as IsRefused, NoMemory}
+use Rattle.kind_trait.specs.Meanings.{Told}
+use Rattle.prop_map.specs.declared.properties.Property.{Property}
+use Rattle.scr_core.specs.declared.command.Command.{Command}
+use Rattle.scr_core.specs.declared.command.CoreFault.{CoreFault}
+use Rattle.scr_core.specs.declared.command.CoreFault.TheVariants.{JournalFull, OutOfMemory}
+use Rattle.scr_core.specs.declared.command.Reply.{Reply}
+use Rattle.scr_core.specs.declared.command.Reply.TheVariants.{Done as InCore, Bundle as OfBundle}
+use Rattle.scr_core.specs.declared.held_rows.HeldLine.{HeldLine}
+use Rattle.scr_core.specs.declared.turn_lines.TurnLine.{TurnLine}
+use Rattle.scr_core.specs.Cores.{CoreView}
+use Rattle.scr_core.specs.HeldRows.{TellsHeld}
+use Rattle.scr_core.specs.Readers.{component_lines}
+use Rattle.scr_core.specs.Replies.{changes}
+use Rattle.scr_core.specs.Steps.{history_of}
+use Rattle.scr_core.specs.TurnLines.{turns_above}
+use Rattle.turn_runner.specs.declared.turn_work.TurnWork.{TurnWork}
+use Rattle.platform_hall.specs.declared.finish_fault.FinishFault.{FinishFault}
+use Rattle.platform_hall.specs.declared.finish_fault.FinishFault.TheVariants.{NoTurn as NoSuchTurn, OutOfMemory as NoMemoryLeft}
+use Rattle.platform_hall.specs.Platforms.{BeginsTurn, FinishesTurn, Settles, TakesCommand, running, world}
+use Rattle.shell_lang.specs.declared.shell_line.ShellLine.TheVariants.{Silent, Quit, Command as Commanded, Components as AskComponents, Held as AskHeld, Trace as AskTrace, Settle, Begin, Finish}
+use Rattle.shell_lang.specs.declared.shell_reply.Refusal.TheVariants.{Line as InLine, Core as OfCore, NotManual, NoTurn}
+use Rattle.shell_lang.specs.declared.shell_reply.ShellReply.{ShellReply}
+use Rattle.shell_lang.specs.declared.shell_reply.ShellReply.TheVariants.{Done, Bundle, Components, Held, Trace, Turns, Begun, Idle, Finished, Refused}
+use Rattle.shell_lang.specs.ShellLines.{Asked}
+
+-- how a run goes: whether turns run where a line asks for it alone, and which callbacks the component code refuses
+pub record Setting : Type 0 where
+  pub is_manual : Bool
+  pub refuses : List ℕ → List Property → Told → Bool
+
+-- the command, where it changes something
+abbrev pub changed : CoreView → Command → List Command
+changed before command = if changes before.limits.journal (world before) command then command ∷ [] else []
+
+-- the command of a line, where it changes something
+abbrev pub commands_of : CoreView → Asked → List Command
+commands_of before (Ok (Commanded command)) = changed before command
+commands_of before _ = []
+
+-- a full journal and want of memory end the run and aren't told
+abbrev pub is_told : CoreFault → Bool
+is_told JournalFull = false
+is_told OutOfMemory = false
+is_told _ = true
+
+abbrev pub IsAnswer : {T : Type 0} → Result T CoreFault → Type 0
+IsAnswer answer = IfErr answer (λ fault. is_told fault ≡ true)
+
+abbrev pub command_reply : Result Reply CoreFault → ShellReply
+command_reply (Ok InCore) = Done
+command_reply (Ok (OfBundle bundle)) = Bundle bundle
+command_reply (Err fault) = Refused (OfCore fault)
+
+abbrev pub held_reply : Result (List HeldLine) CoreFault → ShellReply
+held_reply (Ok rows) = Held rows
+held_reply (Err fault) = Refused (OfCore fault)
+
+-- a turn that has begun
+abbrev pub begun_line : TurnWork → TurnLine
+begun_line work = record { turn = work.number; callback = work.callback; instance = work.instance; name = work.name; outcome = None }
+
+-- a command's answer is told
+abbrev pub AsksCommand : Command → CoreView → ShellReply → CoreView → Type 0
+AsksCommand command before reply after = (answer : Result Reply CoreFault) × TakesCommand before command answer after × IsAnswer answer × (reply ≡ command_reply answer)
+
+-- what a component configuration's instances hold is told
+abbrev pub AsksHeld : ℕ → CoreView → ShellReply → CoreView → Type 0
+AsksHeld configuration before reply after =
+    (answer : Result (List HeldLine) CoreFault) × TellsHeld (world before) configuration answer × IsAnswer answer × (reply ≡ held_reply answer) × (after ≡ before)
+
+-- the turns that are due run, and their number is told
+abbrev pub AsksSettle : (List ℕ → List Property → Told → Bool) → CoreView → ShellReply → CoreView → Type 0
+AsksSettle refuses before reply after = (count : ℕ) × Settles refuses before.limits.turns before (Ok count) after × (reply ≡ Turns count)
+
+-- the turn of this number, which is under way now, is told
+abbrev pub TellsBegun : CoreView → Option ℕ → ShellReply → Type 0
+TellsBegun after None reply = reply ≡ Idle
+TellsBegun after (Some turn) reply = (work : TurnWork) × (running after turn ≡ Some work) × (reply ≡ Begun (begun_line work))
+
+-- the first due turn begins and is told
+abbrev pub AsksBegin : CoreView → ShellReply → CoreView → Type 0
+AsksBegin before reply after = (taken : Option ℕ) × BeginsTurn before (Ok taken) after × TellsBegun after taken reply
+
+-- how a turn ended is told; want of memory ends the run
+abbrev pub TellsFinished : ℕ → Result Outcome FinishFault → ShellReply → Type 0
+TellsFinished turn (Ok IsDone) reply = reply ≡ Finished IsDone
+TellsFinished turn (Ok IsRefused) reply = reply ≡ Finished IsRefused
+TellsFinished turn (Ok NoMemory) reply = ⊥
+TellsFinished turn (Err NoSuchTurn) reply = reply ≡ Refused (NoTurn turn)
+TellsFinished turn (Err NoMemoryLeft) reply = ⊥
+
+-- a turn that is under way runs and ends
+abbrev pub AsksFinish : (List ℕ → List Property → Told → Bool) → ℕ → CoreView → ShellReply → CoreView → Type 0
+AsksFinish refuses turn before reply after = (answer : Result Outcome FinishFault) × FinishesTurn refuses before turn answer after × TellsFinished turn answer reply
+
+-- a line of `script --manual` alone does this there
+abbrev pub Manually : Bool → (CoreView → ShellReply → CoreView → Type 0) → CoreView → ShellReply → CoreView → Type 0
+Manually true asks before reply after = asks before reply after
+Manually false asks before reply after = (reply ≡ Refused NotManual) × (after ≡ before)
+
+-- nothing changes, and this is told
+abbrev pub Says : ShellReply → CoreView → Option ShellReply → CoreView → Type 0
+Says reply before told after = (told ≡ Some reply) × (after ≡ before)
+
+-- nothing changes, and nothing is told
+abbrev pub IsStill : CoreView → Option ShellReply → CoreView → Type 0
+IsStill before told after = (told ≡ None) × (after ≡ before)
+
+-- this is done, and its reply told
+abbrev pub Does : (CoreView → ShellReply → CoreView → Type 0) → CoreView → Option ShellReply → CoreView → Type 0
+Does asks before told after = (reply : ShellReply) × (told ≡ Some reply) × asks before reply after
+
+-- what a line asks is carried out, and this is told
+abbrev pub Asks : Setting → Asked → CoreView → Option ShellReply → CoreView → Type 0
+Asks s (Ok Silent) before told after = IsStill before told after
+Asks s (Ok Quit) before told after = IsStill before told after
+Asks s (Ok (Commanded command)) before told after = Does (AsksCommand command) before told after
+Asks s (Ok AskComponents) before told after = Says (Components (component_lines (world before))) before told after
+Asks s (Ok (AskHeld configuration)) before told after = Does (AsksHeld configuration) before told after
+Asks s (Ok (AskTrace number)) before told after = Says (Trace (turns_above number (history_of before.journal))) before told after
+Asks s (Ok Settle) before told after = Does (AsksSettle s.refuses) before told after
+Asks s (Ok Begin) before told after = Does (Manually s.is_manual AsksBegin) before told after
+Asks s (Ok (Finish turn)) before told after = Does (Manually s.is_manual (AsksFinish s.refuses turn)) before told after
+Asks s (Err fault) before told after = Says (Refused (InLine fault)) before told after
