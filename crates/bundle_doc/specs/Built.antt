@@ -3,7 +3,6 @@ use Rattle.std.specs.Prelude.{ℕ, ◌==◌, ◌&&◌, List, [], ◌∷◌, leng
 use Rattle.std.specs.List.{list_all}
 use Rattle.std.specs.Option.{is_none}
 use Rattle.std.specs.Str.{bytes_eq}
-use Rattle.std.proofs.Math.Bool.{beq}
 use Rattle.prop_map.specs.declared.reference_words.Cardinality.{Cardinality}
 use Rattle.prop_map.specs.declared.reference_words.Cardinality.TheVariants.{ZeroOrOne, One, ZeroOrMore, OneOrMore}
 use Rattle.prop_map.specs.declared.reference_words.Policy.{Policy}
@@ -52,9 +51,9 @@ is_alone name [] = false
 is_alone name (pid ∷ []) = bytes_eq pid name
 is_alone name (pid ∷ other ∷ pids) = false
 
--- a component whose fields have their defaults, but for its name, its class, its interfaces and its references
+-- a component whose fields have their defaults, but for its name, its class, whether it is immediate, its interfaces and its references
 abbrev pub is_built_description : Description → Bool
-is_built_description d = is_singleton d.scope && d.default_enabled && beq d.immediate (length d.service_interfaces == 0) && (length d.properties == 0)
+is_built_description d = is_singleton d.scope && d.default_enabled && (length d.properties == 0)
     && list_all is_built_reference d.references && is_none d.modified && is_optional d.configuration_policy && is_alone d.name d.configuration_pids
 
 -- a document without a manifest, of such components

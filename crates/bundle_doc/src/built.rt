@@ -8,8 +8,8 @@ use component_dto::{ConfigurationPolicy, Description, Reference, Scope};
 use prop_map::{Cardinality, Policy, PolicyOption, Str};
 
 /// Whether the platform runs the document so far: it has no manifest, and each of its descriptions has the defaults in all
-/// fields but its name, its class, its interfaces and its references, each of them with the defaults in all fields but its
-/// name and its interface.
+/// fields but its name, its class, whether it is immediate, its interfaces and its references, each of them with the defaults
+/// in all fields but its name and its interface.
 pub fn is_built(document: &BundleDoc) -> bool
     ensures { result ≡ is_built document.now }
 {
@@ -25,10 +25,8 @@ fn are_built(descriptions: &[Description]) -> bool
 fn is_built_description(description: &Description) -> bool
     ensures { result ≡ is_built_description description.now }
 {
-    let has_service = !description.service_interfaces.as_slice().is_empty();
     description.scope == Scope::Singleton
         && description.default_enabled
-        && description.immediate != has_service
         && description.properties.as_slice().is_empty()
         && are_built_references(description.references.as_slice())
         && description.modified.is_none()

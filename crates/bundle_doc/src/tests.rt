@@ -185,7 +185,7 @@ fn what_is_built_is_told(rt: HostRuntime) -> Result<(), Fail> {
             ",\"serviceInterfaces\":[\"A\"],\"references\":[{\"interfaceName\":\"X\"}],\"configurationPid\":[\"C\"]",
             true,
         ),
-        (",\"serviceInterfaces\":[\"A\"],\"immediate\":true", false),
+        (",\"serviceInterfaces\":[\"A\"],\"immediate\":true", true),
         (
             ",\"references\":[{\"interfaceName\":\"X\",\"target\":\"(a=1)\"}]",
             false,

@@ -21,18 +21,18 @@ IsTaken has_due has_room begins before (Err NoMemoryLeft) after = after ≡ befo
 abbrev pub Ends : {S : Type 0} → (S → TurnWork → S → Type 0) → (S → ℕ → Outcome → S → Type 0) → (S → S → Type 0) → TurnWork → Outcome → S → S → Type 0
 Ends {S} begins ends posts work outcome before after = (begun : S) × (ended : S) × begins before work begun × ends begun work.number outcome ended × posts ended after
 
--- a turn runs, and its outcome is Refused where the component code refuses it, else Done
-abbrev pub Turn : {S : Type 0} → (S → TurnWork → S → Type 0) → (S → ℕ → Outcome → S → Type 0) → (S → S → Type 0) → (List ℕ → List Property → Told → Bool) → S → S → Type 0
-Turn begins ends posts refuses before after = (work : TurnWork) × Ends begins ends posts work (outcome_where (is_refused refuses work)) before after
+-- a turn runs, its outcome is Refused where the component code refuses it, else Done, and no drain is left to be posted behind it
+abbrev pub Turn : {S : Type 0} → (S → Bool) → (S → TurnWork → S → Type 0) → (S → ℕ → Outcome → S → Type 0) → (S → S → Type 0) → (List ℕ → List Property → Told → Bool) → S → S → Type 0
+Turn has_drain begins ends posts refuses before after = (work : TurnWork) × Ends begins ends posts work (outcome_where (is_refused refuses work)) before after × (has_drain after ≡ false)
 
 -- so many turns run
-abbrev pub Turns : {S : Type 0} → (S → TurnWork → S → Type 0) → (S → ℕ → Outcome → S → Type 0) → (S → S → Type 0) → (List ℕ → List Property → Told → Bool) → ℕ → S → S → Type 0
-Turns begins ends posts refuses zero before after = before ≡ after
-Turns {S} begins ends posts refuses (suc count) before after = (between : S) × Turns begins ends posts refuses count before between × Turn begins ends posts refuses between after
+abbrev pub Turns : {S : Type 0} → (S → Bool) → (S → TurnWork → S → Type 0) → (S → ℕ → Outcome → S → Type 0) → (S → S → Type 0) → (List ℕ → List Property → Told → Bool) → ℕ → S → S → Type 0
+Turns has_drain begins ends posts refuses zero before after = before ≡ after
+Turns {S} has_drain begins ends posts refuses (suc count) before after = (between : S) × Turns has_drain begins ends posts refuses count before between × Turn has_drain begins ends posts refuses between after
 
 -- the drains that are due are posted, and then so many turns run
-abbrev pub Settles : {S : Type 0} → (S → TurnWork → S → Type 0) → (S → ℕ → Outcome → S → Type 0) → (S → S → Type 0) → (List ℕ → List Property → Told → Bool) → ℕ → S → S → Type 0
-Settles {S} begins ends posts refuses count before after = (start : S) × posts before start × Turns begins ends posts refuses count start after
+abbrev pub Settles : {S : Type 0} → (S → Bool) → (S → TurnWork → S → Type 0) → (S → ℕ → Outcome → S → Type 0) → (S → S → Type 0) → (List ℕ → List Property → Told → Bool) → ℕ → S → S → Type 0
+Settles {S} has_drain begins ends posts refuses count before after = (start : S) × posts before start × (has_drain start ≡ false) × Turns has_drain begins ends posts refuses count start after
 
 -- a turn is cut off by want of memory: it has begun alone, or it has ended, and some of the drains are posted
 abbrev pub IsCutOff : {S : Type 0} → (S → TurnWork → S → Type 0) → (S → ℕ → Outcome → S → Type 0) → (S → S → Type 0) → (List ℕ → List Property → Told → Bool) → S → S → Type 0
@@ -45,14 +45,17 @@ IsEndRun {S} has_drain ends posts refused number begun (Err _) after = (after �
 
 -- one due turn, if there is any
 abbrev pub IsDueRun : {S : Type 0} → (S → Bool) → (S → Bool) → (S → Bool) → (S → TurnWork → S → Type 0) → (S → ℕ → Outcome → S → Type 0) → (S → S → Type 0) → (List ℕ → List Property → Told → Bool) → S → Result Bool DeskFault → S → Type 0
-IsDueRun has_due has_room has_drain begins ends posts refuses before (Ok true) after = (has_due before ≡ true) × Turn begins ends posts refuses before after × (has_drain after ≡ false)
+IsDueRun has_due has_room has_drain begins ends posts refuses before (Ok true) after = (has_due before ≡ true) × Turn has_drain begins ends posts refuses before after
 IsDueRun has_due has_room has_drain begins ends posts refuses before (Ok false) after = (has_due before ≡ false) × (after ≡ before)
 IsDueRun has_due has_room has_drain begins ends posts refuses before (Err NoRoom) after = (has_due before ≡ true) × (has_room before ≡ false) × (after ≡ before)
 IsDueRun has_due has_room has_drain begins ends posts refuses before (Err NoMemoryLeft) after = (before ≡ after) ⊎ IsCutOff begins ends posts refuses before after
 
--- a settling: turns run until nothing is due, as many as the budget at most
+-- a settling: turns run until nothing is due, as many as the budget at most; want of memory cuts it off at its first drains, behind a turn, or in one
 abbrev pub IsSettled : {S : Type 0} → (S → Bool) → (S → Bool) → (S → Bool) → (S → TurnWork → S → Type 0) → (S → ℕ → Outcome → S → Type 0) → (S → S → Type 0) → (List ℕ → List Property → Told → Bool) → ℕ → S → Result ℕ SettleFault → S → Type 0
-IsSettled has_due has_room has_drain begins ends posts refuses budget before (Ok count) after = (count ≤ budget) × Settles begins ends posts refuses count before after × (has_due after ≡ false) × (has_drain after ≡ false)
-IsSettled has_due has_room has_drain begins ends posts refuses budget before (Err Unsettled) after = Settles begins ends posts refuses budget before after × (has_due after ≡ true)
-IsSettled has_due has_room has_drain begins ends posts refuses budget before (Err JournalFull) after = (count : ℕ) × (count < budget) × Settles begins ends posts refuses count before after × (has_due after ≡ true) × (has_room after ≡ false)
-IsSettled {S} has_due has_room has_drain begins ends posts refuses budget before (Err OutOfMemory) after = ((count : ℕ) × (count ≤ budget) × Settles begins ends posts refuses count before after) ⊎ ((count : ℕ) × (between : S) × (count < budget) × Settles begins ends posts refuses count before between × IsCutOff begins ends posts refuses between after)
+IsSettled has_due has_room has_drain begins ends posts refuses budget before (Ok count) after = (count ≤ budget) × Settles has_drain begins ends posts refuses count before after × (has_due after ≡ false) × (has_drain after ≡ false)
+IsSettled has_due has_room has_drain begins ends posts refuses budget before (Err Unsettled) after = Settles has_drain begins ends posts refuses budget before after × (has_due after ≡ true) × (has_drain after ≡ false)
+IsSettled has_due has_room has_drain begins ends posts refuses budget before (Err JournalFull) after = (count : ℕ) × (count < budget) × Settles has_drain begins ends posts refuses count before after × (has_due after ≡ true) × (has_room after ≡ false) × (has_drain after ≡ false)
+IsSettled {S} has_due has_room has_drain begins ends posts refuses budget before (Err OutOfMemory) after =
+    posts before after
+    ⊎ (((count : ℕ) × (count ≤ budget) × Settles has_drain begins ends posts refuses count before after)
+    ⊎ ((count : ℕ) × (between : S) × (count < budget) × Settles has_drain begins ends posts refuses count before between × IsCutOff begins ends posts refuses between after))

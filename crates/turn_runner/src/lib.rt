@@ -16,5 +16,5 @@ pub use desk_fault::DeskFault;
 pub use memory_desk::{Ended, Held, MemoryDesk};
 pub use settle_fault::SettleFault;
 pub use settling::settle;
-pub use turn::{Ran, run_turn};
+pub use turn::{Ran, run_shared, run_turn};
 pub use turn_work::TurnWork;

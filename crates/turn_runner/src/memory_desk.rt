@@ -1,5 +1,5 @@
 //! A desk in memory, for tests.
-ghost use Rattle.std.specs.Prelude.{◌≡◌, ◌==◌, ℕ, [], None, not, false, true, is_some, OnOk, OnErr, IfErr};
+ghost use Rattle.std.specs.Prelude.{◌≡◌, ◌==◌, ℕ, [], None, not, false, true, is_some, OnOk, OnErr, IfErr, MatchOption};
 ghost use Rattle.turn_runner.specs.Desktops.{Begins, EndsAs, Posts, is_due, is_holder, fits, with_number};
 ghost use Rattle.turn_runner.specs.Outcomes.{IsRunOf, has_object_after, is_destroy_of};
 
@@ -55,8 +55,10 @@ fn is_holder<O>(held: &[Held<O>], instance: u64) -> bool
     held.iter().any(|one| one.instance == instance)
 }
 
+// Who holds the object of an instance.
 fn find<O>(held: &[Held<O>], instance: u64) -> Option<&Held<O>>
-    ensures { is_some result ≡ is_holder held.now instance }
+    ensures some { is_some result ≡ is_holder held.now instance }
+    ensures own { MatchOption result (Unit {0}) (λ one. one.now.instance ≡ instance) }
 {
     for one in held {
         if one.instance == instance {

@@ -1,31 +1,13 @@
 //! How all turns that are due are run.
-ghost use Rattle.std.specs.Prelude.{◌≡◌, Some, is_some};
-ghost use Rattle.turn_runner.specs.Outcomes.{needs_object, makes_object, IsOutcome, is_refused};
+ghost use Rattle.std.specs.Prelude.{◌≡◌, Some};
+ghost use Rattle.turn_runner.specs.Outcomes.{needs_object, is_refused};
 ghost use Rattle.turn_runner.specs.Turns.{IsEndRun, IsDueRun, IsSettled};
 
-use crate::turn::{run_alone, run_told};
-use crate::{Desk, DeskFault, Ran, SettleFault, TurnWork};
+use crate::{Desk, DeskFault, SettleFault, TurnWork, run_shared};
 use callback_orders::Outcome;
 use kind_trait::Kinds;
 use prop_map::OutOfMemory;
 use std::alloc::{AllocError, Global};
-use std::sync::Arc;
-
-fn run_with<K: Kinds>(
-    alloc: Global,
-    kinds: &K,
-    object: Option<Arc<K::Object>>,
-    work: &TurnWork,
-) -> Ran<K::Object>
-    requires { is_some object ≡ needs_object work.now }
-    ensures refused { IsOutcome (is_refused K.refuses work.now) result.outcome }
-    ensures made { is_some result.made ≡ makes_object work.now result.outcome }
-{
-    match object {
-        Some(object) => run_told(alloc, kinds, &object, work),
-        None => run_alone(alloc, kinds, work),
-    }
-}
 
 // Runs a turn that has begun, ends it and posts the drains that are due then.
 fn run_begun<K: Kinds, D: Desk<K::Object>>(
@@ -39,7 +21,7 @@ fn run_begun<K: Kinds, D: Desk<K::Object>>(
     ensures { IsEndRun D.has_drain D.ends D.posts (is_refused K.refuses work.now) work.now.number desk.old result desk.new }
 {
     let object = desk.object(alloc, work.instance)?;
-    let ran = run_with(alloc, kinds, object, work);
+    let ran = run_shared(alloc, kinds, object, work);
     let outcome = ran.outcome;
     if let Err((_, fault)) = desk.put_back(alloc, work.number, ran) {
         return Err(fault);
@@ -67,11 +49,11 @@ fn run_due<K: Kinds, D: Desk<K::Object>>(
 }
 
 /// Posts the drains that are due, and then runs the turns that are due, one after the other, until nothing is due. It answers
-/// how many ran. After each turn the drains that are due then are posted.
+/// how many ran. Behind each turn the drains that are due then are posted before the next one begins.
 ///
 /// # Errors
-/// Unsettled exactly where `budget` turns ran and one is still due. JournalFull exactly where a turn was due and the journal had
-/// no room for it. OutOfMemory comes also where a turn's outcome is NoMemory. The turns that ran stand.
+/// Unsettled exactly where `budget` turns ran and one is still due. JournalFull exactly where fewer ran, one is due and the journal
+/// has no room for it. OutOfMemory comes also where a turn's outcome is NoMemory. The turns that ran stand.
 pub fn settle<K: Kinds, D: Desk<K::Object>>(
     alloc: Global,
     desk: &mut D,

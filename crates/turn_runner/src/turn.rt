@@ -88,7 +88,7 @@ fn create<K: Kinds>(alloc: Global, kinds: &K, site: &Site) -> Ran<K::Object>
 }
 
 // Runs a turn that an object is told of.
-pub(crate) fn run_told<K: Kinds>(
+fn run_told<K: Kinds>(
     alloc: Global,
     kinds: &K,
     object: &K::Object,
@@ -103,7 +103,7 @@ pub(crate) fn run_told<K: Kinds>(
 }
 
 // Runs a turn of instance 0, or a Create.
-pub(crate) fn run_alone<K: Kinds>(alloc: Global, kinds: &K, work: &TurnWork) -> Ran<K::Object>
+fn run_alone<K: Kinds>(alloc: Global, kinds: &K, work: &TurnWork) -> Ran<K::Object>
     requires { needs_object work.now ≡ false }
     ensures refused { IsOutcome (is_refused K.refuses work.now) result.outcome }
     ensures nobody { IsTrue (asks_nobody work.now) → result.outcome ≡ Done }
@@ -135,6 +135,24 @@ pub fn run_turn<K: Kinds>(
 {
     match object {
         Some(object) => run_told(alloc, kinds, object, work),
+        None => run_alone(alloc, kinds, work),
+    }
+}
+
+/// Runs one turn as [`run_turn`] does, with an object that is shared.
+pub fn run_shared<K: Kinds>(
+    alloc: Global,
+    kinds: &K,
+    object: Option<Arc<K::Object>>,
+    work: &TurnWork,
+) -> Ran<K::Object>
+    requires { is_some object ≡ needs_object work.now }
+    ensures refused { IsOutcome (is_refused K.refuses work.now) result.outcome }
+    ensures nobody { IsTrue (asks_nobody work.now) → result.outcome ≡ Done }
+    ensures made { is_some result.made ≡ makes_object work.now result.outcome }
+{
+    match object {
+        Some(object) => run_told(alloc, kinds, &object, work),
         None => run_alone(alloc, kinds, work),
     }
 }
