@@ -1,5 +1,5 @@
 -- A run over the lines of an input: what becomes of the platform, and the text that it makes. Our own form.
-use Rattle.std.specs.Prelude.{◌≡◌, ◌≢◌, ℕ, List, [], ◌∷◌, ◌++◌, flat_map, take, ◌||◌, Bool, true, not, Option, ◌⊎◌, if◌then◌else◌}
+use Rattle.std.specs.Prelude.{◌≡◌, ◌<◌, ℕ, List, [], ◌∷◌, ◌++◌, flat_map, length, take, ◌||◌, Bool, true, not, Option, Some, ◌⊎◌, if◌then◌else◌}
 use Rattle.std.specs.List.{list_all}
 use Rattle.std.specs.Option.{option_map_or}
 use Rattle.std.specs.Io.KnownBytes.{Appends}
@@ -58,13 +58,30 @@ Ran s first (line ∷ lines) before after commands replies =
     × RunsLine s first (shell_line line) before told between × Ran s first lines between after later rest
     × (commands ≡ commands_of before (shell_line line) ++ later) × (replies ≡ as_list told ++ rest)
 
--- how a run ends behind the lines that it ran, by its status: at an end nothing more happened, else the first of the unread lines was cut off
-abbrev pub Stops : Setting → Status → CoreView → CoreView → List (List ℕ) → List Command → Type 0
-Stops s (Usage at) before after unread commands = ⊥
-Stops s NoMemory before after unread commands = Stays before after commands ⊎ CutsFirst s unread OutOfMemory before after commands
-Stops s JournalFull before after unread commands = CutsFirst s unread NoRoom before after commands
-Stops s Unsettled before after unread commands = CutsFirst s unread StillDue before after commands
-Stops s _ before after unread commands = Stays before after commands
+-- the first of these lines is run, and this is its reply
+abbrev pub RunsFirst : Setting → CoreView → List (List ℕ) → CoreView → ShellReply → CoreView → List Command → Type 0
+RunsFirst s first [] before reply after commands = ⊥
+RunsFirst s first (line ∷ lines) before reply after commands = RunsLine s first (shell_line line) before (Some reply) after × (commands ≡ commands_of before (shell_line line))
+
+-- the first of these lines is run, but only a front of its reply's text is written
+abbrev pub WritesFront : Setting → CoreView → List (List ℕ) → CoreView → CoreView → List Command → List ℕ → Type 0
+WritesFront s first lines before after commands front =
+    (reply : ShellReply) × (count : ℕ) × RunsFirst s first lines before reply after commands × (count < length (reply_text reply)) × (front ≡ take count (reply_text reply))
+
+-- memory is wanting for a line or its words, within what it asks, or for its reply's text
+abbrev pub LacksMemory : Setting → CoreView → List (List ℕ) → CoreView → CoreView → List Command → Type 0
+LacksMemory s first lines before after commands =
+    Stays before after commands ⊎ (CutsFirst s lines OutOfMemory before after commands ⊎ ((reply : ShellReply) × RunsFirst s first lines before reply after commands))
+
+-- How a run ends behind the lines whose replies are written, by its status: at an end nothing more happened, else something became of the first of
+-- the other lines, by these commands, and this front of its reply's text is written.
+abbrev pub Stops : Setting → CoreView → Status → CoreView → CoreView → List (List ℕ) → List Command → List ℕ → Type 0
+Stops s first (Usage at) before after others commands front = ⊥
+Stops s first WriteFault before after others commands front = WritesFront s first others before after commands front
+Stops s first NoMemory before after others commands front = LacksMemory s first others before after commands × (front ≡ [])
+Stops s first JournalFull before after others commands front = CutsFirst s others NoRoom before after commands × (front ≡ [])
+Stops s first Unsettled before after others commands front = CutsFirst s others StillDue before after commands × (front ≡ [])
+Stops s first _ before after others commands front = Stays before after commands × (front ≡ [])
 
 abbrev pub command_in : Step → List Command
 command_in (Stepped command) = command ∷ []
@@ -82,27 +99,26 @@ pub record Grew (before after : CoreView) (commands : List Command) : Type 0 whe
   pub limits : after.limits ≡ before.limits
   pub legal : IsLegal before.limits.journal (history_of before.journal) → IsLegal after.limits.journal (history_of after.journal)
 
--- What a run did with an input: it ran the first lines, in order and each once.
+-- What a run did with an input: it ran the first lines, in order and each once, and wrote each reply before it ran the next line.
 pub record HasRun (s : Setting) (bytes : List ℕ) (before after : CoreView) (written_before written_after : Option (List ℕ)) (status : Status) : Type 0 where
   pub lines : List (List ℕ)
-  pub unread : List (List ℕ)
+  pub others : List (List ℕ)
   pub between : CoreView
   pub commands : List Command
-  pub cut : List Command
+  pub later : List Command
   pub replies : List ShellReply
-  pub count : ℕ
-  -- the lines that were run are the first ones before `quit` and before a line that is too long
-  pub first : script_lines (lines_of bytes) ≡ lines ++ unread
+  pub front : List ℕ
+  -- the lines that were run and answered are the first ones before `quit` and before a line that is too long
+  pub first : script_lines (lines_of bytes) ≡ lines ++ others
   -- each in its turn
   pub ran : Ran s before lines before between commands replies
   -- behind them the run ended with its status
-  pub stops : Stops s status between after unread cut
-  pub grew : Grew before after (commands ++ cut)
-  -- what was written is a front of the replies' text, and all of it but where the sink failed or memory was wanting
-  pub wrote : Appends written_before written_after (take count (texts replies))
-  pub whole : status ≢ WriteFault → status ≢ NoMemory → take count (texts replies) ≡ texts replies
+  pub stops : Stops s before status between after others later front
+  pub grew : Grew before after (commands ++ later)
+  -- their replies were written whole, and at most a front of one more
+  pub wrote : Appends written_before written_after (texts replies ++ front)
   -- at the end of the script all lines were run, and the status tells which end it is
-  pub ended : IsEnding status → (status ≡ ending 1 (lines_of bytes)) × (unread ≡ [])
+  pub ended : IsEnding status → (status ≡ ending 1 (lines_of bytes)) × (others ≡ [])
 
 -- the same for an input that may tell its bytes
 abbrev pub HasRunOver : Setting → Option (List ℕ) → CoreView → CoreView → Option (List ℕ) → Option (List ℕ) → Status → Type 0
