@@ -5,13 +5,15 @@ ghost use Rattle.std.specs.Prelude.{◌≡◌, ◌++◌, ◌∷◌, [], IfOk, On
 use prop_map::OutOfMemory;
 use std::alloc::Global;
 use std::marker::Model;
+use thiserror::Error;
 
 const MOST_CALLS: usize = 16;
 
 const MOST_NESTED: u64 = 64;
 
 /// A further nested call would be one too many.
-#[derive(Clone, Copy, Debug, PartialEq, Eq, Drop)]
+#[derive(Clone, Copy, Debug, PartialEq, Eq, Drop, Error)]
+#[error("the call is too long")]
 pub struct CallTooLong;
 
 /// A call that waits for the reply of the nested call that it made.

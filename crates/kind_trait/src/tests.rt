@@ -134,3 +134,10 @@ fn the_sixty_fifth_nested_call_is_too_long(rt: HostRuntime) -> Result<(), Fail> 
     assert_eq!(rt; stack.push(64, 64), Err((64, CallTooLong)));
     Ok(())
 }
+
+#[test]
+fn faults_are_printed(rt: HostRuntime) -> Result<(), Fail> {
+    let printed = format!(in rt.alloc(); "{CallTooLong} / {}", KindFault::Refused)?;
+    assert_eq!(rt; printed.as_str(), "the call is too long / the component refuses");
+    Ok(())
+}

@@ -4,11 +4,13 @@ ghost use Rattle.level_order.specs.declared.fault.LevelFault.TheVariants.{OutOfM
 
 use prop_map::{List, Str};
 use std::alloc::{AllocError, AllocFailed};
+use thiserror::Error;
 
 /// Why descriptions have no levels.
-#[derive(Debug, PartialEq, Eq, Drop)]
+#[derive(Debug, PartialEq, Eq, Drop, Error)]
 pub enum LevelFault {
     /// Some descriptions lie on a cycle.
+    #[error("some components consume each other in a circle")]
     Cycle {
         /// The names of a cycle's descriptions, each of which consumes the next one: it begins at the first description
         /// that lies on a cycle, is a shortest cycle through it, of several the one whose list of places is the least,
@@ -16,6 +18,7 @@ pub enum LevelFault {
         path: List<Str>,
     },
     /// There was no memory.
+    #[error("out of memory")]
     OutOfMemory,
 }
 

@@ -10,18 +10,22 @@ use fault_count::decimal;
 use scr_core::Command;
 use std::alloc::{AllocError, AllocFailed, Global};
 use std::str;
+use thiserror::Error;
 
 /// Why a line is refused before it comes to the core.
-#[derive(Debug, PartialEq, Eq, Drop)]
+#[derive(Debug, PartialEq, Eq, Drop, Error)]
 pub enum LineFault {
     /// The line or its document isn't of a form that is built so far.
+    #[error("the form isn't built yet")]
     NotBuilt,
     /// The document isn't read.
+    #[error("the document isn't read: {fault}")]
     Document {
         /// Why, and where.
         fault: DocFault,
     },
     /// There was no memory.
+    #[error("out of memory")]
     OutOfMemory,
 }
 

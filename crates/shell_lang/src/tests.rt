@@ -298,3 +298,11 @@ fn turns_are_told(rt: HostRuntime) -> Result<(), Fail> {
     );
     Ok(())
 }
+
+#[test]
+fn a_fault_is_printed(rt: HostRuntime) -> Result<(), Fail> {
+    let fault = read_line(rt.alloc(), b"begin x").err().ok_or("a fault")?;
+    let printed = format!(in rt.alloc(); "{fault}")?;
+    assert_eq!(rt; printed.as_str(), "the form isn't built yet");
+    Ok(())
+}
