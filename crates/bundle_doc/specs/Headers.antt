@@ -1,5 +1,5 @@
 -- What a document's manifest says of its bundle. OSGi Core 8, section 3.2.1: Bundle-ManifestVersion, Bundle-SymbolicName,
--- Bundle-Version, Bundle-Activator; OSGi Compendium 8, section 112.4.1: Service-Component.
+-- Bundle-Version, Bundle-Activator; OSGi Compendium 8, section 112.4 (component description): Service-Component.
 use Rattle.std.specs.Prelude.{ℕ, List, [], ◌∷◌, codes, Bool, false, Option, Some, None, option_and_then, Result, Ok, Err, if◌then◌else◌}
 use Rattle.std.specs.Str.{bytes_eq}
 use Rattle.bundle_headers.specs.Headers.{Header as Line, header_value, manifest_of}

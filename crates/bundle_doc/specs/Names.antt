@@ -1,4 +1,4 @@
--- The names of entries in Service-Component (OSGi Compendium 8, section 112.4.1), which may have a star in their last part.
+-- The names of entries in Service-Component (OSGi Compendium 8, section 112.4, component description), which may have a star in their last part.
 use Rattle.std.specs.Prelude.{ℕ, ◌-◌, ◌==◌, ◌&&◌, List, [], ◌∷◌, map, take, drop, length, Bool, not, if◌then◌else◌}
 use Rattle.std.specs.List.{list_any}
 use Rattle.bundle_headers.specs.Blanks.{trimmed}

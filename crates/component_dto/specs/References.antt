@@ -1,5 +1,5 @@
 -- A reference as JSON data: ReferenceDTO of OSGi Compendium 8, chapter 112. The defaults are those of its attributes in
--- section 112.4.3; that of the name is our own.
+-- section 112.4 (component description); that of the name is our own.
 use Rattle.std.specs.Prelude.{ℕ, ◌&&◌, List, codes, Bool, true, Option, Some, None, option_and_then, if◌then◌else◌, Result, Ok}
 use Rattle.std.specs.Option.{is_some, unwrap_or}
 use Rattle.serde_json.specs.Data.{Data, Items, no_items, item}
