@@ -3,7 +3,8 @@
 use prop_map::{Cardinality, Copies, List, OutOfMemory, Policy, PolicyOption, Properties, Str};
 use std::alloc::Global;
 
-/// For whom an instance of a component is made (OSGi Compendium 8, section 112.4 "Component Description", `scope` of `service`).
+/// For whom an instance of a component is made (OSGi Compendium 8, section 112.4 "Component Description", `scope` of
+/// `service`).
 #[derive(Clone, Copy, Debug, PartialEq, Eq)]
 pub enum Scope {
     /// `singleton`: one for all.
@@ -14,7 +15,8 @@ pub enum Scope {
     Prototype,
 }
 
-/// What a component needs of its configurations (OSGi Compendium 8, section 112.4 "Component Description", `configuration-policy` of `component`).
+/// What a component needs of its configurations (OSGi Compendium 8, section 112.4 "Component Description",
+/// `configuration-policy` of `component`).
 #[derive(Clone, Copy, Debug, PartialEq, Eq)]
 pub enum ConfigurationPolicy {
     /// `optional`: they are taken where they are there.
