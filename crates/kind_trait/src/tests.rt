@@ -138,6 +138,9 @@ fn the_sixty_fifth_nested_call_is_too_long(rt: HostRuntime) -> Result<(), Fail> 
 #[test]
 fn faults_are_printed(rt: HostRuntime) -> Result<(), Fail> {
     let printed = format!(in rt.alloc(); "{CallTooLong} / {}", KindFault::Refused)?;
-    assert_eq!(rt; printed.as_str(), "the call is too long / the component refuses");
+    assert_eq!(rt;
+        printed.as_str(),
+        "the call is too long / the component refuses"
+    );
     Ok(())
 }

@@ -88,6 +88,9 @@ fn the_first_shortest_and_least_cycle_is_told(rt: HostRuntime) -> Result<(), Fai
 fn a_fault_is_printed(rt: HostRuntime) -> Result<(), Fail> {
     let path = List::of(Vec::new(rt.alloc()));
     let printed = format!(in rt.alloc(); "{}", LevelFault::Cycle { path })?;
-    assert_eq!(rt; printed.as_str(), "some components consume each other in a circle");
+    assert_eq!(rt;
+        printed.as_str(),
+        "some components consume each other in a circle"
+    );
     Ok(())
 }
