@@ -26,3 +26,4 @@ pub mod Startings
 pub mod Reopenings
 pub mod Shutting
 pub mod CoreTables
+pub mod Numbers
