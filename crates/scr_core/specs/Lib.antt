@@ -27,3 +27,4 @@ pub mod Reopenings
 pub mod Shutting
 pub mod CoreTables
 pub mod Numbers
+pub mod Slots

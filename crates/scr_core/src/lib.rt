@@ -22,6 +22,7 @@ mod numbers;
 mod plan;
 mod platform_core;
 mod room;
+mod slots;
 mod tables;
 #[cfg(test)]
 mod tests;
@@ -41,5 +42,6 @@ pub use instance::Instance;
 pub use no_stuck_state::note_no_stuck_state;
 pub use numbers::note_numbers;
 pub use platform_core::Core;
+pub use slots::note_slots;
 pub use turn::{Ended, Taken, Turn};
 pub use turn_lines::TurnLine;
