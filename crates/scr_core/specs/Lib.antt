@@ -28,3 +28,4 @@ pub mod Shutting
 pub mod CoreTables
 pub mod Numbers
 pub mod Slots
+pub mod Descriptions
