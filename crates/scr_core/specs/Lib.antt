@@ -28,4 +28,5 @@ pub mod Shutting
 pub mod CoreTables
 pub mod Numbers
 pub mod Slots
+pub mod GateKeys
 pub mod Descriptions
