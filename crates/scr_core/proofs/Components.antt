@@ -16,7 +16,7 @@ use Rattle.scr_core.specs.declared.command.Step.TheVariants.{Command as Commande
 use Rattle.scr_core.specs.declared.instance.Instance.{Instance}
 use Rattle.scr_core.specs.Bundles.{bundles_by, bundle_of, descriptions_of, numbered, coming}
 use Rattle.scr_core.specs.Views.{references_of}
-use Rattle.scr_core.specs.Worlds.{World, is_known, remaining, ceased, components_by, coming_by}
+use Rattle.scr_core.specs.Worlds.{World, is_remembered, remaining, ceased, components_by, coming_by}
 use Rattle.scr_core.proofs.ListLemmas.{in_first, in_rest, in_cases, in_none, any_from, in_filter, in_filter_from, find_to, in_map, in_map_from, in_flat_map, has_from, has_to, apart, apart_filter, apart_map, apart_append, apart_find}
 use Rattle.scr_core.proofs.Descriptions.{description_stays}
 
@@ -102,8 +102,8 @@ module _ (w : World) (numbered : are_numbered w.components ≡ true) (came : (c 
   numbered_after (Commanded (Start bundle)) =
       let new = coming_new w.bundles (w.came + 1) bundle in
       numbered_apart (remaining w ++ coming w.bundles (w.came + 1) bundle)
-      ∙ apart_append number_of (remaining w) (coming w.bundles (w.came + 1) bundle) (apart_filter number_of (is_known w.instances) w.components each) new.numbered
-      (λ x y h k same. let low = came x (in_filter_from (is_known w.instances) w.components x h).0 in let high = new.from_first y k in omega (arith, low, high, same))
+      ∙ apart_append number_of (remaining w) (coming w.bundles (w.came + 1) bundle) (apart_filter number_of (is_remembered w.instances) w.components each) new.numbered
+      (λ x y h k same. let low = came x (in_filter_from (is_remembered w.instances) w.components x h).0 in let high = new.from_first y k in omega (arith, low, high, same))
   numbered_after (Commanded (Stop bundle)) = numbered_apart (map (ceased bundle) w.components) ∙ apart_map number_of (ceased bundle) (λ c. refl) w.components ∙ each
   numbered_after (Begin turn instance configuration consumer callback chosen) = numbered
   numbered_after (End turn outcome) = numbered
@@ -113,7 +113,7 @@ module _ (w : World) (numbered : are_numbered w.components ≡ true) (came : (c 
   pub came_after : (step : Step) (c : Component) → Contains (components_by step w) c → c.number ≤ w.came + coming_by step w
   came_after (Commanded (Install doc)) c h = omega (arith, came c h)
   came_after (Commanded (Start bundle)) c h = elim (Contains-append_cases (remaining w) (coming w.bundles (w.came + 1) bundle) c h) [
-    | inl old ↦ omega (arith, came c (in_filter_from (is_known w.instances) w.components c old).0)
+    | inl old ↦ omega (arith, came c (in_filter_from (is_remembered w.instances) w.components c old).0)
     | inr new ↦ omega (arith, (coming_new w.bundles (w.came + 1) bundle).below_last c new)
   ]
   came_after (Commanded (Stop bundle)) c h = let was = in_map_from (ceased bundle) w.components c h in omega (arith, came was.0 was.1, ap number_of was.2)
@@ -124,7 +124,7 @@ module _ (w : World) (numbered : are_numbered w.components ≡ true) (came : (c 
   described_here : (step : Step) (c : Component) → Contains (components_by step w) c → Contains (descriptions_of w.bundles) c.description
   described_here (Commanded (Install doc)) c h = described c h
   described_here (Commanded (Start bundle)) c h = elim (Contains-append_cases (remaining w) (coming w.bundles (w.came + 1) bundle) c h) [
-    | inl old ↦ described c (in_filter_from (is_known w.instances) w.components c old).0
+    | inl old ↦ described c (in_filter_from (is_remembered w.instances) w.components c old).0
     | inr new ↦ (coming_new w.bundles (w.came + 1) bundle).described c new
   ]
   described_here (Commanded (Stop bundle)) c h =
@@ -149,10 +149,10 @@ itself : (cs : List Component) (c : Component) → Contains cs c → IsKept cs c
 itself cs c h = record { now = c; there = h; same_number = refl; same_description = refl }
 
 -- a known one is kept
-pub kept_after : (w : World) (step : Step) (c : Component) → Contains w.components c → is_known w.instances c ≡ true → IsKept (components_by step w) c
+pub kept_after : (w : World) (step : Step) (c : Component) → Contains w.components c → is_remembered w.instances c ≡ true → IsKept (components_by step w) c
 kept_after w (Commanded (Install doc)) c h known = itself w.components c h
 kept_after w (Commanded (Start bundle)) c h known =
-    itself _ c (Contains-append_left (remaining w) (coming w.bundles (w.came + 1) bundle) c (in_filter (is_known w.instances) w.components c h known))
+    itself _ c (Contains-append_left (remaining w) (coming w.bundles (w.came + 1) bundle) c (in_filter (is_remembered w.instances) w.components c h known))
 kept_after w (Commanded (Stop bundle)) c h known =
     record { now = ceased bundle c; there = in_map (ceased bundle) w.components c h; same_number = refl; same_description = refl }
 kept_after w (Begin turn instance configuration consumer callback chosen) c h known = itself w.components c h
@@ -160,10 +160,10 @@ kept_after w (End turn outcome) c h known = itself w.components c h
 kept_after w (Drained instance) c h known = itself w.components c h
 
 -- one that hasn't ceased is known, and so is one with an instance
-pub living_known : (is : List Instance) (c : Component) → c.lives ≡ true → is_known is c ≡ true
+pub living_known : (is : List Instance) (c : Component) → c.lives ≡ true → is_remembered is c ≡ true
 living_known is c lives = or_left c.lives _ lives
 
-pub used_known : (is : List Instance) (c : Component) (i : Instance) → Contains is i → i.life.configuration ≡ c.number → is_known is c ≡ true
+pub used_known : (is : List Instance) (c : Component) (i : Instance) → Contains is i → i.life.configuration ≡ c.number → is_remembered is c ≡ true
 used_known is c i h same = or_right c.lives _ (any_from (λ (i : Instance). i.life.configuration == c.number) is i h (eq-eqb i.life.configuration c.number same))
 
 -- what is kept keeps its interfaces and its references

@@ -1,5 +1,5 @@
 -- The instances after a step: each is an earlier one with its number and its life, or the one that a Create made.
-use Rattle.std.proofs.Common.{◌≡◌, ℕ, List, [], ◌∷◌, ◌++◌, ap, sym, refl, subst, cond, Bool, true, false, inl, inr, ◌⊎◌}
+use Rattle.std.proofs.Common.{◌≡◌, ◌<◌, ℕ, ◌+◌, arith, List, [], ◌∷◌, ◌++◌, ap, sym, refl, subst, cond, Bool, true, false, inl, inr, ◌⊎◌}
 use Rattle.std.specs.Prelude.{map, not, ◌&&◌, ◌==◌}
 use Rattle.std.specs.List.{Contains}
 use Rattle.std.proofs.lemmas.List.Elements.{Contains-push_cases}
@@ -8,6 +8,7 @@ use Rattle.callback_orders.specs.declared.callback.Callback.TheVariants.{Create,
 use Rattle.callback_orders.specs.declared.callback.Outcome.{Outcome}
 use Rattle.callback_orders.specs.Sequences.{begun}
 use Rattle.component_state.specs.declared.life.Choice.{Choice}
+use Rattle.component_state.specs.declared.life.Life.{Life}
 use Rattle.component_state.specs.declared.open_period.OpenPeriod.{OpenPeriod}
 use Rattle.scr_core.specs.declared.command.Step.{Step}
 use Rattle.scr_core.specs.declared.command.Step.TheVariants.{Command as Commanded, Begin, End, Drained}
@@ -85,3 +86,12 @@ instance_was w (Begin turn instance configuration consumer callback chosen) i h 
 instance_was w (End turn outcome) i h =
     inl (was_one w (ended_in turn outcome w.generations) (ended_same turn outcome w.generations) i (in_filter_from lives_on (instances_told (End turn outcome) w) i h).0)
 instance_was w (Drained instance) i h = inl (was_one w (drained_in instance) (drained_same instance) i h)
+
+-- so each was made before the end of the entry
+pub created_after : (w : World) → ((i : Instance) → Contains w.instances i → i.life.created < w.length_is) → (step : Step) (i : Instance) → Contains (instances_by step w) i → i.life.created < w.length_is + 1
+created_after w earlier step i h = elim (instance_was w step i h) [
+  | inl was ↦ (
+      let same : i.life.created ≡ was.0.life.created = ap (λ (l : Life). l.created) was.2.life in
+      omega (arith, same, earlier was.0 was.1))
+  | inr new ↦ omega (arith, new)
+]

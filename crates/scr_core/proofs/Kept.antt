@@ -8,7 +8,7 @@ use Rattle.scr_core.specs.declared.command.Step.{Step}
 use Rattle.scr_core.specs.declared.instance.Instance.{Instance}
 use Rattle.scr_core.specs.Sound.{IsSound}
 use Rattle.scr_core.specs.Views.{references_of}
-use Rattle.scr_core.specs.Worlds.{World, is_known, components_by}
+use Rattle.scr_core.specs.Worlds.{World, is_remembered, components_by}
 use Rattle.scr_core.proofs.Components.{numbered_after, kept_after, living_known, used_known, same_interfaces, same_references}
 use Rattle.scr_core.proofs.ListLemmas.{has_to}
 use Rattle.scr_core.proofs.Marks.{open_lives}
@@ -19,7 +19,7 @@ pub record KeepsItsOwn (w : World) (step : Step) (n : ℕ) : Type 0 where
   pub interfaces : interfaces_of (components_by step w) n ≡ interfaces_of w.components n
 
 module _ (limit : ℕ) (w : World) (sound : IsSound limit w) (step : Step) where
-  kept_own : (c : Component) → Contains w.components c → is_known w.instances c ≡ true → KeepsItsOwn w step c.number
+  kept_own : (c : Component) → Contains w.components c → is_remembered w.instances c ≡ true → KeepsItsOwn w step c.number
   kept_own c h known =
       let kept = kept_after w step c h known in
       let numbered = numbered_after w sound.numbered sound.came_so_far sound.described step in

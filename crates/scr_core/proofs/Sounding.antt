@@ -24,6 +24,7 @@ use Rattle.scr_core.proofs.Callbacks.{order_after, instances_after, told_apart_a
 use Rattle.scr_core.proofs.Components.{numbered_after, came_after, described_after}
 use Rattle.scr_core.proofs.Descriptions.{levels_after, rested_descriptions}
 use Rattle.scr_core.proofs.Ends.{open_is, satisfied_is}
+use Rattle.scr_core.proofs.InstanceLemmas.{created_after}
 use Rattle.scr_core.proofs.ListLemmas.{in_none}
 use Rattle.scr_core.proofs.Marks.{unmarked_after, marked_after, current_after}
 use Rattle.scr_core.proofs.Periods.{periods_after, periods_then, earlier_then}
@@ -40,6 +41,7 @@ sound_empty limit = record {
   earlier = λ p h. absurd (in_none p h);
   scratch = λ n. refl;
   told_apart = refl;
+  created = λ i h. absurd (in_none i h);
   instances = λ i h. absurd (in_none i h);
   left = le-leb 0 limit (omega arith);
 }
@@ -78,6 +80,7 @@ sound_after limit w step p sound may room passed =
       earlier = earlier_then limit w sound step p passed;
       scratch = scratch_after w step p passed;
       told_apart = told_apart_after limit w sound step may;
+      created = created_after w sound.created step;
       instances = instances_after limit w sound step may;
       left = room_after limit w sound (entry_of w step p) may room;
     }

@@ -26,3 +26,7 @@ pub mod Startings
 pub mod Reopenings
 pub mod Shutting
 pub mod CoreTables
+pub mod Numbers
+pub mod Slots
+pub mod GateKeys
+pub mod Descriptions

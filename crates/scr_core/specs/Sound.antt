@@ -46,6 +46,7 @@ pub record IsSound (limit : ℕ) (w : World) : Type 0 where
   pub earlier : (p : OpenPeriod) → Contains w.open_ones p → p.opened < w.length_is
   pub scratch : IsScratch w
   pub told_apart : are_told_apart w.instances ≡ true
+  pub created : (i : Instance) → Contains w.instances i → i.life.created < w.length_is
   pub instances : (i : Instance) → Contains w.instances i → IsSoundInstance w.components w.made i
   pub left : has_room limit w 0 ≡ true
 

@@ -8,16 +8,16 @@ use Rattle.scr_core.specs.declared.tables.Tables.{Tables}
 use Rattle.scr_core.specs.Bundles.{numbered}
 use Rattle.scr_core.specs.Replies.{still_stopping}
 use Rattle.scr_core.specs.Tables.{world_in}
-use Rattle.scr_core.specs.Worlds.{is_known}
+use Rattle.scr_core.specs.Worlds.{is_remembered}
 
 -- those that come with the bundle, and those that remain
 pub record AreStarting (t : Tables) (b : Bundle) (s : Starting) : Type 0 where
   pub new : s.new.items ≡ numbered (t.came + 1) b.number 0 b.document.descriptions
-  pub remaining : s.remaining.items ≡ filter (is_known t.instances.items) t.components.items
+  pub remaining : s.remaining.items ≡ filter (is_remembered t.instances.items) t.components.items
 
 abbrev pub is_full_with : Tables → Bundle → Bool
 is_full_with t b = not (length (numbered (t.came + 1) b.number 0 b.document.descriptions) == 0)
-    && nat_lt 512 (length (filter (is_known t.instances.items) t.components.items) + length (numbered (t.came + 1) b.number 0 b.document.descriptions))
+    && nat_lt 512 (length (filter (is_remembered t.instances.items) t.components.items) + length (numbered (t.came + 1) b.number 0 b.document.descriptions))
 
 abbrev pub IsStarting : Tables → Bundle → Result Starting CoreFault → Type 0
 IsStarting t b (Ok s) = AreStarting t b s × (still_stopping (world_in t) b ≡ None) × (is_full_with t b ≡ false)

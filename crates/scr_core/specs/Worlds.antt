@@ -21,9 +21,9 @@ use Rattle.scr_core.specs.Bundles.{bundles_by, come_to_rest, descriptions_of, co
 use Rattle.scr_core.specs.Levels.{levels_of}
 use Rattle.scr_core.specs.Instances.{is_create, is_activate, last_is, lives_on, has_turn, begun_by, becomes_active, next_generation, ended_in, drained_in, lowest_free}
 
--- what a journal says: how many entries there were; the bundles; the component configurations, those that ceased among them as long as an
--- instance of theirs lives, and how many came; what is open; the failed ones; the living instances, how many were made, and how many turns
--- began; how many services there were; and how often the gate of each slot was opened
+-- what a journal says: how many entries there were; the bundles; the component configurations, those that ceased among them until the next
+-- start of a bundle, and longer where an instance of theirs lives, and how many came; what is open; the failed ones; the living instances,
+-- how many were made, and how many turns began; how many services there were; and how often the gate of each slot was opened
 pub record World : Type 0 where
   pub length_is : ℕ
   pub bundles : List Bundle
@@ -47,12 +47,12 @@ lives_of is = map (λ (i : Instance). i.life) is
 abbrev pub satisfied_in : World → List ℕ
 satisfied_in w = let ds = descriptions_of w.bundles in numbers_of (satisfied ds (levels_of ds) w.components (held_back w.failed w.open_ones (lives_of w.instances)))
 
--- a component configuration that ceased stays known as long as an instance of it lives
-abbrev pub is_known : List Instance → Component → Bool
-is_known is c = c.lives || list_any (λ (i : Instance). i.life.configuration == c.number) is
+-- a start leaves those that live, and those that ceased of which an instance lives
+abbrev pub is_remembered : List Instance → Component → Bool
+is_remembered is c = c.lives || list_any (λ (i : Instance). i.life.configuration == c.number) is
 
 abbrev pub remaining : World → List Component
-remaining w = filter (is_known w.instances) w.components
+remaining w = filter (is_remembered w.instances) w.components
 
 -- the component configurations of this bundle cease
 abbrev pub ceased : ℕ → Component → Component

@@ -9,6 +9,7 @@ use journal_core::GateKey;
 use level_order::LevelFault;
 use prop_map::{List, Str};
 use std::alloc::{AllocError, AllocFailed};
+use thiserror::Error;
 
 /// The limits of a platform.
 #[derive(Clone, Copy, Debug, PartialEq, Eq, Drop)]
@@ -92,24 +93,28 @@ pub struct Accepted {
 }
 
 /// Why a command or a question is refused. A refused command changes nothing.
-#[derive(Debug, PartialEq, Eq, Drop)]
+#[derive(Debug, Drop, PartialEq, Eq, Error)]
 pub enum CoreFault {
     /// There is no bundle of this number. The number 0 counts as that of no bundle.
+    #[error("there is no bundle {bundle}")]
     NoBundle {
         /// The number.
         bundle: u64,
     },
     /// There is no component configuration of this name; where it was asked for by its number, this is the number in decimal.
+    #[error("there is no component configuration {name}")]
     NoComponent {
         /// The name.
         name: Str,
     },
     /// The bundle is still stopping.
+    #[error("the bundle is still stopping for the instance {instance}")]
     Stopping {
         /// The lowest instance of its components, or made for it, that hasn't ceased.
         instance: u64,
     },
     /// With this document some description would have no level: it would consume itself over others.
+    #[error("a component would consume itself over others")]
     Cycle {
         /// The names of a cycle's descriptions, each of which consumes the next one: it begins at the first description that
         /// lies on a cycle, is a shortest cycle through it, of several the one whose list of places is the least, and names
@@ -117,12 +122,16 @@ pub enum CoreFault {
         path: List<Str>,
     },
     /// There are 128 bundles.
+    #[error("there are 128 bundles")]
     BundlesFull,
     /// There would be more than 512 component configurations.
+    #[error("there would be more than 512 component configurations")]
     ComponentsFull,
     /// The journal has no room for what is asked, beside the entries that are reserved.
+    #[error("the journal has no room")]
     JournalFull,
     /// There was no memory.
+    #[error("out of memory")]
     OutOfMemory,
 }
 

@@ -55,6 +55,7 @@ pub(crate) fn grow_by_change(
     ensures shut { IfOk result (λ shut. shut ≡ shut_between (world_at journal.old) (world_at journal.new)) }
     ensures as_before { OnErr result (journal.new ≡ journal.old) }
 {
+    // This lets the clauses know the limit's range.
     let _limit = limit;
     let plan = planned(
         alloc,
@@ -123,6 +124,7 @@ pub(crate) fn grow_by_install(
     ensures shut { IfOk result (λ shut. shut ≡ shut_between (world_at journal.old) (world_at journal.new)) }
     ensures as_before { OnErr result (journal.new ≡ journal.old) }
 {
+    // This lets the clauses know the limit's range.
     let _limit = limit;
     let bundle = Bundle {
         number,

@@ -10,7 +10,7 @@ ghost use Rattle.scr_core.specs.Consequences.{keeps_bundle};
 ghost use Rattle.scr_core.specs.Replies.{is_known, still_stopping};
 ghost use Rattle.scr_core.specs.Startings.{IsStarting};
 ghost use Rattle.scr_core.specs.Tables.{Keeps, world_in};
-ghost use Rattle.scr_core.specs.Worlds.{ceased, is_known as is_remembered, remaining};
+ghost use Rattle.scr_core.specs.Worlds.{ceased, is_remembered, remaining};
 
 use crate::bundles::{
     Bundle, BundleState, bundle_at, bundle_of, is_active, is_stopping, next_number, numbered,

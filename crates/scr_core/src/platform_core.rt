@@ -260,6 +260,7 @@ impl Core {
     pub fn note_sound(&self)
         ensures { IsSound self.now.limits.journal (world_at self.now.journal) }
     {
+        // This lets the clause know the invariant.
         let _tables = &self.tables;
     }
 
@@ -267,6 +268,7 @@ impl Core {
     pub fn note_legal(&self)
         ensures { IsLegal self.now.limits.journal (history_of self.now.journal) }
     {
+        // This lets the clause know the journal's entries.
         let _journal = &self.journal;
     }
 }

@@ -20,7 +20,7 @@ pub(crate) struct Tables {
     // The descriptions of all bundles, and their levels.
     pub descriptions: Vec<Description>,
     pub levels: List<u32>,
-    // Those that ceased stay as long as an instance of theirs lives.
+    // Those that ceased stay until the next start of a bundle, and longer where an instance of theirs lives.
     pub components: Vec<Component>,
     // How many component configurations came.
     pub came: u64,

@@ -1,4 +1,7 @@
-use crate::{Command, Core, CoreFault, Ended, Limits, Reply, Taken};
+use crate::{
+    Command, Core, CoreFault, Ended, Limits, Reply, Taken, note_created, note_descriptions,
+    note_gate_keys, note_numbers, note_slots,
+};
 use bundle_doc::BundleDoc;
 use callback_orders::{Callback, Outcome};
 use component_dto::{ConfigurationPolicy, Description, Reference, Scope};
@@ -182,6 +185,11 @@ fn an_immediate_consumer_gets_its_delayed_provider(rt: HostRuntime) -> Result<()
     assert!(rt; !core.due(rt.alloc())?);
     assert_eq!(rt; core.journal().length(), 14);
     assert_eq!(rt; core.limits(), LIMITS);
+    note_numbers();
+    note_slots();
+    note_gate_keys();
+    note_created();
+    note_descriptions();
     Ok(())
 }
 

@@ -39,6 +39,7 @@ pub(crate) fn grow_by_turn(
     ensures shut { IfOk result (λ shut. shut ≡ shut_between (world_at journal.old) (world_at journal.new)) }
     ensures as_before { OnErr result (journal.new ≡ journal.old) }
 {
+    // This lets the clauses know the limit's range.
     let _limit = limit;
     let instances = instances_after(alloc, tables, &step)?;
     let failing = failing(alloc, tables, &step)?;

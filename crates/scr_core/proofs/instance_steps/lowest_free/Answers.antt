@@ -1,7 +1,7 @@
 use Rattle.std.proofs.Common.{◌∙◌, sym, length}
 use Rattle.std.specs.Prelude.{map}
 use Rattle.scr_core.specs.declared.instance.Instance.{Instance}
-use Rattle.scr_core.proofs.Slots.{lowest_later, lowest_here}
+use Rattle.scr_core.proofs.LowestSlots.{lowest_later, lowest_here}
 use Rattle.scr_core.proofs.instance_steps.lowest_free.Goals as goal
 
 pub loop-slot-preserved : goal.loop-slot-preserved
