@@ -9,7 +9,6 @@ mod drains;
 mod finish_fault;
 mod notes;
 mod platform;
-mod runs;
 #[cfg(test)]
 mod tests;
 mod tokens;
