@@ -12,6 +12,10 @@ mod platform;
 #[cfg(test)]
 mod tests;
 mod tokens;
+#[cfg(test)]
+mod watched_tests;
+#[cfg(test)]
+mod watching;
 
 pub use finish_fault::FinishFault;
 pub use notes::{note_rest, note_turns_end};
