@@ -25,7 +25,7 @@ use Rattle.scr_core.specs.Worlds.{World}
 use Rattle.scr_core.proofs.Legality.{sound_legal}
 use Rattle.scr_core.proofs.ListLemmas.{any_from}
 use Rattle.scr_core.proofs.NoStuckState.{quiet_is_right}
-use Rattle.platform_hall.specs.Platforms.{Begins, Drained, Ends, Posts, Settles, none_under_way, world}
+use Rattle.platform_hall.specs.Platforms.{Begins, Drained, Ends, Posts, Settles, has_drain, none_under_way, world}
 use Rattle.platform_hall.proofs.Lists.{any_none}
 use Rattle.platform_hall.proofs.Starts.{IsBegun, runs_as, takes_begun, takes_legal}
 use Rattle.platform_hall.proofs.Steps.{grown_after, grown_legal}
@@ -105,17 +105,17 @@ ends_none before begun ended work outcome legal none begins ends n =
     ]
 
 module _ (refuses : List ℕ → List Property → Told → Bool) where
-  turn_keeps : (before after : CoreView) → HasLegal before × NoTurns (world before) → Turn Begins Ends Posts refuses before after → HasLegal after × NoTurns (world after)
-  turn_keeps before after (legal, none) (work, (begun, ended, begins, ends, posts)) =
+  turn_keeps : (before after : CoreView) → HasLegal before × NoTurns (world before) → Turn has_drain Begins Ends Posts refuses before after → HasLegal after × NoTurns (world after)
+  turn_keeps before after (legal, none) (work, (begun, ended, begins, ends, posts), clear) =
       let later = ends_legal begun ended work.number _ (begins_legal before begun work legal begins) ends in
       (posts_legal ended after later posts, posts_none ended after (ends_none before begun ended work _ legal none begins ends) posts)
 
-  turns_keep : (count : ℕ) (before after : CoreView) → HasLegal before × NoTurns (world before) → Turns Begins Ends Posts refuses count before after → HasLegal after × NoTurns (world after)
+  turns_keep : (count : ℕ) (before after : CoreView) → HasLegal before × NoTurns (world before) → Turns has_drain Begins Ends Posts refuses count before after → HasLegal after × NoTurns (world after)
   turns_keep zero before after kept same = subst (λ (p : CoreView). HasLegal p × NoTurns (world p)) same kept
   turns_keep (suc count) before after kept (between, rest, turn) = turn_keeps between after (turns_keep count before between kept rest) turn
 
   settled_keeps : (turns count : ℕ) (before after : CoreView) → HasLegal before → none_under_way before ≡ true → Settles refuses turns before (Ok count) after → HasLegal after × NoTurns (world after)
-  settled_keeps turns count before after legal none (low, (start, posts, ran), due, drain) =
+  settled_keeps turns count before after legal none (low, (start, posts, clear, ran), due, drain) =
       turns_keep count start after (posts_legal before start legal posts, posts_none before start (none_to before none) posts) ran
 
   pub settled_ends : (turns count : ℕ) (before after : CoreView) → HasLegal before → none_under_way before ≡ true → Settles refuses turns before (Ok count) after → none_under_way after ≡ true

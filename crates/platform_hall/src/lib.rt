@@ -9,10 +9,13 @@ mod drains;
 mod finish_fault;
 mod notes;
 mod platform;
-mod runs;
 #[cfg(test)]
 mod tests;
 mod tokens;
+#[cfg(test)]
+mod watched_tests;
+#[cfg(test)]
+mod watching;
 
 pub use finish_fault::FinishFault;
 pub use notes::{note_rest, note_turns_end};

@@ -7,13 +7,12 @@ ghost use Rattle.platform_hall.specs.Platforms.{BeginsTurn, FinishesTurn, Settle
 
 use crate::FinishFault;
 use crate::core_desk::CoreDesk;
-use crate::runs::run_with;
 use callback_orders::Outcome;
 use kind_trait::Kinds;
 use scr_core::{Command, Core, CoreFault, Limits, Reply};
 use std::alloc::Global;
 use std::marker::Model;
-use turn_runner::{Desk, DeskFault, SettleFault, settle};
+use turn_runner::{Desk, DeskFault, SettleFault, run_shared, settle};
 
 /// A platform of one thread. Contracts see its limits and the entries of its journal, the oldest first.
 ///
@@ -60,12 +59,13 @@ impl<K: Kinds + Drop> Platform<K> {
         Ok(accepted.reply)
     }
 
-    /// Runs the turns that are due, one after the other, until none is due, and answers how many ran. After each turn the drains
-    /// that are due then are posted.
+    /// Runs the turns that are due, one after the other, until none is due, and answers how many ran. The drains that are due
+    /// behind a turn are posted before the next one begins.
     ///
     /// # Errors
-    /// `Unsettled` exactly where as many turns ran as the limit says and one is still due. `JournalFull` exactly where a turn was
-    /// due and the journal had no room for it. `OutOfMemory` comes also where a turn's outcome is NoMemory. The turns that ran stand.
+    /// `Unsettled` exactly where as many turns ran as the limit says and one is still due. `JournalFull` exactly where fewer ran, one
+    /// is due and the journal has no room for it. `OutOfMemory` comes also where a turn's outcome is NoMemory. The turns that ran
+    /// stand.
     pub fn settle(&mut self, alloc: Global) -> Result<u64, SettleFault>
         ensures { Settles K.refuses self.old.limits.turns self.old result self.new }
     {
@@ -101,7 +101,7 @@ impl<K: Kinds + Drop> Platform<K> {
             return Err(FinishFault::NoTurn);
         };
         let object = self.desk.object(alloc, work.instance)?;
-        let ran = run_with(alloc, &self.kinds, object, &work);
+        let ran = run_shared(alloc, &self.kinds, object, &work);
         let outcome = ran.outcome;
         if self.desk.put_back(alloc, turn, ran).is_err() {
             return Err(FinishFault::OutOfMemory);

@@ -2,7 +2,7 @@ use crate::{FinishFault, Platform, note_rest, note_turns_end};
 use bundle_doc::BundleDoc;
 use callback_orders::Outcome;
 use component_dto::{ConfigurationPolicy, Description, Reference, Scope};
-use kind_trait::NumberedKind;
+use kind_trait::{Kinds, NumberedKind};
 use osgi_version::Version;
 use prop_map::{Cardinality, List, Policy, PolicyOption, Properties, Str, Value};
 use scr_core::{Command, CoreFault, Limits, Reply};
@@ -10,7 +10,7 @@ use std::alloc::AllocError;
 use std::test::Fail;
 use turn_runner::SettleFault;
 
-const LIMITS: Limits = Limits {
+pub(crate) const LIMITS: Limits = Limits {
     journal: 4_194_304,
     turns: 1_000_000,
 };
@@ -39,7 +39,7 @@ fn reference(rt: HostRuntime, interface: &str) -> Result<Reference, AllocError> 
     })
 }
 
-// A component that refuses this callback.
+// A component that refuses this callback. Its class has its name.
 fn described(
     rt: HostRuntime,
     name: &str,
@@ -56,7 +56,7 @@ fn described(
     Ok(Description {
         name: text(rt, name)?,
         scope: Scope::Singleton,
-        implementation_class: text(rt, "demo.Numbered")?,
+        implementation_class: text(rt, name)?,
         default_enabled: true,
         immediate: provided.is_empty(),
         service_interfaces: texts(rt, provided)?,
@@ -84,12 +84,13 @@ fn document(rt: HostRuntime, description: Description) -> Result<BundleDoc, Allo
 }
 
 // A platform on which a consumer of P and its provider are started, in this order; the consumer refuses this callback.
-fn started(
+pub(crate) fn started<K: Kinds + Drop>(
     rt: HostRuntime,
     limits: Limits,
+    kinds: K,
     refuses: &str,
-) -> Result<Platform<NumberedKind>, CoreFault> {
-    let mut platform = Platform::new(rt.alloc(), NumberedKind::new(), limits)?;
+) -> Result<Platform<K>, CoreFault> {
+    let mut platform = Platform::new(rt.alloc(), kinds, limits)?;
     let consumer = document(rt, described(rt, "c", &[], &["P"], refuses)?)?;
     platform.command(rt.alloc(), Command::Install { doc: consumer })?;
     let provider = document(rt, described(rt, "p", &["P"], &[], "")?)?;
@@ -97,6 +98,14 @@ fn started(
     platform.command(rt.alloc(), Command::Start { bundle: 1 })?;
     platform.command(rt.alloc(), Command::Start { bundle: 2 })?;
     Ok(platform)
+}
+
+fn numbered(
+    rt: HostRuntime,
+    limits: Limits,
+    refuses: &str,
+) -> Result<Platform<NumberedKind>, CoreFault> {
+    started(rt, limits, NumberedKind::new(), refuses)
 }
 
 fn states(rt: HostRuntime, platform: &Platform<NumberedKind>) -> Result<Vec<u8>, AllocError> {
@@ -110,7 +119,7 @@ fn states(rt: HostRuntime, platform: &Platform<NumberedKind>) -> Result<Vec<u8>,
 
 #[test]
 fn a_settling_runs_all_that_is_due(rt: HostRuntime) -> Result<(), Fail> {
-    let mut platform = started(rt, LIMITS, "").ok().ok_or("two bundles")?;
+    let mut platform = numbered(rt, LIMITS, "").ok().ok_or("two bundles")?;
     assert_eq!(rt; platform.settle(rt.alloc()), Ok(5));
     assert_eq!(rt; states(rt, &platform)?.as_slice(), [8u8, 8].as_slice());
     assert_eq!(rt; platform.settle(rt.alloc()), Ok(0));
@@ -127,7 +136,7 @@ fn a_settling_runs_all_that_is_due(rt: HostRuntime) -> Result<(), Fail> {
 
 #[test]
 fn a_refused_activation_leaves_the_mark(rt: HostRuntime) -> Result<(), Fail> {
-    let mut platform = started(rt, LIMITS, "activate").ok().ok_or("two bundles")?;
+    let mut platform = numbered(rt, LIMITS, "activate").ok().ok_or("two bundles")?;
     // Two Creates, an Activate, a Bind, the refused Activate, an Unbind, a Destroy.
     assert_eq!(rt; platform.settle(rt.alloc()), Ok(7));
     assert_eq!(rt; states(rt, &platform)?.as_slice(), [16u8, 8].as_slice());
@@ -140,7 +149,7 @@ fn a_settling_stops_at_its_limit(rt: HostRuntime) -> Result<(), Fail> {
         journal: 4_194_304,
         turns: 2,
     };
-    let mut platform = started(rt, limits, "").ok().ok_or("two bundles")?;
+    let mut platform = numbered(rt, limits, "").ok().ok_or("two bundles")?;
     assert_eq!(rt; platform.settle(rt.alloc()), Err(SettleFault::Unsettled));
     assert_eq!(rt; platform.settle(rt.alloc()), Err(SettleFault::Unsettled));
     assert_eq!(rt; platform.settle(rt.alloc()), Ok(1));
@@ -150,8 +159,10 @@ fn a_settling_stops_at_its_limit(rt: HostRuntime) -> Result<(), Fail> {
 #[test]
 fn turns_run_one_by_one(rt: HostRuntime) -> Result<(), Fail> {
     let alloc = rt.alloc();
-    let mut platform = started(rt, LIMITS, "activate").ok().ok_or("two bundles")?;
+    let mut platform = numbered(rt, LIMITS, "activate").ok().ok_or("two bundles")?;
     assert_eq!(rt; platform.finish(alloc, 1), Err(FinishFault::NoTurn));
+    let printed = format!(in alloc; "{}", FinishFault::NoTurn)?;
+    assert_eq!(rt; printed.as_str(), "no such turn is under way");
     assert_eq!(rt; platform.begin(alloc), Ok(Some(1)));
     assert_eq!(rt; platform.begin(alloc), Ok(Some(2)));
     assert_eq!(rt; platform.begin(alloc), Ok(None));

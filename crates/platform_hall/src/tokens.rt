@@ -1,7 +1,7 @@
 //! What a desk keeps: the tokens of turns, and the objects of instances.
 ghost use Rattle.platform_hall.specs.Desks.{tokens_of};
 ghost use Rattle.scr_core.specs.Room.{one_if};
-ghost use Rattle.std.specs.Prelude.{◌≡◌, ◌==◌, ◌<◌, ◌+◌, ◌&&◌, ◌||◌, ℕ, not, is_some, vec_len, vec_capacity, filter, length, slice_index};
+ghost use Rattle.std.specs.Prelude.{◌≡◌, ◌==◌, ◌<◌, ◌+◌, ◌&&◌, ◌||◌, ℕ, not, is_some, MatchOption, vec_len, vec_capacity, filter, length, slice_index};
 ghost use Rattle.turn_runner.specs.Desktops.{is_holder};
 ghost use Rattle.turn_runner.specs.Outcomes.{is_destroy};
 
@@ -35,9 +35,10 @@ pub(crate) fn take_out(turns: &mut Vec<Turn>, number: u64) -> Turn
     turns.swap_remove(place)
 }
 
-// The object of an instance.
+// What holds the object of an instance.
 pub(crate) fn held_object<O>(held: &[Held<O>], instance: u64) -> Option<&Held<O>>
-    ensures { is_some result ≡ is_holder held.now instance }
+    ensures some { is_some result ≡ is_holder held.now instance }
+    ensures own { MatchOption result (Unit {0}) (λ one. one.now.instance ≡ instance) }
 {
     for one in held {
         if one.instance == instance {
