@@ -28,7 +28,7 @@ use Rattle.turn_runner.specs.declared.settle_fault.SettleFault.{SettleFault}
 use Rattle.turn_runner.specs.declared.settle_fault.SettleFault.TheVariants.{Unsettled, JournalFull, OutOfMemory}
 use Rattle.turn_runner.specs.declared.turn_work.TurnWork.{TurnWork}
 use Rattle.turn_runner.specs.Turns.{Ends as EndsTurn, IsCutOff, Settles as SettlesBy, Turns}
-use Rattle.platform_hall.specs.Platforms.{Accepts, Begins, Drained, Ends, Posts, Settles, TakesCommand, world}
+use Rattle.platform_hall.specs.Platforms.{Accepts, Begins, Drained, Ends, Posts, Settles, TakesCommand, has_drain, world}
 use Rattle.platform_shell.specs.Asks.{changed}
 use Rattle.platform_shell.specs.Runs.{Grew, command_in, commands_in}
 
@@ -156,12 +156,12 @@ grew_turn : (before after : CoreView) (work : TurnWork) (outcome : Outcome) → 
 grew_turn before after work outcome (begun, over, begins, ends, posts) =
     grew_behind before begun after [] (grew_begins before begun work begins) (grew_behind begun over after [] (grew_ends begun over work.number outcome ends) (grew_posts over after posts))
 
-grew_turns : (refuses : List ℕ → List Property → Told → Bool) (count : ℕ) (before after : CoreView) → Turns Begins Ends Posts refuses count before after → Grew before after []
+grew_turns : (refuses : List ℕ → List Property → Told → Bool) (count : ℕ) (before after : CoreView) → Turns has_drain Begins Ends Posts refuses count before after → Grew before after []
 grew_turns refuses zero before after same = grew_not before after (sym same)
-grew_turns refuses (suc count) before after (between, turns, (work, turn)) = grew_behind before between after [] (grew_turns refuses count before between turns) (grew_turn between after work _ turn)
+grew_turns refuses (suc count) before after (between, turns, (work, turn, drain)) = grew_behind before between after [] (grew_turns refuses count before between turns) (grew_turn between after work _ turn)
 
-grew_settles : (refuses : List ℕ → List Property → Told → Bool) (count : ℕ) (before after : CoreView) → SettlesBy Begins Ends Posts refuses count before after → Grew before after []
-grew_settles refuses count before after (start, posts, turns) = grew_behind before start after [] (grew_posts before start posts) (grew_turns refuses count start after turns)
+grew_settles : (refuses : List ℕ → List Property → Told → Bool) (count : ℕ) (before after : CoreView) → SettlesBy has_drain Begins Ends Posts refuses count before after → Grew before after []
+grew_settles refuses count before after (start, posts, drain, turns) = grew_behind before start after [] (grew_posts before start posts) (grew_turns refuses count start after turns)
 
 grew_cut_off : (refuses : List ℕ → List Property → Told → Bool) (before after : CoreView) → IsCutOff Begins Ends Posts refuses before after → Grew before after []
 grew_cut_off refuses before after (inl (work, begins)) = grew_begins before after work begins
@@ -170,8 +170,9 @@ grew_cut_off refuses before after (inr (work, outcome, is, ends)) = grew_turn be
 -- a settling, however it ends
 pub grew_settled : (refuses : List ℕ → List Property → Told → Bool) (turns : ℕ) (before after : CoreView) (said : Result ℕ SettleFault) → Settles refuses turns before said after → Grew before after []
 grew_settled refuses turns before after (Ok count) (within, settles, due, drain) = grew_settles refuses count before after settles
-grew_settled refuses turns before after (Err Unsettled) (settles, due) = grew_settles refuses turns before after settles
-grew_settled refuses turns before after (Err JournalFull) (count, below, settles, due, room) = grew_settles refuses count before after settles
-grew_settled refuses turns before after (Err OutOfMemory) (inl (count, within, settles)) = grew_settles refuses count before after settles
-grew_settled refuses turns before after (Err OutOfMemory) (inr (count, between, below, settles, cut)) =
+grew_settled refuses turns before after (Err Unsettled) (settles, due, drain) = grew_settles refuses turns before after settles
+grew_settled refuses turns before after (Err JournalFull) (count, below, settles, due, room, drain) = grew_settles refuses count before after settles
+grew_settled refuses turns before after (Err OutOfMemory) (inl posts) = grew_posts before after posts
+grew_settled refuses turns before after (Err OutOfMemory) (inr (inl (count, within, settles))) = grew_settles refuses count before after settles
+grew_settled refuses turns before after (Err OutOfMemory) (inr (inr (count, between, below, settles, cut))) =
     grew_behind before between after [] (grew_settles refuses count before between settles) (grew_cut_off refuses between after cut)

@@ -24,7 +24,7 @@ use Rattle.platform_shell.specs.declared.status.Status.TheVariants.{Done, Usage,
 use Rattle.platform_shell.specs.Asks.{Asks, AsksBegin, AsksFinish, IsAnswer, Manually, Setting, changed, commands_of}
 use Rattle.platform_shell.specs.Cuts.{Cuts, CutsAsked, CutsBegin, CutsCommand, CutsFinish, CutsFirst, Stays}
 use Rattle.platform_shell.specs.Rests.{Rests, RestsBy}
-use Rattle.platform_shell.specs.Runs.{Grew, Ran, RunsLine, Stops}
+use Rattle.platform_shell.specs.Runs.{Grew, LacksMemory, Ran, RunsFirst, RunsLine, Stops}
 use Rattle.platform_shell.proofs.Growth.{grew_accepts, grew_begins, grew_ends, grew_not, grew_posts, grew_same, grew_settled, grew_takes, grew_trans}
 
 grew_finishes : (refuses : List ℕ → List Property → Told → Bool) (before after : CoreView) (turn : ℕ) (outcome : Outcome) → Finishes refuses before turn outcome after → Grew before after []
@@ -130,18 +130,27 @@ grew_ran s first (line ∷ lines) before after commands replies (between, told, 
 grew_stays : (before after : CoreView) (commands : List Command) → Stays before after commands → Grew before after commands
 grew_stays before after commands (same, none) = grew_none before after commands none (grew_not before after same)
 
-grew_cuts_first : (s : Setting) (unread : List (List ℕ)) (fault : SettleFault) (before after : CoreView) (commands : List Command) → CutsFirst s unread fault before after commands → Grew before after commands
+grew_cuts_first : (s : Setting) (others : List (List ℕ)) (fault : SettleFault) (before after : CoreView) (commands : List Command) → CutsFirst s others fault before after commands → Grew before after commands
 grew_cuts_first s [] fault before after commands cut = absurd cut
 grew_cuts_first s (line ∷ lines) fault before after commands cut = grew_cuts s (shell_line line) fault before after commands cut
 
+grew_runs_first : (s : Setting) (first : CoreView) (others : List (List ℕ)) (before after : CoreView) (reply : ShellReply) (commands : List Command) → RunsFirst s first others before reply after commands → Grew before after commands
+grew_runs_first s first [] before after reply commands runs = absurd runs
+grew_runs_first s first (line ∷ lines) before after reply commands (runs, is) =
+    grew_same before after (commands_of before (shell_line line)) commands (sym is) (grew_line s first (shell_line line) before after (Some reply) runs)
+
+grew_lacks : (s : Setting) (first : CoreView) (others : List (List ℕ)) (before after : CoreView) (commands : List Command) → LacksMemory s first others before after commands → Grew before after commands
+grew_lacks s first others before after commands (inl stays) = grew_stays before after commands stays
+grew_lacks s first others before after commands (inr (inl cut)) = grew_cuts_first s others OutOfMemory before after commands cut
+grew_lacks s first others before after commands (inr (inr (reply, runs))) = grew_runs_first s first others before after reply commands runs
+
 -- how a run ended
-pub grew_stops : (s : Setting) (status : Status) (before after : CoreView) (unread : List (List ℕ)) (commands : List Command) → Stops s status before after unread commands → Grew before after commands
-grew_stops s Done before after unread commands stops = grew_stays before after commands stops
-grew_stops s (Usage at) before after unread commands stops = absurd stops
-grew_stops s ReadFault before after unread commands stops = grew_stays before after commands stops
-grew_stops s WriteFault before after unread commands stops = grew_stays before after commands stops
-grew_stops s Short before after unread commands (inl stays) = grew_stays before after commands stays
-grew_stops s Short before after unread commands (inr cut) = grew_cuts_first s unread OutOfMemory before after commands cut
-grew_stops s JournalFull before after unread commands cut = grew_cuts_first s unread NoRoom before after commands cut
-grew_stops s (LineTooLong line) before after unread commands stops = grew_stays before after commands stops
-grew_stops s Unsettled before after unread commands cut = grew_cuts_first s unread StillDue before after commands cut
+pub grew_stops : (s : Setting) (first : CoreView) (status : Status) (before after : CoreView) (others : List (List ℕ)) (commands : List Command) (front : List ℕ) → Stops s first status before after others commands front → Grew before after commands
+grew_stops s first Done before after others commands front (stays, none) = grew_stays before after commands stays
+grew_stops s first (Usage at) before after others commands front stops = absurd stops
+grew_stops s first ReadFault before after others commands front (stays, none) = grew_stays before after commands stays
+grew_stops s first WriteFault before after others commands front (reply, count, runs, below, is) = grew_runs_first s first others before after reply commands runs
+grew_stops s first Short before after others commands front (lacks, none) = grew_lacks s first others before after commands lacks
+grew_stops s first JournalFull before after others commands front (cut, none) = grew_cuts_first s others NoRoom before after commands cut
+grew_stops s first (LineTooLong line) before after others commands front (stays, none) = grew_stays before after commands stays
+grew_stops s first Unsettled before after others commands front (cut, none) = grew_cuts_first s others StillDue before after commands cut

@@ -1,9 +1,7 @@
 -- How far a run has come, and how it goes on.
-use Rattle.std.proofs.Common.{◌≡◌, ◌≢◌, ◌<◌, ◌≤◌, ℕ, List, [], ◌∷◌, ◌++◌, ◌+◌, length, take, ap, sym, ◌∙◌, refl, append_assoc, append-nil, true, false, subst, arith, Ok, Err, inr}
+use Rattle.std.proofs.Common.{◌≡◌, ◌<◌, ◌≤◌, ℕ, List, [], ◌∷◌, ◌++◌, length, take, ap, sym, ◌∙◌, refl, append_assoc, append-nil, true, false, subst, arith, Some, None, Ok, Err, inl, inr, is_some}
 use Rattle.std.proofs.lemmas.Bool.Decides.{nat_tests}
 use Rattle.std.proofs.lemmas.Grind.{flat_map-append}
-use Rattle.std.proofs.lemmas.List.{take_all}
-use Rattle.std.proofs.Math.Seq.{take-append-add}
 use Rattle.std.specs.declared.option.Option.{Option}
 use Rattle.std.specs.Io.KnownBytes.{Appends}
 use Rattle.std.proofs.KnownBytes.{Appends-trans, Appends-nil}
@@ -127,13 +125,6 @@ line_of_run {s} {left} {left'} {pending} {first} {now} {written} {written'} {num
       (between, asks, rests, λ auto none. (let good = comes auto (so_far.still auto none) in (good.0, λ at_first. good.1 (plain (so_far.plain at_first))))),
     )
 
-more_texts : (written written' written'' : Option (List ℕ)) (replies more : List ShellReply) (count : ℕ) → Appends written written' (texts replies) → Appends written' written'' (take count (texts more))
-    → Appends written written'' (take (length (texts replies) + count) (texts (replies ++ more)))
-more_texts written written' written'' replies more count before now =
-    let P : List ℕ → Type 0 = λ w. Appends written written'' w in
-    subst P (sym (ap (λ w. take (length (texts replies) + count) w) (flat_map-append reply_text replies more) ∙ take-append-add (texts replies) (texts more) count))
-    (Appends-trans written written' written'' (texts replies) (take count (texts more)) before now)
-
 -- a line ran, and its reply is written
 pub progress_line : {s : Setting} {left left' : Option (List ℕ)} {pending : List ℕ} {first now : CoreView} {written written' : Option (List ℕ)} {number : ℕ} → Progress s left left' pending first now written written' number
     → (left'' : Option (List ℕ)) (pending' : List ℕ) (after : CoreView) (written'' : Option (List ℕ)) (line : List ℕ) (told : Option ShellReply)
@@ -154,113 +145,122 @@ progress_line {s} {left} {left'} {pending} {first} {now} {written} {written'} {n
     }
 
 -- how a run has gone, from its parts
-has_run : (s : Setting) (bytes : List ℕ) (first now after : CoreView) (written written' : Option (List ℕ)) (status : Status) (lines unread : List (List ℕ)) (commands cut : List Command) (replies : List ShellReply) (count : ℕ)
-    → script_lines (lines_of bytes) ≡ lines ++ unread → Ran s first lines first now commands replies → Stops s status now after unread cut → Appends written written' (take count (texts replies))
-    → (status ≢ WriteFault → status ≢ NoMemory → take count (texts replies) ≡ texts replies) → (IsEnding status → (status ≡ ending 1 (lines_of bytes)) × (unread ≡ [])) → HasRun s bytes first after written written' status
-has_run s bytes first now after written written' status lines unread commands cut replies count all ran stops wrote whole ended = record {
+has_run : (s : Setting) (bytes : List ℕ) (first now after : CoreView) (written written' : Option (List ℕ)) (status : Status) (lines others : List (List ℕ)) (commands later : List Command) (replies : List ShellReply) (front : List ℕ)
+    → script_lines (lines_of bytes) ≡ lines ++ others → Ran s first lines first now commands replies → Stops s first status now after others later front → Appends written written' (texts replies ++ front)
+    → (IsEnding status → (status ≡ ending 1 (lines_of bytes)) × (others ≡ [])) → HasRun s bytes first after written written' status
+has_run s bytes first now after written written' status lines others commands later replies front all ran stops wrote ended = record {
   lines = lines;
-  unread = unread;
+  others = others;
   between = now;
   commands = commands;
-  cut = cut;
+  later = later;
   replies = replies;
-  count = count;
+  front = front;
   first = all;
   ran = ran;
   stops = stops;
-  grew = grew_trans first now after commands cut (grew_ran s first lines first now commands replies ran) (grew_stops s status now after unread cut stops);
+  grew = grew_trans first now after commands later (grew_ran s first lines first now commands replies ran) (grew_stops s first status now after others later front stops);
   wrote = wrote;
-  whole = whole;
   ended = ended;
 }
 
-all_written : (written written' : Option (List ℕ)) (text : List ℕ) → Appends written written' text → Appends written written' (take (length text) text)
-all_written written written' text wrote = let P : List ℕ → Type 0 = λ w. Appends written written' w in subst P (sym (take_all (length text) text (omega arith))) wrote
-
-whole_text : (text : List ℕ) → take (length text) text ≡ text
-whole_text text = take_all (length text) text (omega arith)
+-- all replies are written, and nothing more
+just_written : (written written' : Option (List ℕ)) (text : List ℕ) → Appends written written' text → Appends written written' (text ++ [])
+just_written written written' text wrote = let P : List ℕ → Type 0 = λ w. Appends written written' w in subst P (sym (append-nil text)) wrote
 
 -- the run stops between two lines
 pub run_stops : {s : Setting} {left left' : Option (List ℕ)} {pending : List ℕ} {first now : CoreView} {written written' : Option (List ℕ)} {number : ℕ} → Progress s left left' pending first now written written' number
-    → (status : Status) → (IsEnding status → ⊥) → ((unread : List (List ℕ)) → Stops s status now now unread []) → HasRunOver s left first now written written' status
+    → (status : Status) → (IsEnding status → ⊥) → ((others : List (List ℕ)) → Stops s first status now now others [] []) → HasRunOver s left first now written written' status
 run_stops {s} {left} {left'} {pending} {first} {now} {written} {written'} {number} so_far status other stops =
     let more = some_told left' in
     let all = so_far.reads more.0 more.1 in
-    let unread = script_lines (lines_of (pending ++ more.0)) in (
+    let others = script_lines (lines_of (pending ++ more.0)) in (
       all.0,
       all.1,
-      has_run s all.0 first now now written written' status so_far.lines unread so_far.commands [] so_far.replies (length (texts so_far.replies)) all.2 so_far.ran (stops unread)
-          (all_written written written' (texts so_far.replies) so_far.wrote) (λ sink memory. whole_text (texts so_far.replies)) (λ e. absurd (other e)),
+      has_run s all.0 first now now written written' status so_far.lines others so_far.commands [] so_far.replies [] all.2 so_far.ran (stops others)
+          (just_written written written' (texts so_far.replies) so_far.wrote) (λ e. absurd (other e)),
     )
 
--- a line ran, and a front of its reply is written
-pub run_stops_in_line : {s : Setting} {left left' : Option (List ℕ)} {pending : List ℕ} {first now : CoreView} {written written' : Option (List ℕ)} {number : ℕ} → Progress s left left' pending first now written written' number
-    → (left'' : Option (List ℕ)) (pending' : List ℕ) (after : CoreView) (written'' : Option (List ℕ)) (line : List ℕ) (told : Option ShellReply) (status : Status) (count : ℕ)
-    → (IsEnding status → ⊥) → (status ≢ WriteFault → status ≢ NoMemory → ⊥) → ((unread : List (List ℕ)) → Stops s status after after unread [])
-    → NextLine left' left'' pending pending' (OfLine line) → is_quit (shell_line line) ≡ false → RunsAsked s (shell_line line) now (Ok told) after
-    → Appends written' written'' (take count (texts (as_list told))) → HasRunOver s left first after written written'' status
-run_stops_in_line {s} {left} {left'} {pending} {first} {now} {written} {written'} {number} so_far left'' pending' after written'' line told status count other cut stops next not_quit runs wrote =
+-- the run stops in a line, of which something became by these commands, and a front of its reply's text is written
+run_stops_in_line : {s : Setting} {left left' : Option (List ℕ)} {pending : List ℕ} {first now : CoreView} {written written' : Option (List ℕ)} {number : ℕ} → Progress s left left' pending first now written written' number
+    → (left'' : Option (List ℕ)) (pending' : List ℕ) (after : CoreView) (written'' : Option (List ℕ)) (line : List ℕ) (status : Status) (later : List Command) (front : List ℕ)
+    → (IsEnding status → ⊥) → ((others : List (List ℕ)) → Stops s first status now after (line ∷ others) later front) → NextLine left' left'' pending pending' (OfLine line) → is_quit (shell_line line) ≡ false
+    → Appends written' written'' front → HasRunOver s left first after written written'' status
+run_stops_in_line {s} {left} {left'} {pending} {first} {now} {written} {written'} {number} so_far left'' pending' after written'' line status later front other stops (size, short, next) not_quit wrote =
     let more = some_told left'' in
-    let run = line_of_run so_far line told after runs in
-    let lines = so_far.lines ++ line ∷ [] in
-    let all = goes_on left left' left'' pending pending' so_far.lines number line so_far.reads next not_quit more.0 more.1 in
-    let unread = script_lines (lines_of (pending' ++ more.0)) in (
+    let here = next more.0 more.1 in
+    let all = so_far.reads here.0 here.1 in
+    let rest = lines_of (pending' ++ more.0) in
+    let step = script_line number (lines_of (pending ++ here.0)) rest (record { text = line; size = size }) here.2 short not_quit in (
       all.0,
       all.1,
-      has_run s all.0 first after after written written'' status lines unread (so_far.commands ++ commands_of now (shell_line line)) [] (so_far.replies ++ as_list told) (length (texts so_far.replies) + count) all.2
-          (Ran_snoc s first so_far.lines line first now after so_far.commands so_far.replies told so_far.ran run.1) (stops unread)
-          (more_texts written written' written'' so_far.replies (as_list told) count so_far.wrote wrote) (λ sink memory. absurd (cut sink memory)) (λ e. absurd (other e)),
+      has_run s all.0 first now after written written'' status so_far.lines (line ∷ script_lines rest) so_far.commands later so_far.replies front
+          (all.2 ∙ ap (λ w. so_far.lines ++ w) step.0) so_far.ran (stops (script_lines rest))
+          (Appends-trans written written' written'' (texts so_far.replies) front so_far.wrote wrote) (λ e. absurd (other e)),
     )
+
+-- a line ran, and only a front of its reply's text is written
+pub run_writes_front : {s : Setting} {left left' : Option (List ℕ)} {pending : List ℕ} {first now : CoreView} {written written' : Option (List ℕ)} {number : ℕ} → Progress s left left' pending first now written written' number
+    → (left'' : Option (List ℕ)) (pending' : List ℕ) (after : CoreView) (written'' : Option (List ℕ)) (line : List ℕ) (told : Option ShellReply) (text : List ℕ) (count : ℕ)
+    → NextLine left' left'' pending pending' (OfLine line) → is_quit (shell_line line) ≡ false → RunsAsked s (shell_line line) now (Ok told) after
+    → text ≡ texts (as_list told) → count < length text → Appends written' written'' (take count text) → HasRunOver s left first after written written'' WriteFault
+run_writes_front {s} {left} {left'} {pending} {first} {now} {written} {written'} {number} so_far left'' pending' after written'' line None text count next other runs is below wrote = absurd (omega (arith, below, ap length is))
+run_writes_front {s} {left} {left'} {pending} {first} {now} {written} {written'} {number} so_far left'' pending' after written'' line (Some reply) text count next other runs is below wrote =
+    let run = line_of_run so_far line (Some reply) after runs in
+    let same : text ≡ reply_text reply = is ∙ append-nil (reply_text reply) in
+    run_stops_in_line so_far left'' pending' after written'' line WriteFault (commands_of now (shell_line line)) (take count text) (λ e. e)
+    (λ others. (reply, count, (run.1, refl), omega (arith, below, ap length same), ap (take count) same)) next other wrote
+
+-- a line ran, and memory is wanting for its reply's text
+pub run_lacks_memory : {s : Setting} {left left' : Option (List ℕ)} {pending : List ℕ} {first now : CoreView} {written written' : Option (List ℕ)} {number : ℕ} → Progress s left left' pending first now written written' number
+    → (left'' : Option (List ℕ)) (pending' : List ℕ) (after : CoreView) (line : List ℕ) (told : Option ShellReply)
+    → NextLine left' left'' pending pending' (OfLine line) → is_quit (shell_line line) ≡ false → RunsAsked s (shell_line line) now (Ok told) after
+    → is_some told ≡ true → HasRunOver s left first after written written' NoMemory
+run_lacks_memory {s} {left} {left'} {pending} {first} {now} {written} {written'} {number} so_far left'' pending' after line None next other runs some = absurd cc
+run_lacks_memory {s} {left} {left'} {pending} {first} {now} {written} {written'} {number} so_far left'' pending' after line (Some reply) next other runs some =
+    let run = line_of_run so_far line (Some reply) after runs in
+    run_stops_in_line so_far left'' pending' after written' line NoMemory (commands_of now (shell_line line)) [] (λ e. e) (λ others. (inr (inr (reply, (run.1, refl))), refl)) next other (Appends-nil written')
 
 no_ending : (fault : SettleFault) → IsEnding (status_of fault) → ⊥
 no_ending StillDue ends = ends
 no_ending NoRoom ends = ends
 no_ending OutOfMemory ends = ends
 
-cut_stops : (s : Setting) (fault : SettleFault) (now after : CoreView) (line : List ℕ) (unread : List (List ℕ)) (cut : List Command) → Cuts s (shell_line line) fault now after cut → Stops s (status_of fault) now after (line ∷ unread) cut
-cut_stops s StillDue now after line unread cut cuts = cuts
-cut_stops s NoRoom now after line unread cut cuts = cuts
-cut_stops s OutOfMemory now after line unread cut cuts = inr cuts
+cut_stops : (s : Setting) (first : CoreView) (fault : SettleFault) (now after : CoreView) (line : List ℕ) (others : List (List ℕ)) (cut : List Command) → Cuts s (shell_line line) fault now after cut
+    → Stops s first (status_of fault) now after (line ∷ others) cut []
+cut_stops s first StillDue now after line others cut cuts = (cuts, refl)
+cut_stops s first NoRoom now after line others cut cuts = (cuts, refl)
+cut_stops s first OutOfMemory now after line others cut cuts = (inr (inl cuts), refl)
 
 -- a line is cut off
 pub run_cuts : {s : Setting} {left left' : Option (List ℕ)} {pending : List ℕ} {first now : CoreView} {written written' : Option (List ℕ)} {number : ℕ} → Progress s left left' pending first now written written' number
     → (left'' : Option (List ℕ)) (pending' : List ℕ) (after : CoreView) (line : List ℕ) (fault : SettleFault)
     → NextLine left' left'' pending pending' (OfLine line) → is_quit (shell_line line) ≡ false → RunsAsked s (shell_line line) now (Err fault) after → HasRunOver s left first after written written' (status_of fault)
-run_cuts {s} {left} {left'} {pending} {first} {now} {written} {written'} {number} so_far left'' pending' after line fault (size, short, next) other (cut, cuts) =
-    let more = some_told left'' in
-    let here = next more.0 more.1 in
-    let all = so_far.reads here.0 here.1 in
-    let rest = lines_of (pending' ++ more.0) in
-    let step = script_line number (lines_of (pending ++ here.0)) rest (record { text = line; size = size }) here.2 short other in (
-      all.0,
-      all.1,
-      has_run s all.0 first now after written written' (status_of fault) so_far.lines (line ∷ script_lines rest) so_far.commands cut so_far.replies (length (texts so_far.replies))
-          (all.2 ∙ ap (λ w. so_far.lines ++ w) step.0) so_far.ran (cut_stops s fault now after line (script_lines rest) cut cuts)
-          (all_written written written' (texts so_far.replies) so_far.wrote) (λ sink memory. whole_text (texts so_far.replies)) (λ e. absurd (no_ending fault e)),
-    )
+run_cuts {s} {left} {left'} {pending} {first} {now} {written} {written'} {number} so_far left'' pending' after line fault next other (cut, cuts) =
+    run_stops_in_line so_far left'' pending' after written' line (status_of fault) cut [] (no_ending fault) (λ others. cut_stops s first fault now after line others cut cuts) next other (Appends-nil written')
 
 -- the run comes to the end of the script
 run_ends : {s : Setting} {left left' : Option (List ℕ)} {pending : List ℕ} {first now : CoreView} {written written' : Option (List ℕ)} {number : ℕ} → Progress s left left' pending first now written written' number
-    → (status : Status) (more : List ℕ) → Stops s status now now [] [] → Tells left' more → (script_lines (lines_of (pending ++ more)) ≡ []) × (ending number (lines_of (pending ++ more)) ≡ status) → HasRunOver s left first now written written' status
+    → (status : Status) (more : List ℕ) → Stops s first status now now [] [] [] → Tells left' more → (script_lines (lines_of (pending ++ more)) ≡ []) × (ending number (lines_of (pending ++ more)) ≡ status) → HasRunOver s left first now written written' status
 run_ends {s} {left} {left'} {pending} {first} {now} {written} {written'} {number} so_far status more stops told (ends, is) =
     let all = so_far.reads more told in (
       all.0,
       all.1,
-      has_run s all.0 first now now written written' status so_far.lines [] so_far.commands [] so_far.replies (length (texts so_far.replies))
-          (all.2 ∙ ap (λ w. so_far.lines ++ w) ends) so_far.ran stops (all_written written written' (texts so_far.replies) so_far.wrote) (λ sink memory. whole_text (texts so_far.replies)) (λ e. (sym (all.3 ∙ is), refl)),
+      has_run s all.0 first now now written written' status so_far.lines [] so_far.commands [] so_far.replies []
+          (all.2 ∙ ap (λ w. so_far.lines ++ w) ends) so_far.ran stops (just_written written written' (texts so_far.replies) so_far.wrote) (λ e. (sym (all.3 ∙ is), refl)),
     )
 
 -- at a line that is too long
 pub run_ends_long : {s : Setting} {left left' : Option (List ℕ)} {pending : List ℕ} {first now : CoreView} {written written' : Option (List ℕ)} {number : ℕ} → Progress s left left' pending first now written written' number
     → (left'' : Option (List ℕ)) (pending' : List ℕ) → NextLine left' left'' pending pending' TooLong → HasRunOver s left first now written written' (LineTooLong number)
 run_ends_long {s} {left} {left'} {pending} {first} {now} {written} {written'} {number} so_far left'' pending' (more, line, lines, told, long, is) =
-    run_ends so_far (LineTooLong number) more (refl, refl) told (script_long number (lines_of (pending ++ more)) lines line is long)
+    run_ends so_far (LineTooLong number) more ((refl, refl), refl) told (script_long number (lines_of (pending ++ more)) lines line is long)
 
 -- behind the last line
 pub run_ends_here : {s : Setting} {left left' : Option (List ℕ)} {pending : List ℕ} {first now : CoreView} {written written' : Option (List ℕ)} {number : ℕ} → Progress s left left' pending first now written written' number
     → (left'' : Option (List ℕ)) (pending' : List ℕ) → NextLine left' left'' pending pending' End → HasRunOver s left first now written written' Done
 run_ends_here {s} {left} {left'} {pending} {first} {now} {written} {written'} {number} so_far left'' pending' (more, told, none) =
-    run_ends so_far Done more (refl, refl) told (ap script_lines none, ap (ending number) none)
+    run_ends so_far Done more ((refl, refl), refl) told (ap script_lines none, ap (ending number) none)
 
 -- at `quit`
 pub run_quits : {s : Setting} {left left' : Option (List ℕ)} {pending : List ℕ} {first now : CoreView} {written written' : Option (List ℕ)} {number : ℕ} → Progress s left left' pending first now written written' number
@@ -268,4 +268,4 @@ pub run_quits : {s : Setting} {left left' : Option (List ℕ)} {pending : List �
 run_quits {s} {left} {left'} {pending} {first} {now} {written} {written'} {number} so_far left'' pending' line (size, short, next) quits =
     let more = some_told left'' in
     let here = next more.0 more.1 in
-    run_ends so_far Done here.0 (refl, refl) here.1 (script_quit number (lines_of (pending ++ here.0)) (lines_of (pending' ++ more.0)) (record { text = line; size = size }) here.2 short quits)
+    run_ends so_far Done here.0 ((refl, refl), refl) here.1 (script_quit number (lines_of (pending ++ here.0)) (lines_of (pending' ++ more.0)) (record { text = line; size = size }) here.2 short quits)

@@ -28,7 +28,6 @@ use Rattle.shell_lang.specs.declared.shell_line.ShellLine.TheVariants.{Silent, Q
 use Rattle.shell_lang.specs.declared.shell_reply.ShellReply.{ShellReply}
 use Rattle.shell_lang.specs.ShellLines.{Asked}
 use Rattle.platform_shell.specs.Asks.{Asks, AsksBegin, AsksFinish, IsAnswer, Manually, Setting}
-use Rattle.platform_shell.specs.Rests.{TurnsEnd}
 use Rattle.platform_shell.proofs.Growth.{history_more}
 
 -- a callback of these instances is outstanding
@@ -87,6 +86,11 @@ manually_still : (manual : Bool) (asks : CoreView → ShellReply → CoreView �
     → none_under_way before ≡ true → none_under_way after ≡ true
 manually_still true asks before after said auto asked none = absurd cc
 manually_still false asks before after said auto (is, same) none = same_still before after same none
+
+-- a settling leaves no turn under way where none was
+abbrev pub TurnsEnd : Type 0
+TurnsEnd = (refuses : List ℕ → List Property → Told → Bool) → (turns count : ℕ) → (before after : CoreView) → IsLegal before.limits.journal (history_of before.journal) → none_under_way before ≡ true
+    → Settles refuses turns before (Ok count) after → none_under_way after ≡ true
 
 -- where turns run behind each line, no line leaves a turn under way
 pub asks_still : TurnsEnd → (s : Setting) (asked : Asked) (before after : CoreView) (told : Option ShellReply) → s.is_manual ≡ false → IsLegal before.limits.journal (history_of before.journal)

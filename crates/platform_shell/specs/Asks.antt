@@ -10,13 +10,12 @@ use Rattle.scr_core.specs.declared.command.CoreFault.TheVariants.{JournalFull, O
 use Rattle.scr_core.specs.declared.command.Reply.{Reply}
 use Rattle.scr_core.specs.declared.command.Reply.TheVariants.{Done as InCore, Bundle as OfBundle}
 use Rattle.scr_core.specs.declared.held_rows.HeldLine.{HeldLine}
-use Rattle.scr_core.specs.declared.turn_lines.TurnLine.{TurnLine}
 use Rattle.scr_core.specs.Cores.{CoreView}
 use Rattle.scr_core.specs.HeldRows.{TellsHeld}
 use Rattle.scr_core.specs.Readers.{component_lines}
 use Rattle.scr_core.specs.Replies.{changes}
 use Rattle.scr_core.specs.Steps.{history_of}
-use Rattle.scr_core.specs.TurnLines.{turns_above}
+use Rattle.scr_core.specs.TurnLines.{line_for, turns_above}
 use Rattle.turn_runner.specs.declared.turn_work.TurnWork.{TurnWork}
 use Rattle.platform_hall.specs.declared.finish_fault.FinishFault.{FinishFault}
 use Rattle.platform_hall.specs.declared.finish_fault.FinishFault.TheVariants.{NoTurn as NoSuchTurn, OutOfMemory as NoMemoryLeft}
@@ -59,10 +58,6 @@ abbrev pub held_reply : Result (List HeldLine) CoreFault → ShellReply
 held_reply (Ok rows) = Held rows
 held_reply (Err fault) = Refused (OfCore fault)
 
--- a turn that has begun
-abbrev pub begun_line : TurnWork → TurnLine
-begun_line work = record { turn = work.number; callback = work.callback; instance = work.instance; name = work.name; outcome = None }
-
 -- a command's answer is told
 abbrev pub AsksCommand : Command → CoreView → ShellReply → CoreView → Type 0
 AsksCommand command before reply after = (answer : Result Reply CoreFault) × TakesCommand before command answer after × IsAnswer answer × (reply ≡ command_reply answer)
@@ -79,7 +74,7 @@ AsksSettle refuses before reply after = (count : ℕ) × Settles refuses before.
 -- the turn of this number, which is under way now, is told
 abbrev pub TellsBegun : CoreView → Option ℕ → ShellReply → Type 0
 TellsBegun after None reply = reply ≡ Idle
-TellsBegun after (Some turn) reply = (work : TurnWork) × (running after turn ≡ Some work) × (reply ≡ Begun (begun_line work))
+TellsBegun after (Some turn) reply = (work : TurnWork) × (running after turn ≡ Some work) × (reply ≡ Begun (line_for work))
 
 -- the first due turn begins and is told
 abbrev pub AsksBegin : CoreView → ShellReply → CoreView → Type 0

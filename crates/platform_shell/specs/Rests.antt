@@ -1,11 +1,7 @@
 -- A platform at rest behind a line. Our own form.
-use Rattle.std.specs.Prelude.{◌≡◌, ℕ, List, Bool, true, false, Ok}
-use Rattle.kind_trait.specs.Meanings.{Told}
-use Rattle.prop_map.specs.declared.properties.Property.{Property}
+use Rattle.std.specs.Prelude.{◌≡◌, ℕ, Bool, true, false, Ok}
 use Rattle.scr_core.specs.Cores.{CoreView}
-use Rattle.scr_core.specs.Legal.{IsLegal}
 use Rattle.scr_core.specs.Quiet.{IsQuiet, IsRight, are_plain}
-use Rattle.scr_core.specs.Steps.{history_of}
 use Rattle.platform_hall.specs.Platforms.{Settles, none_under_way, world}
 use Rattle.platform_shell.specs.Asks.{Setting}
 
@@ -20,8 +16,3 @@ Rests s between after = RestsBy s.is_manual s between after
 -- where turns run behind each line, and none was under way when the run began, the platform is quiet, and right where it was plain then
 abbrev pub IsAtRest : Setting → CoreView → CoreView → Type 0
 IsAtRest s first after = s.is_manual ≡ false → none_under_way first ≡ true → IsQuiet (world after) × (are_plain (world first) ≡ true → IsRight (world after))
-
--- a settling leaves no turn under way where none was
-abbrev pub TurnsEnd : Type 0
-TurnsEnd = (refuses : List ℕ → List Property → Told → Bool) → (turns count : ℕ) → (before after : CoreView) → IsLegal before.limits.journal (history_of before.journal) → none_under_way before ≡ true
-    → Settles refuses turns before (Ok count) after → none_under_way after ≡ true

@@ -1,6 +1,6 @@
 //! What a line asks, carried out.
 ghost use Rattle.std.specs.Prelude.{◌≡◌};
-ghost use Rattle.platform_shell.specs.Asks.{begun_line};
+ghost use Rattle.scr_core.specs.TurnLines.{line_for};
 ghost use Rattle.platform_shell.specs.Carries.{CarriesBegin, CarriesCommand, CarriesFinish, CarriesHeld, CarriesOut, TellsRefusal};
 
 use callback_orders::Outcome;
@@ -101,7 +101,7 @@ fn begin<K: Kinds + Drop>(
 
 // A turn that has begun.
 fn begun_line(work: TurnWork) -> TurnLine
-    ensures { result ≡ begun_line work }
+    ensures { result ≡ line_for work }
 {
     let TurnWork {
         number,

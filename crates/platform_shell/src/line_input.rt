@@ -1,5 +1,5 @@
 //! The next line of an input that comes in pieces.
-ghost use Rattle.std.specs.Prelude.{◌≡◌, ◌+◌, ◌<◌, ◌≤◌, [], ◌∷◌, ◌++◌, drop, length, List, ℕ, take, vec_len, MatchOption};
+ghost use Rattle.std.specs.Prelude.{◌≡◌, ◌+◌, ◌<◌, ◌≤◌, [], ◌∷◌, ◌++◌, drop, false, length, List, ℕ, take, vec_len, MatchOption};
 ghost use Rattle.std.specs.Str.Lines.{strip_carriage_return};
 ghost use Rattle.fault_count.specs.Steps.{Rose};
 ghost use Rattle.platform_shell.specs.Reading.{coming, FirstLineFeed, Fills, NextLine, IsShorter, NoLineFeed, IsLastLine, TakesLine};
@@ -33,11 +33,28 @@ pub struct ReadAhead {
     pub ended: bool,
 }
 
+impl ReadAhead {
+    /// Nothing was read yet.
+    pub fn new(alloc: Global) -> ReadAhead
+        ensures { (result.bytes.items ≡ []) × (result.ended ≡ false) }
+    {
+        ReadAhead {
+            bytes: Vec::new(alloc),
+            ended: false,
+        }
+    }
+}
+
+/// What reading a piece behind the pending bytes gave.
 #[derive(Clone, Copy, Debug, PartialEq, Eq)]
 pub enum FillStep {
+    /// A piece stands behind them.
     Filled,
+    /// The source is at its end.
     AtEnd,
+    /// The source failed.
     ReadFailed,
+    /// There was no memory for the piece.
     FillNoMemory,
 }
 

@@ -17,7 +17,7 @@ use fault_count::{Sink, Source};
 use kind_trait::Kinds;
 use std::alloc::Global;
 
-/// Runs the lines of the input and writes their replies, each before it waits for the next line.
+/// Runs the lines of the input, and writes the reply of each whole before the next line is run.
 ///
 /// The words `script` and `script --manual` are the forms; other words end the run before anything is read. The lines are run up to
 /// `quit`, to a line that is too long or to the end of the input. In `script` the platform is settled behind each line, also one without
@@ -25,8 +25,9 @@ use std::alloc::Global;
 /// only plain documents were installed. In `script --manual` turns run where a line asks for it alone.
 ///
 /// A line ends the run with `JournalFull` where its command, its turn or a turn of its settling finds no room in the journal, with `Unsettled`
-/// where the settling ran as many turns as the limit says and one is still due, and with `NoMemory`. Its reply isn't written then, and all
-/// replies before it are, but for want of memory. Where neither end fails and none of these comes, the run ends with all
+/// where the settling ran as many turns as the limit says and one is still due, with `NoMemory`, and with `WriteFault` where the sink fails
+/// before it has taken all of the reply's text: it has taken a front of it. Nothing else of that line's reply is written, no further line is
+/// run, and the replies of the lines before it are written whole. Where neither end fails and none of these comes, the run ends with all
 /// replies written: `LineTooLong` where a line before `quit` is too long, else `Done`.
 pub fn run_script<K: Kinds + Drop, In: Source, Out: Sink>(
     alloc: Global,
@@ -68,10 +69,7 @@ fn run_lines<K: Kinds + Drop, In: Source, Out: Sink>(
     ensures run { HasRunOver (record { is_manual = manual; refuses = K.refuses }) (In.left input.old) platform.old platform.new (Out.written output.old) (Out.written output.new) result }
     ensures cause { HasCause result (Ok manual) (Rose (In.fault_count input.old) (In.fault_count input.new)) (Rose (Out.fault_count output.old) (Out.fault_count output.new)) }
 {
-    let mut ahead = ReadAhead {
-        bytes: Vec::new(alloc),
-        ended: false,
-    };
+    let mut ahead = ReadAhead::new(alloc);
     let mut number = 1u64;
     loop {
         let line = match next_line(alloc, &mut ahead, input) {

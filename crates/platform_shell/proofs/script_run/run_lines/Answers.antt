@@ -1,15 +1,14 @@
-use Rattle.std.proofs.Common.{◌≡◌, ◌∙◌, ap, sym, subst, arith, refl, inl, false, Err, Ok, List, ℕ, take}
+use Rattle.std.proofs.Common.{◌≡◌, ◌∙◌, ap, sym, subst, arith, refl, inl, false, Err, Ok, List, ℕ}
 use Rattle.std.specs.declared.option.Option.{Option}
 use Rattle.std.specs.Io.KnownBytes.{Appends}
-use Rattle.std.proofs.KnownBytes.{Appends-nil}
 use Rattle.shell_lang.specs.ShellLines.{Asked, shell_line, is_quit}
 use Rattle.platform_shell.specs.declared.status.Status.{Status}
-use Rattle.platform_shell.specs.declared.status.Status.TheVariants.{NoMemory, ReadFault, WriteFault}
+use Rattle.platform_shell.specs.declared.status.Status.TheVariants.{NoMemory, ReadFault}
 use Rattle.platform_shell.specs.Asks.{Setting}
 use Rattle.platform_shell.specs.Carries.{RunsAsked}
 use Rattle.platform_shell.specs.Reading.{coming}
 use Rattle.platform_shell.specs.Runs.{HasRunOver}
-use Rattle.platform_shell.proofs.Progress.{Progress, progress_line, progress_start, run_cuts, run_ends_here, run_ends_long, run_quits, run_stops, run_stops_in_line}
+use Rattle.platform_shell.proofs.Progress.{progress_line, progress_start, run_cuts, run_ends_here, run_ends_long, run_lacks_memory, run_quits, run_stops, run_writes_front}
 use Rattle.platform_shell.proofs.script_run.run_lines.Goals as goal
 
 pub returns-in-TooLong-clause-run : goal.returns-in-TooLong-clause-run
@@ -21,17 +20,17 @@ returns-in-End-clause-run g c =
     run_ends_here c.loop-line.invariant.progress (coming c.next_line.new.ahead.ended (g.In.Source.left c.next_line.new.input)) c.next_line.new.ahead.bytes.items c.in-End.ensures.step
 
 pub returns-in-Failed-clause-run : goal.returns-in-Failed-clause-run
-returns-in-Failed-clause-run g c = run_stops c.loop-line.invariant.progress ReadFault (λ e. e) (λ unread. (refl, refl))
+returns-in-Failed-clause-run g c = run_stops c.loop-line.invariant.progress ReadFault (λ e. e) (λ others. ((refl, refl), refl))
 
 pub returns-in-NoMemory-clause-run : goal.returns-in-NoMemory-clause-run
-returns-in-NoMemory-clause-run g c = run_stops c.loop-line.invariant.progress NoMemory (λ e. e) (λ unread. inl (refl, refl))
+returns-in-NoMemory-clause-run g c = run_stops c.loop-line.invariant.progress NoMemory (λ e. e) (λ others. (inl (refl, refl), refl))
 
 pub returns-in-Quit-clause-run : goal.returns-in-Quit-clause-run
 returns-in-Quit-clause-run g c =
     run_quits c.loop-line.invariant.progress (coming c.next_line.new.ahead.ended (g.In.Source.left c.next_line.new.input)) c.next_line.new.ahead.bytes.items c.in-Line.line c.in-Line.ensures.step (ap (λ w. is_quit (shell_line w)) (sym c.as_slice.ensures) ∙ c.in-Quit.ensures)
 
 pub returns-in-NoMemory-read_ask-clause-run : goal.returns-in-NoMemory-read_ask-clause-run
-returns-in-NoMemory-read_ask-clause-run g c = run_stops c.loop-line.invariant.progress NoMemory (λ e. e) (λ unread. inl (refl, refl))
+returns-in-NoMemory-read_ask-clause-run g c = run_stops c.loop-line.invariant.progress NoMemory (λ e. e) (λ others. (inl (refl, refl), refl))
 
 pub returns-in-Err-clause-run : goal.returns-in-Err-clause-run
 returns-in-Err-clause-run g c =
@@ -48,8 +47,8 @@ returns-in-Err-told_text-clause-run g c =
     let asked : shell_line c.in-Line.line ≡ c.in-Asked.asked = ap shell_line (sym c.as_slice.ensures) ∙ c.in-Asked.ensures.0 in
     let other : is_quit (shell_line c.in-Line.line) ≡ false = ap is_quit asked ∙ c.in-Asked.ensures.1 in
     let R : Asked → Type 0 = λ a. RunsAsked s a c.loop-line.platform (Ok c.in-Ok.told) c.run_line.new.platform in
-    run_stops_in_line c.loop-line.invariant.progress (coming c.next_line.new.ahead.ended (g.In.Source.left c.next_line.new.input)) c.next_line.new.ahead.bytes.items c.run_line.new.platform (g.Out.Sink.written c.loop-line.output) c.in-Line.line c.in-Ok.told NoMemory 0
-    (λ e. e) (λ sink memory. memory refl) (λ unread. inl (refl, refl)) c.in-Line.ensures.step other (subst R (sym asked) c.in-Ok.ensures) (Appends-nil (g.Out.Sink.written c.loop-line.output))
+    run_lacks_memory c.loop-line.invariant.progress (coming c.next_line.new.ahead.ended (g.In.Source.left c.next_line.new.input)) c.next_line.new.ahead.bytes.items c.run_line.new.platform c.in-Line.line c.in-Ok.told
+    c.in-Line.ensures.step other (subst R (sym asked) c.in-Ok.ensures) c.in-Err-told_text.ensures.some
 
 pub returns-then-not-write_all-clause-run : goal.returns-then-not-write_all-clause-run
 returns-then-not-write_all-clause-run g c =
@@ -58,18 +57,16 @@ returns-then-not-write_all-clause-run g c =
     let other : is_quit (shell_line c.in-Line.line) ≡ false = ap is_quit asked ∙ c.in-Asked.ensures.1 in
     let R : Asked → Type 0 = λ a. RunsAsked s a c.loop-line.platform (Ok c.in-Ok.told) c.run_line.new.platform in
     let front = c.if-not-write_all.ensures.front in
-    run_stops_in_line c.loop-line.invariant.progress (coming c.next_line.new.ahead.ended (g.In.Source.left c.next_line.new.input)) c.next_line.new.ahead.bytes.items c.run_line.new.platform (g.Out.Sink.written c.write_all.new.output) c.in-Line.line c.in-Ok.told WriteFault front.0
-    (λ e. e) (λ sink memory. sink refl) (λ unread. (refl, refl)) c.in-Line.ensures.step other (subst R (sym asked) c.in-Ok.ensures)
-    (let W : List ℕ → Type 0 = λ w. Appends (g.Out.Sink.written c.loop-line.output) (g.Out.Sink.written c.write_all.new.output) (take front.0 w) in subst W (c.as_slice-in-loop-line.ensures.value ∙ c.in-Ok-told_text.ensures) front.1)
+    run_writes_front c.loop-line.invariant.progress (coming c.next_line.new.ahead.ended (g.In.Source.left c.next_line.new.input)) c.next_line.new.ahead.bytes.items c.run_line.new.platform (g.Out.Sink.written c.write_all.new.output) c.in-Line.line c.in-Ok.told
+    _ front.0 c.in-Line.ensures.step other (subst R (sym asked) c.in-Ok.ensures) (c.as_slice-in-loop-line.ensures.value ∙ c.in-Ok-told_text.ensures.text) front.1 front.2
 
 pub loop-line-init : goal.loop-line-init
 loop-line-init g c =
     let s : Setting = record { is_manual = c.args.manual; refuses = g.K.Kinds.refuses } in
     let left : Option (List ℕ) = g.In.Source.left c.args.input.now in
     let written : Option (List ℕ) = g.Out.Sink.written c.args.output.now in
-    let P : List ℕ → Type 0 = λ pending. Progress s left left pending c.args.platform.now c.args.platform.now written written 1 in
     record {
-      progress = subst P (sym c.new.ensures.items) (progress_start s left written c.args.platform.now);
+      progress = rw (c.new-ahead.ensures.0, c.new-ahead.ensures.1) (progress_start s left written c.args.platform.now);
       reads_later = omega arith;
       writes_later = omega arith;
     }
@@ -83,7 +80,7 @@ loop-line-preserved g c =
     let W : List ℕ → Type 0 = λ w. Appends (g.Out.Sink.written c.loop-line.output) (g.Out.Sink.written c.write_all.new.output) w in
     record {
       progress = rw c.saturating_add-number.ensures (progress_line c.loop-line.invariant.progress (coming c.next_line.new.ahead.ended (g.In.Source.left c.next_line.new.input)) c.next_line.new.ahead.bytes.items c.run_line.new.platform (g.Out.Sink.written c.write_all.new.output) c.in-Line.line c.in-Ok.told
-          c.in-Line.ensures.step other (subst R (sym asked) c.in-Ok.ensures) (subst W (c.as_slice-in-loop-line.ensures.value ∙ c.in-Ok-told_text.ensures) c.if-not-write_all.ensures.whole));
+          c.in-Line.ensures.step other (subst R (sym asked) c.in-Ok.ensures) (subst W (c.as_slice-in-loop-line.ensures.value ∙ c.in-Ok-told_text.ensures.text) c.if-not-write_all.ensures.whole));
       reads_later = omega (arith, c.next_line.ensures.later);
       writes_later = omega (arith, c.write_all.ensures.later);
     }
