@@ -1,5 +1,5 @@
 //! The run of a script: a line, its reply, and so on to the end.
-ghost use Rattle.std.specs.Prelude.{◌≡◌, ◌≢◌, Ok, IsOk, IfErr, MatchResult, OnOk, map};
+ghost use Rattle.std.specs.Prelude.{◌≡◌, ◌≢◌, Ok, IsOk, MatchResult, map};
 ghost use Rattle.std.specs.Io.KnownBytes.{Keeps};
 ghost use Rattle.fault_count.specs.Steps.{Rose};
 ghost use Rattle.scr_core.specs.Legal.{IsLegal};
