@@ -1,4 +1,5 @@
 pub mod EachOf
+pub mod EntryLemmas
 pub mod Machines
 pub mod Meanings
 pub mod NameLemmas

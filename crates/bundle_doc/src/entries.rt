@@ -3,16 +3,16 @@ ghost use Rattle.std.specs.Prelude.{◌≡◌, [], IfOk, filter, map, option_map
 ghost use Rattle.serde_json.specs.View.{members_view, view};
 ghost use Rattle.prop_map.specs.JsonProperties.{keys_of};
 ghost use Rattle.component_dto.specs.Fields.{after};
-ghost use Rattle.component_dto.specs.TextLists.{has_text};
 ghost use Rattle.bundle_doc.specs.Documents.{entries_of};
-ghost use Rattle.bundle_doc.specs.Entries.{chosen, taken, taken_behind, with_new, with_one};
+ghost use Rattle.bundle_doc.specs.Entries.{chosen, taken, taken_behind, with_new};
 ghost use Rattle.bundle_doc.specs.Faults.{Reads};
 ghost use Rattle.bundle_doc.specs.Names.{matches};
 
 use crate::DocFault;
 use crate::headers::Listed;
 use crate::names::{folder, is_pattern, last_part, matches, parted};
-use component_dto::spelled;
+use crate::text_list::TextList;
+use component_dto::{each_once, spelled};
 use prop_map::{Copies, List, OutOfMemory, Str};
 use serde_json::{Map, Value};
 use std::alloc::Global;
@@ -72,46 +72,55 @@ pub(crate) fn chosen(
 {
     match listed {
         Listed::Every => Ok(entries),
-        Listed::Named(names) => taken(alloc, entries.as_slice(), names.as_slice()),
+        Listed::Named(names) => taken(alloc, entries, names),
     }
 }
 
-fn taken(alloc: Global, entries: &[Str], names: &[Str]) -> Result<List<Str>, DocFault>
+// A name that comes again takes nothing new, so each is looked at once.
+fn taken(alloc: Global, entries: List<Str>, names: List<Str>) -> Result<List<Str>, DocFault>
+    ensures { Reads result (taken_behind entries [] names) }
+{
+    let entries = TextList::of(alloc, entries)?;
+    let names = each_once(alloc, names)?;
+    taken_once(alloc, &entries, names.as_slice())
+}
+
+fn taken_once(alloc: Global, entries: &TextList, names: &[Str]) -> Result<List<Str>, DocFault>
     ensures { Reads result (taken_behind entries.now [] names.now) }
 {
-    let mut found = List::of(Vec::new(alloc));
+    let mut found = TextList::new(alloc);
     for name in names {
         found = with_name(alloc, entries, found, name)?;
     }
-    Ok(found)
+    Ok(found.list())
 }
 
 // With the entries that one more name takes.
 fn with_name(
     alloc: Global,
-    entries: &[Str],
-    found: List<Str>,
+    entries: &TextList,
+    found: TextList,
     name: &Str,
-) -> Result<List<Str>, DocFault>
+) -> Result<TextList, DocFault>
     ensures { Reads result (after (taken entries.now name.now) (λ new. Ok (with_new found new))) }
 {
     if is_pattern(name.as_str()) {
-        return Ok(with_matching(alloc, entries, found, name)?);
+        return Ok(with_matching(alloc, entries.as_slice(), found, name)?);
     }
-    if !has_text(entries, name) {
+    if !entries.has(name) {
         return Err(DocFault::MissingEntry {
             name: name.copy(alloc)?,
         });
     }
-    Ok(with_one(alloc, found, name)?)
+    Ok(found.with(alloc, name)?)
 }
 
 fn with_matching(
     alloc: Global,
     entries: &[Str],
-    found: List<Str>,
+    found: TextList,
     name: &Str,
-) -> Result<List<Str>, OutOfMemory>
+) -> Result<TextList, OutOfMemory>
     ensures { IfOk result (λ now. now ≡ with_new found (filter (matches name.now) entries.now)) }
 {
     let folder = folder(name.as_str());
@@ -119,23 +128,8 @@ fn with_matching(
     let mut found = found;
     for entry in entries {
         if matches(folder, parts.as_slice(), entry.as_str()) {
-            found = with_one(alloc, found, entry)?;
+            found = found.with(alloc, entry)?;
         }
     }
     Ok(found)
-}
-
-fn with_one(alloc: Global, mut found: List<Str>, entry: &Str) -> Result<List<Str>, OutOfMemory>
-    ensures { IfOk result (λ now. now ≡ with_one found entry.now) }
-{
-    if !has_text(found.as_slice(), entry) {
-        found.push(entry.copy(alloc)?).map_err(|refused| refused.1)?;
-    }
-    Ok(found)
-}
-
-fn has_text(texts: &[Str], text: &Str) -> bool
-    ensures { result ≡ has_text texts.now text.now }
-{
-    texts.iter().any(|other| other.as_str() == text.as_str())
 }

@@ -9,8 +9,7 @@ mod fields;
 mod headers;
 mod names;
 mod reading;
-#[cfg(test)]
-mod tests;
+mod text_list;
 mod texts;
 
 pub use built::is_built;

@@ -117,7 +117,7 @@ fn check_names(alloc: Global, descriptions: &[Description]) -> Result<(), DocFau
     ensures { Reads result (told_apart descriptions.now) }
 {
     let names = names_of(alloc, descriptions)?;
-    match first_repeated(&names) {
+    match first_repeated(alloc, &names)? {
         Some(name) => Err(DocFault::SameComponent {
             name: spelled(alloc, name)?,
         }),

@@ -1,13 +1,14 @@
 //! One header of a manifest.
 ghost use Rattle.std.specs.Prelude.{◌≡◌, ◌∷◌, ◌≤◌, false, Some, IfOk, IsTrue, IsUtf8, length};
 ghost use Rattle.bundle_headers.specs.Folding.{joined, text_of};
-ghost use Rattle.bundle_headers.specs.Headers.{Gives, has_name, header_of, is_begun, later_fault, name_length, name_of, place_in, same_name, starts_value, value_of};
+ghost use Rattle.bundle_headers.specs.Headers.{Gives, header_of, is_begun, later_fault, name_length, name_of, place_in, same_name, starts_value, value_of};
 ghost use Rattle.std.specs.Str.{is_utf8};
 ghost use Rattle.std.specs.Str.Lossy.{utf8_valid_len};
 
 use crate::HeaderFault;
 use crate::blanks::trimmed;
 use crate::folding::Folded;
+use crate::headers::Headers;
 use crate::line::Line;
 use prop_map::{OutOfMemory, Str};
 use std::alloc::Global;
@@ -23,7 +24,7 @@ const LONGEST_NAME: usize = 70;
 pub(crate) fn header(
     alloc: Global,
     bytes: &[u8],
-    headers: &[(Str, Str)],
+    headers: &Headers,
     folded: &Folded,
 ) -> Result<(Str, Str), HeaderFault>
     ensures { Gives result (header_of bytes.now headers.now folded.now) }
@@ -35,7 +36,7 @@ pub(crate) fn header(
             line: folded.first.number,
         });
     }
-    let repeats = has_name(headers, name(text));
+    let repeats = headers.has(alloc, name(text))?;
     if let Some(fault) = later_fault(folded, text, repeats) {
         return Err(fault);
     }
@@ -96,14 +97,6 @@ fn name(text: &[u8]) -> &[u8]
 {
     let (name, _) = text.split_at(name_length(text));
     name
-}
-
-fn has_name(headers: &[(Str, Str)], name: &[u8]) -> bool
-    ensures { result ≡ has_name headers.now name.now }
-{
-    headers
-        .iter()
-        .any(|header| same_name(header.0.as_str().as_bytes(), name))
 }
 
 /// Whether two names are the same without ASCII case.

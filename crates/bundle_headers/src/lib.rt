@@ -8,11 +8,10 @@ mod clauses;
 mod fault;
 mod folding;
 mod header;
+mod headers;
 mod line;
 mod manifest;
 mod pairs;
-#[cfg(test)]
-mod tests;
 
 pub use blanks::trimmed_text;
 pub use clauses::{Clause, Clauses};

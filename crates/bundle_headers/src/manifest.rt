@@ -4,6 +4,7 @@ ghost use Rattle.bundle_headers.specs.Headers.{Gives, header_value, manifest_of}
 
 use crate::folding::unfold_lines;
 use crate::header::{header, same_name};
+use crate::headers::Headers;
 use crate::line::section;
 use crate::{HeaderFault, pairs};
 use prop_map::{Copies, List, OutOfMemory, Str};
@@ -39,13 +40,13 @@ impl Manifest {
     {
         let lines = section(alloc, bytes)?;
         let folded = unfold_lines(alloc, lines.as_slice())?;
-        let mut headers = Vec::new(alloc);
+        let mut headers = Headers::new(alloc);
         for lines in folded.as_slice() {
-            let header = header(alloc, bytes, headers.as_slice(), lines)?;
-            headers.push(header)?;
+            let header = header(alloc, bytes, &headers, lines)?;
+            headers = headers.with(alloc, header)?;
         }
         Ok(Manifest {
-            headers: List::of(headers),
+            headers: headers.list(),
         })
     }
 

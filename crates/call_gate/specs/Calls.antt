@@ -1,7 +1,8 @@
 -- What the calls of the gates answer, by the word that their step found. Our own.
 use Rattle.std.specs.Prelude.{◌≡◌, ◌≢◌, ℕ, ◌+◌, ◌-◌, ◌*◌, ◌/◌, ◌%◌, ◌<◌, slice_index, slice_set, ◌⊎◌, List, ◌∷◌, Bool, Option, Some, None, IsTrue, ◌↔◌}
 use Rattle.atomic_table.specs.Seated.{TableId}
-use Rattle.call_gate.specs.Gates.{lasts_left, generation_in, stage_in, callers_in, LeavesLast, HasKey, with_caller, with_levels}
+use Rattle.call_gate.specs.Gates.{lasts_left, generation_in, stage_in, callers_in, LeavesLast, HasKey, with_caller, with_levels, with_look}
+use Rattle.call_gate.specs.Holders.{HeldKey, held}
 use Rattle.call_gate.specs.declared.rule.GateView.{GateView}
 use Rattle.journal_core.specs.declared.entry.GateKey.{GateKey}
 use Rattle.call_gate.specs.declared.tokens.Entered.{Entered}
@@ -46,12 +47,12 @@ abbrev pub left_word : ℕ → ℕ
 left_word generation = (4 * generation + 1) * 16777216
 
 -- the key is told as last exactly where the step out of this word leaves it shut, unclaimed and empty
-abbrev pub LastIs : ℕ → ℕ → Option GateKey → Type 0
-LastIs slot n (Some last) = LeavesLast n × (last ≡ record { slot = slot; generation = generation_in n })
-LastIs slot n None = ¬ LeavesLast n
+abbrev pub LastIs : TableId → ℕ → ℕ → Option HeldKey → Type 0
+LastIs gate slot n (Some last) = LeavesLast n × (last ≡ held gate (record { slot = slot; generation = generation_in n }))
+LastIs gate slot n None = ¬ LeavesLast n
 
 -- how many keys are told as last here
-abbrev pub told : Option GateKey → ℕ
+abbrev pub told : Option HeldKey → ℕ
 told (Some last) = 1
 told None = 0
 
@@ -66,24 +67,25 @@ told_in (Gone generation shut last) = told last
 
 -- a caller came to this key's open word
 abbrev pub InsideAt : GateKey → GateView → GateView → Type 0
-InsideAt key v w = (stage_in w.met ≡ 0) × (generation_in w.met ≡ key.generation) × (w ≡ with_caller v ((key.slot, key.generation) ∷ v.inside) v.passing w.met)
+InsideAt key v w = (stage_in w.met ≡ 0) × (generation_in w.met ≡ key.generation) × (w ≡ with_caller v key.slot ((key.slot, key.generation) ∷ v.inside) v.passing w.met)
 
 -- a caller came to a word that is shut or of another generation, and stepped out again
-abbrev pub GoneAt : GateKey → ℕ → Bool → Option GateKey → GateView → GateView → Type 0
-GoneAt key generation shut last v w =
+abbrev pub GoneAt : TableId → GateKey → ℕ → Bool → Option HeldKey → GateView → GateView → Type 0
+GoneAt gate key generation shut last v w =
     (stage_in w.met ≢ 0 ⊎ generation_in w.met ≢ key.generation) × (generation ≡ generation_in w.met) × (IsTrue shut ↔ (stage_in w.met ≢ 0))
-    × (w ≡ record v { saw = w.saw; met = w.met; gone = v.gone + 1; lasts = v.lasts + lasts_left w.saw }) × LastIs key.slot w.saw last
+    × (w ≡ record v { saw = w.saw; at = key.slot; met = w.met; came = key.slot; gone = v.gone + 1; lasts = v.lasts + lasts_left w.saw }) × LastIs gate key.slot w.saw last
 
-abbrev pub EntersAs : GateKey → GateView → GateView → Entered → Type 0
-EntersAs key v w (Inside i) = (i ≡ key) × InsideAt key v w
-EntersAs key v w (Gone generation shut last) = GoneAt key generation shut last v w
+abbrev pub EntersAs : TableId → GateKey → GateView → GateView → Entered → Type 0
+EntersAs gate key v w (Inside i) = (i ≡ held gate key) × InsideAt key v w
+EntersAs gate key v w (Gone generation shut last) = GoneAt gate key generation shut last v w
 
 -- the key is claimed exactly where its word is shut, unclaimed and empty
-abbrev pub ClaimsAs : GateKey → GateView → GateView → Option GateKey → Type 0
-ClaimsAs key v w (Some drain) = (drain ≡ key) × (w.saw ≡ left_word key.generation) × KnownShut key v.levels × (w ≡ with_levels v (claimed_in key v.levels) w.saw)
-ClaimsAs key v w None = (w.saw ≢ left_word key.generation) × (w ≡ with_levels v v.levels w.saw)
+abbrev pub ClaimsAs : HeldKey → GateView → GateView → Option HeldKey → Type 0
+ClaimsAs last v w (Some drain) =
+    (drain ≡ last) × (w.saw ≡ left_word last.key.generation) × KnownShut last.key v.levels × (w ≡ with_levels v last.key.slot (claimed_in last.key v.levels) w.saw)
+ClaimsAs last v w None = (w.saw ≢ left_word last.key.generation) × (w ≡ with_look v last.key.slot w.saw)
 
 -- the shutting leaves nobody inside
-abbrev pub ShutIs : GateKey → ℕ → Option GateKey → Type 0
-ShutIs key n (Some last) = (callers_in n ≡ 0) × (last ≡ key)
-ShutIs key n None = callers_in n ≢ 0
+abbrev pub ShutIs : TableId → GateKey → ℕ → Option HeldKey → Type 0
+ShutIs gate key n (Some last) = (callers_in n ≡ 0) × (last ≡ held gate key)
+ShutIs gate key n None = callers_in n ≢ 0

@@ -1,16 +1,16 @@
 //! The gates: one word for each slot, changed by single steps.
 ghost use Rattle.std.specs.Prelude.{◌≡◌, ◌≢◌, ◌+◌, ◌-◌, ◌*◌, ◌/◌, ◌%◌, ◌^◌, ◌<◌, ◌≤◌, ◌↔◌, true, false, if◌then◌else◌, replicate, [], ◌∷◌, length, slice_index, slice_set, IsTrue, IfOk, IfErr, IfSome, IfNone, MatchOption, MatchResult};
-ghost use Rattle.call_gate.specs.Gates.{SeatView, level_in, generation_in, stage_in, callers_in, with_inside, with_levels, with_shut, without, HasKey, LeavesLast};
+ghost use Rattle.call_gate.specs.Gates.{SeatView, level_in, generation_in, stage_in, callers_in, with_inside, with_levels, with_look, with_shut, without, HasKey, LeavesLast};
 ghost use Rattle.call_gate.specs.Starts.{first_view, seat_view, both_of};
 ghost use Rattle.call_gate.specs.Calls.{slots_in, KnownOpen, KnownClosed, KnownClaimed, NoneClaimed, opened_in, shut_in, told, gone_in, told_in, LastIs, EntersAs, ClaimsAs, ShutIs};
 
 use crate::rule::{
     Beginning, Claim, Deal, Enter, GateView, Gates, Hear, Leave, Look, Mark, Raise, Shut, StepBack,
-    StepOut, Together,
+    StepOut, Together, Witness,
 };
 use crate::seat::GateSeat;
 use crate::tokens::{Drain, Entered, Inside, Last, Worn};
-use atomic_table::Table;
+use atomic_table::{Seat, Table};
 use journal_core::GateKey;
 use prop_map::OutOfMemory;
 use std::alloc::Global;
@@ -47,7 +47,7 @@ impl CallGate {
     /// shut or closed: it knew. None of the keys that it has callers inside of is known to it as claimed.
     pub fn look(&self, seat: &mut GateSeat, slot: u32) -> u64
         requires { (seat.old.gate ≡ self.now) × (slot < slots_in self.now) }
-        ensures seat { seat.new ≡ record seat.old { knows = record seat.old.knows { saw = result } } }
+        ensures seat { seat.new ≡ record seat.old { knows = with_look seat.old.knows slot result } }
         ensures level { seat.old.knows.keeps ≡ true → level_in result ≡ slice_index seat.old.knows.levels slot }
         ensures unclaimed { seat.old.knows.keeps ≡ true → NoneClaimed seat.old.knows.inside seat.old.knows.levels }
     {
@@ -63,7 +63,7 @@ impl CallGate {
         requires own { (seat.old.gate ≡ self.now) × (key.slot < slots_in self.now) }
         requires room { length seat.old.knows.inside < seat.old.knows.places }
         ensures same { seat.new.gate ≡ seat.old.gate }
-        ensures answer { EntersAs key seat.old.knows seat.new.knows result }
+        ensures answer { EntersAs self.now key seat.old.knows seat.new.knows result }
         ensures gone { seat.new.knows.gone ≡ seat.old.knows.gone + gone_in result }
         ensures told { seat.new.knows.lasts ≡ seat.old.knows.lasts + told_in result }
     {
@@ -81,7 +81,7 @@ impl CallGate {
             return Entered::Gone {
                 generation: level / 4,
                 shut: true,
-                last: last_of(key.slot, left),
+                last: last_of(self.witness(seat), key.slot, left),
             };
         }
         if level / 4 != key.generation {
@@ -92,29 +92,32 @@ impl CallGate {
             return Entered::Gone {
                 generation: level / 4,
                 shut: false,
-                last: last_of(key.slot, left),
+                last: last_of(self.witness(seat), key.slot, left),
             };
         }
         seat.free -= 1;
-        Entered::Inside(Inside { key })
+        Entered::Inside(Inside {
+            key,
+            of: self.witness(seat),
+        })
     }
 
     /// Leaves, by one step on the word. Tells the key as last exactly where that step leaves the gate shut, unclaimed and
     /// empty. The caller entered from this seat, or from one that was joined into it.
     pub fn leave(&self, seat: &mut GateSeat, inside: Inside) -> Option<Last>
-        requires own { (seat.old.gate ≡ self.now) × (inside.slot < slots_in self.now) }
-        requires inside { HasKey inside.slot inside.generation seat.old.knows.inside }
-        ensures seat { seat.new ≡ record seat.old { knows = with_inside seat.old.knows (without inside.slot seat.old.knows.inside) seat.new.knows.saw } }
-        ensures last { LastIs inside.slot seat.new.knows.saw result }
+        requires own { (seat.old.gate ≡ self.now) × (inside.gate ≡ self.now) }
+        requires inside { HasKey inside.key.slot inside.key.generation seat.old.knows.inside }
+        ensures seat { seat.new ≡ record seat.old { knows = with_inside seat.old.knows inside.key.slot (without inside.key.slot seat.old.knows.inside) seat.new.knows.saw } }
+        ensures last { LastIs self.now inside.key.slot seat.new.knows.saw result }
         ensures told { seat.new.knows.lasts ≡ seat.old.knows.lasts + told result }
     {
-        let Inside { key } = inside;
+        let Inside { key, of } = inside;
         let left = self
             .table
             .shared
             .fetch_sub::<Leave>(&mut seat.seat, key.slot as usize, 1);
         seat.free += 1;
-        last_of(key.slot, left)
+        last_of(of, key.slot, left)
     }
 
     /// Opens a closed slot under its next generation, from the keeper's seat. `Worn` exactly where its last generation
@@ -123,8 +126,8 @@ impl CallGate {
         requires own { (seat.old.gate ≡ self.now) × (slot < slots_in self.now) }
         requires closed { (seat.old.knows.keeps ≡ true) × KnownClosed slot seat.old.knows.levels }
         ensures same { seat.new.gate ≡ seat.old.gate }
-        ensures ok { IfOk result (λ key. (key.slot ≡ slot) × (key.generation ≡ slice_index seat.old.knows.levels slot / 4 + 1) × (seat.new.knows ≡ with_levels seat.old.knows (opened_in key seat.old.knows.levels) seat.new.knows.saw)) }
-        ensures worn { IfErr result (λ _. (slice_index seat.old.knows.levels slot / 4 ≡ 2 ^ 38 - 1) × (seat.new.knows ≡ with_levels seat.old.knows seat.old.knows.levels seat.new.knows.saw)) }
+        ensures ok { IfOk result (λ key. (key.slot ≡ slot) × (key.generation ≡ slice_index seat.old.knows.levels slot / 4 + 1) × (seat.new.knows ≡ with_levels seat.old.knows slot (opened_in key seat.old.knows.levels) seat.new.knows.saw)) }
+        ensures worn { IfErr result (λ _. (slice_index seat.old.knows.levels slot / 4 ≡ 2 ^ 38 - 1) × (seat.new.knows ≡ with_look seat.old.knows slot seat.new.knows.saw)) }
         ensures room { IfOk result (λ _. slice_index seat.old.knows.levels slot / 4 < 2 ^ 38 - 1) }
     {
         let generation = self.look(seat, slot) / CALLERS / 4;
@@ -145,8 +148,8 @@ impl CallGate {
     pub fn shut(&self, seat: &mut GateSeat, key: GateKey) -> Option<Last>
         requires own { (seat.old.gate ≡ self.now) × (key.slot < slots_in self.now) }
         requires open { (seat.old.knows.keeps ≡ true) × KnownOpen key seat.old.knows.levels }
-        ensures seat { seat.new ≡ record seat.old { knows = with_shut seat.old.knows (shut_in key seat.old.knows.levels) seat.new.knows.saw } }
-        ensures last { ShutIs key seat.new.knows.saw result }
+        ensures seat { seat.new ≡ record seat.old { knows = with_shut seat.old.knows key.slot (shut_in key seat.old.knows.levels) seat.new.knows.saw } }
+        ensures last { ShutIs self.now key seat.new.knows.saw result }
         ensures told { seat.new.knows.lasts ≡ seat.old.knows.lasts + told result }
     {
         let found = self
@@ -154,7 +157,10 @@ impl CallGate {
             .shared
             .fetch_or::<Shut>(&mut seat.seat, key.slot as usize, CALLERS);
         if found % CALLERS == 0 {
-            Some(Last { key })
+            Some(Last {
+                key,
+                of: self.witness(seat),
+            })
         } else {
             None
         }
@@ -164,12 +170,12 @@ impl CallGate {
     /// closed. None exactly where the word isn't shut, unclaimed, empty and of the key's generation: it was claimed
     /// before, or a caller is there, whose own step out tells the key again.
     pub fn claim(&self, seat: &mut GateSeat, last: Last) -> Option<Drain>
-        requires own { (seat.old.gate ≡ self.now) × (last.slot < slots_in self.now) }
+        requires own { (seat.old.gate ≡ self.now) × (last.gate ≡ self.now) }
         requires keeper { seat.old.knows.keeps ≡ true }
         ensures same { seat.new.gate ≡ seat.old.gate }
         ensures answer { ClaimsAs last seat.old.knows seat.new.knows result }
     {
-        let Last { key } = last;
+        let Last { key, of } = last;
         let level = 4 * key.generation + 1;
         let shut = level * CALLERS;
         let found = self.table.shared.compare_exchange::<Claim>(
@@ -179,7 +185,7 @@ impl CallGate {
             (level + 2) * CALLERS,
         );
         if found == shut {
-            Some(Drain { key })
+            Some(Drain { key, of })
         } else {
             None
         }
@@ -245,7 +251,7 @@ impl CallGate {
     /// The second isn't the keeper's.
     pub fn join(&self, seat: GateSeat, other: GateSeat) -> GateSeat
         requires { (seat.gate ≡ self.now) × (other.gate ≡ self.now) × (other.knows.keeps ≡ false) }
-        ensures { result ≡ record seat { knows = record (both_of seat.knows other.knows) { saw = result.knows.saw } } }
+        ensures { result ≡ record seat { knows = record (both_of seat.knows other.knows) { saw = result.knows.saw; at = result.knows.at } } }
     {
         let GateSeat { mut seat, free } = seat;
         let GateSeat {
@@ -265,20 +271,30 @@ impl CallGate {
     pub fn not_claimed(&self, keeper: &mut GateSeat, seat: &mut GateSeat, inside: &Inside)
         requires own { (keeper.old.gate ≡ self.now) × (seat.old.gate ≡ self.now) }
         requires keeper { keeper.old.knows.keeps ≡ true }
-        requires inside { HasKey inside.now.slot inside.now.generation seat.old.knows.inside }
+        requires inside { HasKey inside.now.key.slot inside.now.key.generation seat.old.knows.inside }
         ensures kept { keeper.new ≡ keeper.old }
-        ensures heard { seat.new ≡ record seat.old { knows = record seat.old.knows { heard = keeper.old.knows.levels; saw = seat.new.knows.saw } } }
-        ensures unclaimed { ¬ KnownClaimed inside.now keeper.old.knows.levels }
+        ensures heard { seat.new ≡ record seat.old { knows = record seat.old.knows { heard = keeper.old.knows.levels; saw = seat.new.knows.saw; at = seat.new.knows.at } } }
+        ensures unclaimed { ¬ KnownClaimed inside.now.key keeper.old.knows.levels }
     {
         let note = self.table.shared.split_seat::<Deal>(&mut keeper.seat);
         self.table.shared.join_seat::<Hear>(&mut seat.seat, note);
         self.table.shared.load::<Look>(&mut seat.seat, 0);
     }
+
+    // A seat of these gates that knows nothing else.
+    fn witness(&self, seat: &mut GateSeat) -> Seat<(), GateView>
+        requires { seat.old.gate ≡ self.now }
+        ensures same { seat.new ≡ seat.old }
+        ensures gate { result.table_id ≡ self.now }
+    {
+        self.table.shared.split_seat::<Witness>(&mut seat.seat)
+    }
 }
 
 // The key of the word that a caller stepped out of, if that left it shut, unclaimed and empty.
-fn last_of(slot: u32, left: u64) -> Option<Last>
-    ensures { LastIs slot left result }
+fn last_of(of: Seat<(), GateView>, slot: u32, left: u64) -> Option<Last>
+    requires { slot < slots_in of.table_id }
+    ensures { LastIs of.table_id slot left result }
 {
     let level = left / CALLERS;
     if level % 4 == 1 && left % CALLERS == 1 {
@@ -287,6 +303,7 @@ fn last_of(slot: u32, left: u64) -> Option<Last>
                 slot,
                 generation: level / 4,
             },
+            of,
         })
     } else {
         None

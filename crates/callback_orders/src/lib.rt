@@ -6,8 +6,6 @@ mod due;
 mod instance_view;
 mod lives;
 mod references;
-#[cfg(test)]
-mod tests;
 mod word;
 
 pub use callback::{Callback, Outcome};

@@ -5,13 +5,10 @@ use Rattle.std.specs.List.{list_any, filter}
 use Rattle.std.specs.Str.{bytes_eq}
 use Rattle.std.proofs.lemmas.Slice.Eq.{bytes_eq-Decides}
 use Rattle.std.proofs.lemmas.List.Elements.{filter-append}
+use Rattle.std.proofs.lemmas.List.Folds.{list_any-append}
 use Rattle.std.proofs.lemmas.Map.Views.{any-filter_same}
 use Rattle.std.proofs.lemmas.List.{map-append, take_more}
 use Rattle.component_dto.specs.TextLists.{has_text, each_once, repeated_behind}
-
-pub any_mapped : {A B : Type 0} (p : B → Bool) (f : A → B) (xs : List A) → list_any p (map f xs) ≡ list_any (λ x. p (f x)) xs
-any_mapped p f [] = refl
-any_mapped p f (x ∷ xs) = ap (λ b. p (f x) || b) (any_mapped p f xs)
 
 same_text : (a b : List ℕ) → bytes_eq a b ≡ true → a ≡ b
 same_text a b e = (bytes_eq-Decides a b).0 e
@@ -66,3 +63,76 @@ repeated_step texts at d within =
     ap (λ (w : List (Bor (List ℕ))). repeated_behind (map (λ x. x.now) (take at texts)) (map (λ x. x.now) w)) (drop-cons texts at d within)
     ∙ ap (λ w. cond has found (repeated_behind w (map (λ x. x.now) (drop (suc at) texts)))) (grown texts at d within)
     ∙ ap (λ k. cond has found (repeated_behind (map (λ x. x.now) (take (at + 1) texts)) (map (λ x. x.now) (drop k texts)))) (sym (add-one at))
+
+-- a list with a text more, and whether a text is in it
+pub has_more : (texts : List (List ℕ)) (t q : List ℕ) → (bytes_eq t q || has_text texts q) ≡ has_text (texts ++ t ∷ []) q
+has_more texts t q = sym (list_any-append (λ x. bytes_eq x q) texts (t ∷ []) ∙ turned (has_text texts q) (bytes_eq t q)) where
+  turned : (a b : Bool) → (a || (b || false)) ≡ (b || a)
+  turned true true = refl
+  turned true false = refl
+  turned false true = refl
+  turned false false = refl
+
+-- a text that is there already adds nothing
+pub has_same : (texts : List (List ℕ)) (t q : List ℕ) → has_text texts t ≡ true → (bytes_eq t q || has_text texts q) ≡ has_text texts q
+has_same texts t q there = cases (bytes_eq t q) refl where
+  cases : (b : Bool) → bytes_eq t q ≡ b → (b || has_text texts q) ≡ has_text texts q
+  cases true is = sym there ∙ ap (has_text texts) (same_text t q is)
+  cases false is = refl
+
+pub grown_has : (texts : List (Bor (List ℕ))) (at : ℕ) (d : Bor (List ℕ)) → at < length texts → (q : List ℕ)
+    → (bytes_eq (get_or texts at d).now q || has_text (map (λ x. x.now) (take at texts)) q) ≡ has_text (map (λ x. x.now) (take (at + 1) texts)) q
+grown_has texts at d within q = has_more (map (λ x. x.now) (take at texts)) (get_or texts at d).now q ∙ ap (λ ts. has_text ts q) (grown texts at d within)
+
+-- what is known of the texts so far, by a set of them
+abbrev pub Knows : List (List ℕ) → List (List ℕ) → Type 0
+Knows seen texts = (q : List ℕ) → has_text seen q ≡ has_text texts q
+
+-- the set with one text more
+abbrev pub WithText : List (List ℕ) → List ℕ → List (List ℕ) → Type 0
+WithText seen k now = (q : List ℕ) → has_text now q ≡ (bytes_eq k q || has_text seen q)
+
+known_as : (seen texts : List (List ℕ)) (k t : List ℕ) (b : Bool) → Knows seen texts → k ≡ t → b ≡ not (has_text seen k) → has_text texts t ≡ not b
+known_as seen texts k t b known same answer = sym (known t) ∙ ap (has_text seen) (sym same) ∙ sym (ap not answer ∙ back (has_text seen k)) where
+  back : (h : Bool) → not (not h) ≡ h
+  back true = refl
+  back false = refl
+
+-- a new text is taken in, and a known one isn't
+pub once_new : (seen texts : List (List ℕ)) (k t : List ℕ) (b : Bool) → Knows seen (each_once texts) → k ≡ t → b ≡ not (has_text seen k) → b ≡ true
+    → each_once texts ++ t ∷ [] ≡ each_once (texts ++ t ∷ [])
+once_new seen texts k t b known same answer is =
+    sym (each_once-more texts t ∙ ap (λ h. cond h (each_once texts) (each_once texts ++ t ∷ [])) (known_as seen (each_once texts) k t b known same answer ∙ ap not is))
+
+pub once_old : (seen texts : List (List ℕ)) (k t : List ℕ) (b : Bool) → Knows seen (each_once texts) → k ≡ t → b ≡ not (has_text seen k) → b ≡ false
+    → each_once texts ≡ each_once (texts ++ t ∷ [])
+once_old seen texts k t b known same answer is =
+    sym (each_once-more texts t ∙ ap (λ h. cond h (each_once texts) (each_once texts ++ t ∷ [])) (known_as seen (each_once texts) k t b known same answer ∙ ap not is))
+
+-- then the set knows the texts with that one
+pub once_known : (seen now texts : List (List ℕ)) (k t : List ℕ) → Knows seen (each_once texts) → k ≡ t → WithText seen k now → Knows now (each_once (texts ++ t ∷ []))
+once_known seen now texts k t known same added = λ q.
+    added q ∙ ap (λ w. bytes_eq w q || has_text seen q) same ∙ ap (λ h. bytes_eq t q || h) (known q) ∙ cases q (has_text (each_once texts) t) refl ∙ ap (λ ts. has_text ts q) (sym (each_once-more texts t)) where
+      cases : (q : List ℕ) (h : Bool) → has_text (each_once texts) t ≡ h
+          → (bytes_eq t q || has_text (each_once texts) q) ≡ has_text (cond (has_text (each_once texts) t) (each_once texts) (each_once texts ++ t ∷ [])) q
+      cases q true is = has_same (each_once texts) t q is ∙ ap (λ h. has_text (cond h (each_once texts) (each_once texts ++ t ∷ [])) q) (sym is)
+      cases q false is = has_more (each_once texts) t q ∙ ap (λ h. has_text (cond h (each_once texts) (each_once texts ++ t ∷ [])) q) (sym is)
+
+-- one more text of a list that is looked through for one that was there before, by a set of those before it
+pub looked_step : (texts : List (Bor (List ℕ))) (at : ℕ) (d : Bor (List ℕ)) (seen : List (List ℕ)) (k : List ℕ) (b : Bool) → at < length texts
+    → Knows seen (map (λ x. x.now) (take at texts)) → k ≡ (get_or texts at d).now → b ≡ not (has_text seen k)
+    → repeated_behind (map (λ x. x.now) (take at texts)) (map (λ x. x.now) (drop at texts))
+    ≡ cond b (repeated_behind (map (λ x. x.now) (take (at + 1) texts)) (map (λ x. x.now) (drop (at + 1) texts))) (Some (get_or texts at d).now)
+looked_step texts at d seen k b within known same answer =
+    repeated_step texts at d within
+    ∙ ap (λ h. cond h (Some (get_or texts at d).now) (repeated_behind (map (λ x. x.now) (take (at + 1) texts)) (map (λ x. x.now) (drop (at + 1) texts)))) (known_as seen (map (λ x. x.now) (take at texts)) k (get_or texts at d).now b known same answer)
+    ∙ turned b where
+      turned : (b : Bool) → cond (not b) (Some (get_or texts at d).now) (repeated_behind (map (λ x. x.now) (take (at + 1) texts)) (map (λ x. x.now) (drop (at + 1) texts)))
+          ≡ cond b (repeated_behind (map (λ x. x.now) (take (at + 1) texts)) (map (λ x. x.now) (drop (at + 1) texts))) (Some (get_or texts at d).now)
+      turned true = refl
+      turned false = refl
+
+pub looked_known : (texts : List (Bor (List ℕ))) (at : ℕ) (d : Bor (List ℕ)) (seen now : List (List ℕ)) (k : List ℕ) → at < length texts
+    → Knows seen (map (λ x. x.now) (take at texts)) → k ≡ (get_or texts at d).now → WithText seen k now → Knows now (map (λ x. x.now) (take (at + 1) texts))
+looked_known texts at d seen now k within known same added = λ q.
+    added q ∙ ap (λ w. bytes_eq w q || has_text seen q) same ∙ ap (λ h. bytes_eq (get_or texts at d).now q || h) (known q) ∙ grown_has texts at d within q

@@ -1,6 +1,6 @@
 -- A description as JSON data: ComponentDescriptionDTO of OSGi Compendium 8, chapter 112. The defaults are those of its
 -- attributes and elements in section 112.4; that of the name is our own.
-use Rattle.std.specs.Prelude.{ℕ, true, List, [], ◌∷◌, map, codes, if◌then◌else◌, Result, Ok, Err}
+use Rattle.std.specs.Prelude.{ℕ, true, false, List, [], ◌∷◌, map, codes, if◌then◌else◌, Result, Ok, Err}
 use Rattle.std.specs.Option.{is_some, unwrap_or}
 use Rattle.std.specs.Str.{bytes_eq}
 use Rattle.serde_json.specs.Data.{Data}
@@ -16,6 +16,7 @@ use Rattle.component_dto.specs.declared.description.ConfigurationPolicy.TheVaria
 use Rattle.component_dto.specs.declared.fault.DescriptionFault.{DescriptionFault}
 use Rattle.component_dto.specs.declared.fault.DescriptionFault.TheVariants.{WrongType, BadProperty, OutOfMemory}
 use Rattle.component_dto.specs.declared.given_fields.GivenFields.{GivenFields}
+use Rattle.component_dto.specs.declared.given_fields.LifeFields.{LifeFields}
 use Rattle.component_dto.specs.declared.references.ReferenceFields.{ReferenceFields}
 use Rattle.component_dto.specs.Fields.{after, flag_at, given, if_given, needed_text_at, or_empty, text_at, texts_at, word_at}
 use Rattle.component_dto.specs.References.{references_at}
@@ -42,6 +43,16 @@ properties_in field d = with_fault_in field (properties_of d)
 abbrev pub properties_at : List ℕ → Data → Result (List Property) DescriptionFault
 properties_at field d = after (if_given (properties_in field) (given field d)) (λ properties. Ok (or_empty properties))
 
+-- the fields behind the references in order: callbacks of a component's life, and its configurations
+abbrev pub life_fields : Data → Result LifeFields DescriptionFault
+life_fields d =
+    after (text_at (codes "activate") d) (λ _.
+    after (text_at (codes "deactivate") d) (λ _.
+    after (text_at (codes "modified") d) (λ modified.
+    after (word_at configuration_policy_of (codes "configurationPolicy") d) (λ policy.
+    after (texts_at (codes "configurationPid") d) (λ pids.
+    Ok (record { modified = modified; configuration_policy = policy; configuration_pids = pids }))))))
+
 -- the fields of a description in order, or the first that is at fault
 abbrev pub given_fields : Data → Result GivenFields DescriptionFault
 given_fields d =
@@ -54,11 +65,7 @@ given_fields d =
     after (texts_at (codes "serviceInterfaces") d) (λ interfaces.
     after (properties_at (codes "properties") d) (λ properties.
     after (references_at (codes "references") d) (λ references.
-    after (text_at (codes "activate") d) (λ _.
-    after (text_at (codes "deactivate") d) (λ _.
-    after (text_at (codes "modified") d) (λ modified.
-    after (word_at configuration_policy_of (codes "configurationPolicy") d) (λ policy.
-    after (texts_at (codes "configurationPid") d) (λ pids.
+    after (life_fields d) (λ life.
     Ok (record {
       name = unwrap_or name class;
       factory = factory;
@@ -69,10 +76,10 @@ given_fields d =
       service_interfaces = each_once interfaces;
       properties = properties;
       references = references;
-      modified = modified;
-      configuration_policy = unwrap_or policy Optional;
-      configuration_pids = pids;
-    })))))))))))))))
+      modified = life.modified;
+      configuration_policy = unwrap_or life.configuration_policy Optional;
+      configuration_pids = life.configuration_pids;
+    })))))))))))
 
 abbrev pub of_object : Data → Result (Unit {0}) DescriptionFault
 of_object d = if is_some (as_object d) then Ok tt else Err (WrongType (codes "component"))
@@ -103,6 +110,7 @@ described f = record {
   modified = f.modified;
   configuration_policy = f.configuration_policy;
   configuration_pids = pids_of f.name f.configuration_pids;
+  implicit = false;
 }
 
 -- the description that a value is, or what is wrong with it first: that it is no object, a field, a rule

@@ -97,6 +97,9 @@ pub struct Description {
     pub configuration_policy: ConfigurationPolicy,
     /// The PIDs of its configurations, by default its name.
     pub configuration_pids: List<Str>,
+    /// Whether it has an implicit reference on the satisfying condition. False in each description that is read, until
+    /// satisfying conditions are built.
+    pub implicit: bool,
 }
 
 impl Copies for Description {
@@ -113,6 +116,7 @@ impl Copies for Description {
             modified: self.modified.copy(alloc)?,
             configuration_policy: self.configuration_policy,
             configuration_pids: self.configuration_pids.copy(alloc)?,
+            implicit: self.implicit,
         })
     }
 }

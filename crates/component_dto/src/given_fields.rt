@@ -2,7 +2,7 @@
 ghost use Rattle.std.specs.Prelude.{◌≡◌, IfOk};
 ghost use Rattle.std.specs.Option.{unwrap_or};
 ghost use Rattle.serde_json.specs.View.{view};
-ghost use Rattle.component_dto.specs.Descriptions.{given_fields, properties_at, properties_in};
+ghost use Rattle.component_dto.specs.Descriptions.{given_fields, life_fields, properties_at, properties_in};
 ghost use Rattle.component_dto.specs.Faults.{Reads};
 
 use crate::fields::{flag_at, given, needed_text_at, text_at, texts_at, word_at};
@@ -46,11 +46,7 @@ pub(crate) fn given_fields(alloc: Global, json: &Value) -> Result<GivenFields, D
     let service_interfaces = texts_at(alloc, json, "serviceInterfaces")?;
     let properties = properties_at(alloc, json, "properties")?;
     let references = references_at(alloc, json, "references")?;
-    let _activate = text_at(alloc, json, "activate")?;
-    let _deactivate = text_at(alloc, json, "deactivate")?;
-    let modified = text_at(alloc, json, "modified")?;
-    let configuration_policy = word_at(alloc, json, "configurationPolicy")?;
-    let configuration_pids = texts_at(alloc, json, "configurationPid")?;
+    let life = life_fields(alloc, json)?;
     Ok(GivenFields {
         name: text_or(alloc, name, &implementation_class)?,
         factory,
@@ -61,8 +57,34 @@ pub(crate) fn given_fields(alloc: Global, json: &Value) -> Result<GivenFields, D
         service_interfaces: each_once(alloc, service_interfaces)?,
         properties,
         references,
+        modified: life.modified,
+        configuration_policy: life
+            .configuration_policy
+            .unwrap_or(ConfigurationPolicy::Optional),
+        configuration_pids: life.configuration_pids,
+    })
+}
+
+/// The fields behind the references: callbacks of a component's life, and its configurations.
+#[derive(Drop)]
+struct LifeFields {
+    modified: Option<Str>,
+    configuration_policy: Option<ConfigurationPolicy>,
+    configuration_pids: List<Str>,
+}
+
+// They are read together, so that fewer texts are at hand where one of them is at fault.
+fn life_fields(alloc: Global, json: &Value) -> Result<LifeFields, DescriptionFault>
+    ensures { Reads result (life_fields (view json.now)) }
+{
+    let _ = text_at(alloc, json, "activate")?;
+    let _ = text_at(alloc, json, "deactivate")?;
+    let modified = text_at(alloc, json, "modified")?;
+    let configuration_policy = word_at(alloc, json, "configurationPolicy")?;
+    let configuration_pids = texts_at(alloc, json, "configurationPid")?;
+    Ok(LifeFields {
         modified,
-        configuration_policy: configuration_policy.unwrap_or(ConfigurationPolicy::Optional),
+        configuration_policy,
         configuration_pids,
     })
 }

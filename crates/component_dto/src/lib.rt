@@ -9,8 +9,6 @@ mod reading;
 mod references;
 mod rules;
 mod targets;
-#[cfg(test)]
-mod tests;
 mod text_lists;
 mod words;
 
@@ -18,5 +16,4 @@ pub use description::{ConfigurationPolicy, Description, Reference, Scope};
 pub use fault::DescriptionFault;
 pub use fields::given;
 pub use reading::read_description;
-pub use targets::note_bad_place;
-pub use text_lists::{first_repeated, spelled};
+pub use text_lists::{each_once, first_repeated, spelled};

@@ -60,6 +60,7 @@ impl GivenFields {
             modified: self.modified,
             configuration_policy: self.configuration_policy,
             configuration_pids,
+            implicit: false,
         })
     }
 }

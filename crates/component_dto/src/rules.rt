@@ -87,7 +87,7 @@ fn same_name(alloc: Global, references: &[ReferenceFields]) -> Result<Option<Str
     ensures { IfOk result (λ name. name ≡ first_repeated (names_of references.now)) }
 {
     let names = names_of(alloc, references)?;
-    match first_repeated(&names) {
+    match first_repeated(alloc, &names)? {
         Some(name) => Ok(Some(spelled(alloc, name)?)),
         None => Ok(None),
     }

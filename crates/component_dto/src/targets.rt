@@ -1,20 +1,13 @@
 //! The targets of references.
-ghost use Rattle.std.specs.Prelude.{◌≡◌, ℕ, List, Some, IfOk, option_map};
+ghost use Rattle.std.specs.Prelude.{◌≡◌, IfOk, option_map};
 ghost use Rattle.component_dto.specs.Rules.{bad_target_of};
-ghost use Rattle.component_dto.specs.Targets.{HasPlace, bad_place, bad_target};
+ghost use Rattle.component_dto.specs.Targets.{HasPlace, bad_target};
 ghost use Rattle.component_dto.specs.declared.fault.DescriptionFault.TheVariants.{BadTarget};
 
 use crate::references::ReferenceFields;
 use ldap_filter::{Filter, FilterFault};
 use prop_map::{Copies, OutOfMemory, Str};
 use std::alloc::{AllocError, Global};
-
-/// For contracts alone: the place that the machine finds in a text is that where the text ceases to be the beginning of a
-/// filter, or of one within 64 levels; it finds none exactly where the text is a filter.
-#[tactic(auto, using(crate::proofs::Places::place_found))]
-pub fn note_bad_place()
-    ensures { (text : List ℕ) → HasPlace (Some text) (bad_place text) }
-{}
 
 /// The name of the first reference whose target is no filter, and the place where the target ceases to be one.
 pub(crate) fn bad_target(

@@ -5,18 +5,20 @@ use Rattle.std.proofs.lemmas.Bool.{eqb-true, eq-eqb, false_from_ne_true, false�
 use Rattle.std.proofs.lemmas.List.Folds.{list_any-append}
 use Rattle.journal_core.specs.declared.entry.Opened.{Opened}
 use Rattle.component_state.specs.declared.component.Component.{Component}
-use Rattle.component_state.specs.declared.life.Life.{Life}
+use Rattle.component_state.specs.declared.origin.Origin.{Origin}
 use Rattle.component_state.specs.declared.open_period.OpenPeriod.{OpenPeriod}
-use Rattle.component_state.specs.declared.pass.PassEnd.{PassEnd}
-use Rattle.component_state.specs.Components.{numbers_of, lives}
+use Rattle.component_state.specs.declared.pass.Passed.{Passed}
+use Rattle.component_state.specs.Components.{numbers_of, exists}
+use Rattle.component_state.specs.Inside.Misled.{chose_outdated, is_misled}
 use Rattle.component_state.specs.Marks.{with_leaving}
-use Rattle.component_state.specs.Passes.{Stage, in_order, out_of, opened_from, next_after, IsReady}
+use Rattle.component_state.specs.Passes.{Stage, pass_order_of, held_back_in, opened_from, next_after, services_in}
 use Rattle.component_state.specs.Periods.{is_open, is_current, opened_at, open_after}
-use Rattle.component_state.specs.Reasons.{chose_outdated}
-use Rattle.component_state.specs.Runs.{stands, is_misled, has_life}
-use Rattle.component_state.specs.Words.{has}
+use Rattle.component_state.specs.Reasons.{has_untold_change, is_of}
+use Rattle.component_state.specs.Inside.Runs.{has_life}
+use Rattle.component_state.specs.Inside.Ready.{IsReady}
+use Rattle.prop_map.specs.Words.{has}
 use Rattle.component_state.proofs.Among.{Among, among_contains, among_left, among_filter, among_kept, among_map, among_mapped, any_witness, any_from, any_map}
-use Rattle.component_state.proofs.Decisions.{closes, opens}
+use Rattle.component_state.proofs.Decisions.{closes, opens, some_misled, stands}
 use Rattle.component_state.proofs.Numbers.{has_filtered}
 
 -- ---- which numbers are open
@@ -61,26 +63,26 @@ open_by place cs closed opened before n =
     ∙ ap (λ b. b || is_open (map (opened_at place cs) opened) n) (left_open before closed n)
     ∙ ap (λ b. (is_open before n && not (has closed n)) || b) (open_opened place cs opened n)
 
--- ---- whose living instances are of a period that has ended
+-- ---- whose existing instances are of a period that has ended
 
-module _ (now : List OpenPeriod) (all : List Life) where
-  pub life_witness : (n : ℕ) → has_life all n ≡ true → (l : Life) × Among all l × (l.configuration ≡ n)
-  life_witness n e = let found = any_witness (λ (l : Life). l.configuration == n) all e in (found.0, found.1, eqb-true found.0.configuration n found.2)
+module _ (now : List OpenPeriod) (all : List Origin) where
+  pub life_witness : (n : ℕ) → has_life all n ≡ true → (l : Origin) × Among all l × (l.configuration ≡ n)
+  life_witness n e = let found = any_witness (λ (l : Origin). l.configuration == n) all e in (found.0, found.1, eqb-true found.0.configuration n found.2)
 
-  leaving_witness : (n : ℕ) → has (with_leaving now all) n ≡ true → (l : Life) × Among all l × (is_current now l ≡ false) × (l.configuration ≡ n)
+  leaving_witness : (n : ℕ) → has (with_leaving now all) n ≡ true → (l : Origin) × Among all l × (is_current now l ≡ false) × (l.configuration ≡ n)
   leaving_witness n e =
-      let mapped = among_map (λ (l : Life). l.configuration) (filter (λ (l : Life). not (is_current now l)) all) n (among_has (with_leaving now all) n e) in
-      let kept = among_filter (λ (l : Life). not (is_current now l)) all mapped.0 mapped.1 in
+      let mapped = among_map (λ (l : Origin). l.configuration) (filter (λ (l : Origin). not (is_current now l)) all) n (among_has (with_leaving now all) n e) in
+      let kept = among_filter (λ (l : Origin). not (is_current now l)) all mapped.0 mapped.1 in
       (mapped.0, kept.0, not-true (is_current now mapped.0) kept.1, mapped.2)
 
-  -- a living instance of a period that has ended
-  pub leaving_if_ended : (n : ℕ) (l : Life) → Among all l → l.configuration ≡ n → is_current now l ≡ false → has (with_leaving now all) n ≡ true
+  -- a existing instance of a period that has ended
+  pub leaving_if_ended : (n : ℕ) (l : Origin) → Among all l → l.configuration ≡ n → is_current now l ≡ false → has (with_leaving now all) n ≡ true
   leaving_if_ended n l here is ended =
       has_from (with_leaving now all) n
-      (rw (← is) (among_mapped (λ (x : Life). x.configuration) (filter (λ (x : Life). not (is_current now x)) all) l
-      (among_kept (λ (x : Life). not (is_current now x)) all l here (not_from_false (is_current now l) ended))))
+      (rw (← is) (among_mapped (λ (x : Origin). x.configuration) (filter (λ (x : Origin). not (is_current now x)) all) l
+      (among_kept (λ (x : Origin). not (is_current now x)) all l here (not_from_false (is_current now l) ended))))
 
-  -- with no open period, a living instance is of one that has ended
+  -- with no open period, a existing instance is of one that has ended
   leaving_if_gone : (n : ℕ) → is_open now n ≡ false → has_life all n ≡ true → has (with_leaving now all) n ≡ true
   leaving_if_gone n gone e =
       let found = life_witness n e in
@@ -90,20 +92,21 @@ module _ (now : List OpenPeriod) (all : List Life) where
       let same = and_parts (of_one.0.configuration == found.0.configuration) (nat_lt of_one.0.opened found.0.created) of_one.2 in
       false≢true (sym gone ∙ open_from now of_one.0 n of_one.1 (eqb-true of_one.0.configuration found.0.configuration same.0 ∙ found.2)))))
 
-  -- without a living instance none is
+  -- without a existing instance none is
   pub not_leaving_without : (n : ℕ) → has_life all n ≡ false → has (with_leaving now all) n ≡ false
   not_leaving_without n none =
       false_from_ne_true (has (with_leaving now all) n)
-      (λ e. (let found = leaving_witness n e in false≢true (sym none ∙ any_from (λ (l : Life). l.configuration == n) all found.0 found.1 (eq-eqb found.0.configuration n found.3))))
+      (λ e. (let found = leaving_witness n e in false≢true (sym none ∙ any_from (λ (l : Origin). l.configuration == n) all found.0 found.1 (eq-eqb found.0.configuration n found.3))))
 
-misled_lives : (before now : List OpenPeriod) (all : List Life) (c : Component) → is_misled before now all c ≡ true → has_life all c.number ≡ true
-misled_lives before now all c e =
-    let found = any_witness (λ (l : Life). (l.configuration == c.number) && (is_current before l && chose_outdated now c l)) all e in
-    any_from (λ (l : Life). l.configuration == c.number) all found.0 found.1 (and_parts (found.0.configuration == c.number) (is_current before found.0 && chose_outdated now c found.0) found.2).0
+misled_lives : (s : Stage) (now : List OpenPeriod) (c : Component) → some_misled s now c ≡ true → has_life s.origins c.number ≡ true
+misled_lives s now c e =
+    let found = any_witness (is_misled s.place s.open_before (services_in s now) c) s.origins e in
+    any_from (λ (l : Origin). l.configuration == c.number) s.origins found.0 found.1
+    (and_parts (is_of c found.0) (has_untold_change s.place c || (is_current s.open_before found.0 && chose_outdated (services_in s now) c found.0)) found.2).0
 
 -- ---- the open ones are those that stand and aren't held back
 
--- where b: was open, s: stands, g: fails in the entry, m: misled, d: failed, l: has a living instance, w: one of an ended period, f: is open
+-- where b: was open, s: stands, g: fails in the entry, m: misled, d: failed, l: has a existing instance, w: one of an ended period, f: is open
 agree : (b s g m d l w f : Bool) → f ≡ ((b && not (b && (not s || g || m))) || (not b && (s && (not d && not l)))) → (b ≡ true → d ≡ true → g ≡ true) → (g ≡ true → s ≡ true → d ≡ true)
     → (m ≡ true → l ≡ true) → (f ≡ false → l ≡ true → w ≡ true) → (l ≡ false → w ≡ false) → (b ≡ true → (b && (not s || g || m)) ≡ false → w ≡ false) → f ≡ (s && not (d || w))
 agree true false g m d l w f is unmarked marked misled gone without stays = is
@@ -117,50 +120,50 @@ agree false true g m true l w f is unmarked marked misled gone without stays = i
 agree false true g m false true w f is unmarked marked misled gone without stays = is ∙ ap not (sym (gone is refl))
 agree false true g m false false w f is unmarked marked misled gone without stays = is ∙ ap not (sym (without refl))
 
-module _ (s : Stage) (ready : IsReady s) (f : PassEnd) (are : f.«open» ≡ open_after s.place s.components f.closed f.opened s.before) (closed : f.closed ≡ numbers_of (filter (closes s f.«open») (in_order s)))
-    (opened : f.opened ≡ opened_from s.next (filter (opens s f.«open») (in_order s))) (there : (c : Component) → Among (in_order s) c → Among s.components c) where
+module _ (s : Stage) (ready : IsReady s) (f : Passed) (are : f.open_now ≡ open_after s.place s.components f.closed f.opened s.open_before) (closed : f.closed ≡ numbers_of (filter (closes s f.open_now) (pass_order_of s)))
+    (opened : f.opened ≡ opened_from s.next (filter (opens s f.open_now) (pass_order_of s))) (there : (c : Component) → Among (pass_order_of s) c → Among s.components c) where
   abbrev now : List OpenPeriod
-  now = f.«open»
+  now = f.open_now
 
-  has_closed : (c : Component) → Among (in_order s) c → has f.closed c.number ≡ closes s now c
-  has_closed c here = ap (λ w. has w c.number) closed ∙ has_filtered s.components (in_order s) ready.numbered there (closes s now) c here
+  has_closed : (c : Component) → Among (pass_order_of s) c → has f.closed c.number ≡ closes s now c
+  has_closed c here = ap (λ w. has w c.number) closed ∙ has_filtered s.components (pass_order_of s) ready.numbered there (closes s now) c here
 
-  has_opened : (c : Component) → Among (in_order s) c → has (map (λ (o : Opened). o.configuration) f.opened) c.number ≡ opens s now c
+  has_opened : (c : Component) → Among (pass_order_of s) c → has (map (λ (o : Opened). o.configuration) f.opened) c.number ≡ opens s now c
   has_opened c here =
-      ap (λ w. has (map (λ (o : Opened). o.configuration) w) c.number) opened ∙ ap (λ w. has w c.number) (opened_numbers s.next (filter (opens s now) (in_order s)))
-      ∙ has_filtered s.components (in_order s) ready.numbered there (opens s now) c here
+      ap (λ w. has (map (λ (o : Opened). o.configuration) w) c.number) opened ∙ ap (λ w. has w c.number) (opened_numbers s.next (filter (opens s now) (pass_order_of s)))
+      ∙ has_filtered s.components (pass_order_of s) ready.numbered there (opens s now) c here
 
   -- it stays open where it doesn't close, else it is open where it opens
-  pub open_decided : (c : Component) → Among (in_order s) c → is_open now c.number ≡ ((is_open s.before c.number && not (closes s now c)) || opens s now c)
+  pub open_decided : (c : Component) → Among (pass_order_of s) c → is_open now c.number ≡ ((is_open s.open_before c.number && not (closes s now c)) || opens s now c)
   open_decided c here =
-      ap (λ w. is_open w c.number) are ∙ open_by s.place s.components f.closed f.opened s.before c.number
-      ∙ ap (λ b. (is_open s.before c.number && not b) || has (map (λ (o : Opened). o.configuration) f.opened) c.number) (has_closed c here)
-      ∙ ap (λ b. (is_open s.before c.number && not (closes s now c)) || b) (has_opened c here)
+      ap (λ w. is_open w c.number) are ∙ open_by s.place s.components f.closed f.opened s.open_before c.number
+      ∙ ap (λ b. (is_open s.open_before c.number && not b) || has (map (λ (o : Opened). o.configuration) f.opened) c.number) (has_closed c here)
+      ∙ ap (λ b. (is_open s.open_before c.number && not (closes s now c)) || b) (has_opened c here)
 
-  kept_open : (o : OpenPeriod) → Among s.before o → has f.closed o.configuration ≡ false → Among now o
+  kept_open : (o : OpenPeriod) → Among s.open_before o → has f.closed o.configuration ≡ false → Among now o
   kept_open o here stays =
-      rw are (among_left (filter (λ (x : OpenPeriod). not (has f.closed x.configuration)) s.before) (map (opened_at s.place s.components) f.opened) o
-      (among_kept (λ (x : OpenPeriod). not (has f.closed x.configuration)) s.before o here (not_from_false (has f.closed o.configuration) stays)))
+      rw are (among_left (filter (λ (x : OpenPeriod). not (has f.closed x.configuration)) s.open_before) (map (opened_at s.place s.components) f.opened) o
+      (among_kept (λ (x : OpenPeriod). not (has f.closed x.configuration)) s.open_before o here (not_from_false (has f.closed o.configuration) stays)))
 
-  -- the living instances of what stays open are of its period
-  stays_current : (c : Component) → Among (in_order s) c → is_open s.before c.number ≡ true → closes s now c ≡ false → has (with_leaving now s.all) c.number ≡ false
+  -- the existing instances of what stays open are of its period
+  stays_current : (c : Component) → Among (pass_order_of s) c → is_open s.open_before c.number ≡ true → closes s now c ≡ false → has (with_leaving now s.origins) c.number ≡ false
   stays_current c here was stays =
-      false_from_ne_true (has (with_leaving now s.all) c.number)
-      (λ e. (let found = leaving_witness now s.all c.number e in
-      let current = ready.current found.0 (among_contains s.all found.0 found.1) (ap (is_open s.before) found.3 ∙ was) in
-      let of_one = any_witness (λ (o : OpenPeriod). (o.configuration == found.0.configuration) && nat_lt o.opened found.0.created) s.before current in
+      false_from_ne_true (has (with_leaving now s.origins) c.number)
+      (λ e. (let found = leaving_witness now s.origins c.number e in
+      let current = ready.current found.0 (among_contains s.origins found.0 found.1) (ap (is_open s.open_before) found.3 ∙ was) in
+      let of_one = any_witness (λ (o : OpenPeriod). (o.configuration == found.0.configuration) && nat_lt o.opened found.0.created) s.open_before current in
       let same = and_parts (of_one.0.configuration == found.0.configuration) (nat_lt of_one.0.opened found.0.created) of_one.2 in
       let number = eqb-true of_one.0.configuration found.0.configuration same.0 ∙ found.3 in
       let still = kept_open of_one.0 of_one.1 (ap (has f.closed) number ∙ has_closed c here ∙ stays) in
       false≢true (sym found.2 ∙ any_from (λ (o : OpenPeriod). (o.configuration == found.0.configuration) && nat_lt o.opened found.0.created) now of_one.0 still of_one.2)))
 
-  stands_lives : (c : Component) → Among (in_order s) c → stands now c ≡ true → lives s.components c.number ≡ true
-  stands_lives c here e = any_from (λ (d : Component). (d.number == c.number) && d.lives) s.components c (there c here) (and_from (c.number == c.number) c.lives (eq-eqb c.number c.number refl) (and_parts c.lives _ e).0)
+  stands_lives : (c : Component) → Among (pass_order_of s) c → stands s now c ≡ true → exists s.components c.number ≡ true
+  stands_lives c here e = any_from (λ (d : Component). (d.number == c.number) && d.exists) s.components c (there c here) (and_from (c.number == c.number) c.exists (eq-eqb c.number c.number refl) (and_parts c.exists _ e).0)
 
   -- it is open where it stands and isn't held back
-  pub held_final : (c : Component) → Among (in_order s) c → is_open now c.number ≡ (stands now c && not (has (out_of s now) c.number))
+  pub held_final : (c : Component) → Among (pass_order_of s) c → is_open now c.number ≡ (stands s now c && not (has (held_back_in s now) c.number))
   held_final c here =
-      agree (is_open s.before c.number) (stands now c) (has s.failing c.number) (is_misled s.before now s.all c) (has s.failed c.number) (has_life s.all c.number) (has (with_leaving now s.all) c.number) (is_open now c.number)
-      (open_decided c here) (ready.unmarked c.number) (λ fails e. ready.marked c.number fails (stands_lives c here e)) (misled_lives s.before now s.all c) (leaving_if_gone now s.all c.number)
-      (not_leaving_without now s.all c.number) (stays_current c here)
-      ∙ ap (λ b. stands now c && not b) (sym (list_any-append (λ n. n == c.number) s.failed (with_leaving now s.all)))
+      agree (is_open s.open_before c.number) (stands s now c) (has s.failing c.number) (some_misled s now c) (has s.failed c.number) (has_life s.origins c.number) (has (with_leaving now s.origins) c.number) (is_open now c.number)
+      (open_decided c here) (ready.unmarked c.number) (λ fails e. ready.marked c.number fails (stands_lives c here e)) (misled_lives s now c) (leaving_if_gone now s.origins c.number)
+      (not_leaving_without now s.origins c.number) (stays_current c here)
+      ∙ ap (λ b. stands s now c && not b) (sym (list_any-append (λ n. n == c.number) s.failed (with_leaving now s.origins)))

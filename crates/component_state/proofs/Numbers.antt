@@ -1,11 +1,10 @@
 -- Component configurations by their numbers.
 use Rattle.std.proofs.Common.{inl, inr, ◌≡◌, ◌<◌, ℕ, List, [], ◌∷◌, ◌++◌, arith, ap, sym, ◌∙◌, refl, Bool, true, false, Some}
 use Rattle.std.specs.Prelude.{filter, find, not, ◌==◌}
-use Rattle.std.specs.Option.{option_map_or}
 use Rattle.std.proofs.lemmas.Bool.{cases_Bool, cond-true, cond-false, eqb-true, eq-eqb, and_parts, and_from, not_from_false, not-true, false≢true, false_from_ne_true}
 use Rattle.component_state.specs.declared.component.Component.{Component}
-use Rattle.component_state.specs.Components.{numbers_of, interfaces_of, are_numbered}
-use Rattle.component_state.specs.Words.{has}
+use Rattle.component_state.specs.Components.{numbers_of, are_numbered}
+use Rattle.prop_map.specs.Words.{has}
 use Rattle.component_state.proofs.Among.{Among, among_append, among_filter, among_kept, any_witness, any_from, any_map}
 
 pub has_number : (cs : List Component) (c : Component) → Among cs c → has (numbers_of cs) c.number ≡ true
@@ -31,7 +30,8 @@ same_component (c ∷ cs) numbered x y (inl a) (inr b) same = absurd (not_later 
 same_component (c ∷ cs) numbered x y (inr a) (inl b) same = absurd (not_later c cs x numbered a (same ∙ ap (λ (d : Component). d.number) (sym b)))
 same_component (c ∷ cs) numbered x y (inr a) (inr b) same = same_component cs (rest_numbered c cs numbered) x y a b same
 
-found_by_number : (cs : List Component) → are_numbered cs ≡ true → (x : Component) → Among cs x → find (λ (d : Component). d.number == x.number) cs ≡ Some x
+-- and is found by it
+pub found_by_number : (cs : List Component) → are_numbered cs ≡ true → (x : Component) → Among cs x → find (λ (d : Component). d.number == x.number) cs ≡ Some x
 found_by_number [] numbered x here = absurd here
 found_by_number (c ∷ cs) numbered x (inl same) =
     cond-true (c.number == x.number) (Some c) (find (λ (d : Component). d.number == x.number) cs) (eq-eqb c.number x.number (ap (λ (d : Component). d.number) same)) ∙ ap (λ (d : Component). Some d) same
@@ -39,10 +39,6 @@ found_by_number (c ∷ cs) numbered x (inr later) =
     cond-false (c.number == x.number) (Some c) (find (λ (d : Component). d.number == x.number) cs)
     (false_from_ne_true (c.number == x.number) (λ e. not_later c cs x numbered later (sym (eqb-true c.number x.number e))))
     ∙ found_by_number cs (rest_numbered c cs numbered) x later
-
--- the interfaces of a number are those of the component configuration
-pub interfaces_are : (cs : List Component) → are_numbered cs ≡ true → (x : Component) → Among cs x → interfaces_of cs x.number ≡ x.description.service_interfaces
-interfaces_are cs numbered x here = ap (λ o. option_map_or (λ (c : Component). c.description.service_interfaces) o []) (found_by_number cs numbered x here)
 
 -- whether a filter keeps one is told by its number
 pub has_filtered : (cs order : List Component) → are_numbered cs ≡ true → ((x : Component) → Among order x → Among cs x) → (t : Component → Bool) (x : Component) → Among order x

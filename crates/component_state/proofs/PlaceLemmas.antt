@@ -1,7 +1,7 @@
 -- Items with their places, one after the other.
 use Rattle.std.proofs.Common.{◌≡◌, ◌<◌, ℕ, suc, ◌+◌, List, [], ◌∷◌, length, get_or, drop, ap, sym, ◌∙◌, Bool, ◌||◌, drop-cons, add-one, inl, inr}
 use Rattle.std.specs.List.{list_any}
-use Rattle.component_state.specs.Words.{with_places}
+use Rattle.prop_map.specs.Words.{with_places}
 use Rattle.component_state.proofs.Among.{Among}
 
 -- a test of the next item and of the rest

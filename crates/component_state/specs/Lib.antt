@@ -1,10 +1,9 @@
-pub mod Words
 pub mod Components
+pub mod ComponentConfigurations
+pub mod Rows
 pub mod Periods
-pub mod Targets
 pub mod Scratch
 pub mod Marks
 pub mod Reasons
 pub mod Passes
-pub mod Runs
-pub mod Ranked
+pub mod Inside

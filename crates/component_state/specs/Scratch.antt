@@ -1,36 +1,38 @@
--- The satisfied component configurations, evaluated from scratch, level by level. OSGi Compendium 8, chapter 112, satisfied component configurations.
-use Rattle.std.specs.Prelude.{ℕ, zero, suc, ◌&&◌, ◌||◌, List, [], ◌++◌, Bool, not, filter}
-use Rattle.std.specs.List.{list_any, list_all}
+-- The satisfied component configurations, evaluated from scratch, level by level. OSGi Compendium 8, chapter 112, "Satisfied"; levels are our own.
+use Rattle.std.specs.Prelude.{ℕ, zero, suc, ◌&&◌, List, [], ◌++◌, map, Bool, not, filter}
+use Rattle.std.specs.List.{list_all}
 use Rattle.component_dto.specs.declared.description.Description.{Description}
-use Rattle.component_dto.specs.declared.description.Reference.{Reference}
-use Rattle.level_order.specs.Levels.{provides}
+use Rattle.prop_map.specs.Words.{has}
+use Rattle.reference_match.specs.Targets.{is_met}
+use Rattle.service_registry.specs.declared.row.ServiceRow.{ServiceRow}
 use Rattle.component_state.specs.declared.component.Component.{Component}
-use Rattle.component_state.specs.Components.{lacks_configuration, living, of_level, numbers_of, top}
-use Rattle.component_state.specs.Targets.{is_optional}
-use Rattle.component_state.specs.Words.{has}
+use Rattle.component_state.specs.declared.open_period.OpenPeriod.{OpenPeriod}
+use Rattle.component_state.specs.Components.{needs_of, lacks_configuration, existing, of_level, numbers_of, level_count}
+use Rattle.component_state.specs.Rows.{row_by, service_in}
 
--- a reference has its minimum of targets among the services that these offer: none where it is optional, else one
-abbrev pub meets : List Component → Reference → Bool
-meets offering r = is_optional r.cardinality || list_any (λ (o : Component). provides o.description r.interface_name) offering
-
--- it has the configuration that its policy asks for, and each reference has its minimum of targets
-abbrev pub is_satisfied : List Component → Component → Bool
-is_satisfied offering c = not (lacks_configuration c) && list_all (meets offering) c.description.references
+-- it has the configuration that its policy asks for, and each reference, the implicit one too, has its minimum of targets among these services
+abbrev pub is_satisfied : List ServiceRow → Component → Bool
+is_satisfied rows c = not (lacks_configuration c) && list_all (is_met rows) (needs_of c)
 
 -- those that offer their services: the ones that aren't left out
 abbrev pub offering : List ℕ → List Component → List Component
-offering out cs = filter (λ (c : Component). not (has out c.number)) cs
+offering left_out cs = filter (λ (c : Component). not (has left_out c.number)) cs
 
--- the satisfied ones of the levels below this one, by level, then by number, where those in `out` offer nothing
-abbrev pub satisfied_below : List Description → List ℕ → List Component → List ℕ → ℕ → List Component
-satisfied_below ds levels cs out zero = []
-satisfied_below ds levels cs out (suc n) =
-    let below = satisfied_below ds levels cs out n in below ++ filter (is_satisfied (offering out below)) (of_level ds levels cs n)
+-- a service with the number that it has where these are open
+abbrev pub offered : List OpenPeriod → Component → ServiceRow
+offered open_now c = row_by c (service_in open_now c.number) 0
+
+-- the satisfied ones of the levels below this one, by level, then by number, where those in `left_out` offer nothing
+abbrev pub satisfied_below : List Description → List ℕ → List ServiceRow → List OpenPeriod → List Component → List ℕ → ℕ → List Component
+satisfied_below ds levels direct open_now cs left_out zero = []
+satisfied_below ds levels direct open_now cs left_out (suc n) =
+    let below = satisfied_below ds levels direct open_now cs left_out n in
+    below ++ filter (is_satisfied (direct ++ map (offered open_now) (offering left_out below))) (of_level ds levels cs n)
 
 -- the satisfied component configurations
-abbrev pub satisfied : List Description → List ℕ → List Component → List ℕ → List Component
-satisfied ds levels cs out = satisfied_below ds levels (living cs) out (suc (top levels))
+abbrev pub satisfied : List Description → List ℕ → List ServiceRow → List OpenPeriod → List Component → List ℕ → List Component
+satisfied ds levels direct open_now cs left_out = satisfied_below ds levels direct open_now (existing cs) left_out (suc (level_count levels))
 
 -- the satisfied ones that aren't left out
-abbrev pub scratch : List Description → List ℕ → List Component → List ℕ → List ℕ
-scratch ds levels cs out = numbers_of (offering out (satisfied ds levels cs out))
+abbrev pub open_from_scratch : List Description → List ℕ → List ServiceRow → List OpenPeriod → List Component → List ℕ → List ℕ
+open_from_scratch ds levels direct open_now cs left_out = numbers_of (offering left_out (satisfied ds levels direct open_now cs left_out))

@@ -1,11 +1,6 @@
-//! Component configurations (OSGi Compendium 8, chapter 112).
-ghost use Rattle.std.specs.Prelude.{◌≡◌, ◌==◌, IfOk, find};
-ghost use Rattle.std.specs.Option.{option_copied};
-ghost use Rattle.component_state.specs.declared.component.Component.{Component};
-ghost use Rattle.component_state.specs.Components.{interfaces_of, lives};
-
+//! Component configurations (OSGi Compendium 8, chapter 112, "Components").
 use component_dto::Description;
-use prop_map::{Copies, List, OutOfMemory, Str};
+use prop_map::{Copies, OutOfMemory, Properties, Str};
 use std::alloc::Global;
 
 /// A component configuration.
@@ -15,12 +10,20 @@ pub struct Component {
     pub number: u64,
     /// The number of its bundle.
     pub bundle: u64,
-    /// The place of its description in the bundle's document, from 0 on.
-    pub place: u64,
+    /// The index of its description in the bundle's document, from 0 on.
+    pub index: u64,
+    /// The PID of the factory's configuration that names it, if one does.
+    pub pid: Option<Str>,
     /// It hasn't ceased.
-    pub lives: bool,
+    pub exists: bool,
     /// Its description.
     pub description: Description,
+    /// Each of its PIDs has a configuration that counts.
+    pub configured: bool,
+    /// Its properties, its name and its number among them.
+    pub properties: Properties,
+    /// The place of the entry that changed its properties last, if one did since it came.
+    pub changed: Option<u64>,
 }
 
 impl Copies for Component {
@@ -28,43 +31,13 @@ impl Copies for Component {
         Ok(Component {
             number: self.number,
             bundle: self.bundle,
-            place: self.place,
-            lives: self.lives,
+            index: self.index,
+            pid: self.pid.copy(alloc)?,
+            exists: self.exists,
             description: self.description.copy(alloc)?,
+            configured: self.configured,
+            properties: self.properties.copy(alloc)?,
+            changed: self.changed,
         })
     }
-}
-
-/// Whether a component configuration of this number is there and hasn't ceased.
-pub fn lives(components: &[Component], number: u64) -> bool
-    ensures { result ≡ lives components.now number }
-{
-    components
-        .iter()
-        .any(|component| component.number == number && component.lives)
-}
-
-/// The interfaces of the service of the first component configuration with this number, none where there is none.
-///
-/// # Errors
-/// Only want of memory.
-pub fn interfaces_of(
-    alloc: Global,
-    components: &[Component],
-    number: u64,
-) -> Result<List<Str>, OutOfMemory>
-    ensures { IfOk result (λ interfaces. interfaces ≡ interfaces_of components.now number) }
-{
-    match numbered(components, number) {
-        Some(component) => component.description.service_interfaces.copy(alloc),
-        None => Ok(List::of(Vec::new(alloc))),
-    }
-}
-
-fn numbered(components: &[Component], number: u64) -> Option<&Component>
-    ensures { option_copied result ≡ find (λ (c : Component). c.number == number) components.now }
-{
-    components
-        .iter()
-        .find(|component| component.number == number)
 }

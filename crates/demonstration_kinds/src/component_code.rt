@@ -83,6 +83,8 @@ impl Kinds for Demonstration {
 
     ghost refuses = { λ _ properties told. refuses_told properties told };
 
+    ghost hears = { λ _ _ _ _. Unit {0} };
+
     ghost next = { next };
 
     ghost stands_for = { λ work. unanswered work.site work.request };

@@ -2,7 +2,5 @@
 #![tactic(auto)]
 
 mod component_code;
-#[cfg(test)]
-mod tests;
 
 pub use component_code::{Demonstration, Relay};

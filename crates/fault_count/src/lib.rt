@@ -2,14 +2,13 @@
 #![tactic(auto)]
 
 mod decimal_text;
+mod interruptions;
 mod memory_sink;
 mod memory_source;
 mod sink;
 mod source;
 mod std_sink;
 mod std_source;
-#[cfg(test)]
-mod tests;
 
 pub use decimal_text::decimal;
 pub use memory_sink::MemorySink;

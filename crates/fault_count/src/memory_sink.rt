@@ -1,7 +1,7 @@
 //! A sink in memory.
 ghost use Rattle.std.specs.Prelude.{◌≡◌, ◌<◌, ◌≤◌, Some, take, length, []};
 ghost use Rattle.fault_count.specs.Memory.{Answers, MemoryOutput, after_write};
-ghost use Rattle.fault_count.specs.Steps.{Rose, TakesBytes};
+ghost use Rattle.fault_count.specs.Steps.{Rose, TakesBytes, faults_after_write};
 
 use crate::{Sink, WriteStep};
 use std::marker::Model;
@@ -59,6 +59,7 @@ impl Sink for MemorySink {
         ensures bytes { TakesBytes (Some self.old.written) (Some self.new.written) result bytes.now }
         ensures cause { result ≡ WriteStep.Failed → Rose self.old.fault_count self.new.fault_count }
         ensures later { self.old.fault_count ≤ self.new.fault_count }
+        ensures faults { self.new.fault_count ≡ faults_after_write self.old.fault_count result }
         ensures step { Answers self.old bytes.now result }
         ensures after { self.new ≡ after_write self.old bytes.now result self.new.capacity }
     {

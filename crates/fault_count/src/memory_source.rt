@@ -1,7 +1,7 @@
 //! A source in memory.
 ghost use Rattle.std.specs.Prelude.{◌≡◌, ◌<◌, ◌≤◌, Some, drop, take, length};
 ghost use Rattle.fault_count.specs.Memory.{MemoryInput, after_read, read_step};
-ghost use Rattle.fault_count.specs.Steps.{GivesBytes, LowersNumber, Rose};
+ghost use Rattle.fault_count.specs.Steps.{GivesBytes, LowersNumber, Rose, faults_after_read};
 
 use crate::{ReadStep, Source};
 use std::marker::Model;
@@ -58,6 +58,7 @@ impl Source for MemorySource {
         ensures number { LowersNumber (length self.old.left) (length self.new.left) result }
         ensures cause { result ≡ ReadStep.Failed → Rose self.old.fault_count self.new.fault_count }
         ensures later { self.old.fault_count ≤ self.new.fault_count }
+        ensures faults { self.new.fault_count ≡ faults_after_read self.old.fault_count result }
         ensures step { result ≡ read_step self.old (length room.old) }
         ensures after { self.new ≡ after_read self.old result }
     {

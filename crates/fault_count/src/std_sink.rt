@@ -3,11 +3,13 @@ ghost use Rattle.std.specs.Prelude.{◌≡◌, ◌<◌, ◌≤◌, length};
 ghost use Rattle.fault_count.specs.Standard.{CountedWriter};
 ghost use Rattle.fault_count.specs.Steps.{Rose, TakesBytes, faults_after_write};
 
+use crate::interruptions::MOST_TRIES;
 use crate::{Sink, WriteStep};
-use std::io::Write;
+use std::io::{ErrorKind, Write};
 use std::marker::Model;
 
-/// A writer as a sink. It tells the bytes written where the writer does.
+/// A writer as a sink. It tells the bytes written where the writer does. A write that a signal interrupts is tried
+/// again, a hundred times at most. A writer that takes nothing yet and doesn't wait fails.
 #[derive(Drop)]
 pub struct StdSink<W> {
     inner: W,
@@ -43,16 +45,30 @@ impl<W: Write> Sink for StdSink<W> {
         ensures later { self.old.fault_count ≤ self.new.fault_count }
         ensures faults { self.new.fault_count ≡ faults_after_write self.old.fault_count result }
     {
-        match self.inner.write(bytes) {
-            Ok(0) | Err(_) => {
-                self.faults = self.faults.saturating_add(1);
-                WriteStep::Failed
-            }
-            Ok(count) => WriteStep::Took(count),
+        let step = write_some(&mut self.inner, bytes);
+        if step == WriteStep::Failed {
+            self.faults = self.faults.saturating_add(1);
         }
+        step
     }
 
     fn faults(&self) -> u64 {
         self.faults
     }
+}
+
+// Writes some of these bytes, from the front.
+fn write_some<W: Write>(inner: &mut W, bytes: &[u8]) -> WriteStep
+    requires { 0 < length bytes.now }
+    ensures { TakesBytes (W.contents inner.old) (W.contents inner.new) result bytes.now }
+{
+    'tries: for _ in 0..MOST_TRIES {
+        match inner.write(bytes) {
+            Ok(0) => return WriteStep::Failed,
+            Ok(count) => return WriteStep::Took(count),
+            Err(error) if error.kind() == ErrorKind::Interrupted => {}
+            Err(_) => return WriteStep::Failed,
+        }
+    }
+    WriteStep::Failed
 }

@@ -5,12 +5,14 @@ ghost use Rattle.std.specs.Io.KnownBytes.{ReadConsumes};
 ghost use Rattle.fault_count.specs.Standard.{CountedReader};
 ghost use Rattle.fault_count.specs.Steps.{GivesBytes, LowersNumber, Rose, faults_after_read};
 
+use crate::interruptions::MOST_TRIES;
 use crate::{ReadStep, Source};
-use std::io;
-use std::io::Read;
+use std::io::{ErrorKind, Read};
 use std::marker::Model;
 
 /// A reader as a source. It tells the bytes that are left where the reader does, and gives 2^64 - 1 bytes at most.
+/// A read that a signal interrupts is tried again, a hundred times at most. A reader that has nothing yet and doesn't
+/// wait fails.
 #[derive(Drop)]
 pub struct StdSource<R> {
     inner: R,
@@ -82,9 +84,13 @@ fn read_at_most<R: Read>(inner: &mut R, room: &mut [u8], number: u64) -> ReadSte
     let most = usize::try_from(number)
         .unwrap_or(usize::MAX)
         .min(room.len());
-    match inner.read(&mut room[..most]) {
-        Ok(0) => ReadStep::End,
-        Ok(count) => ReadStep::Got(count),
-        Err(_) => ReadStep::Failed,
+    'tries: for _ in 0..MOST_TRIES {
+        match inner.read(&mut room[..most]) {
+            Ok(0) => return ReadStep::End,
+            Ok(count) => return ReadStep::Got(count),
+            Err(error) if error.kind() == ErrorKind::Interrupted => {}
+            Err(_) => return ReadStep::Failed,
+        }
     }
+    ReadStep::Failed
 }

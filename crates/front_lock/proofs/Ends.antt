@@ -23,8 +23,8 @@ module _ {T E : Type 0} (entries : T → List (ℕ × E)) (tie : T → List ℕ)
   M = Me (Option T) (FrontView E)
 
   -- the first pass, at a value without entries
-  pub begins : (x : T) → entries x ≡ [] → Kept entries tie record { words = 1 ∷ 1 ∷ []; homes = some (Some x) ∷ []; views = known (tie x) 64 (Some 0) [] [] Idle ∷ [] }
-  begins x empty = let v : FrontView E = known (tie x) 64 (Some 0) [] [] Idle in record {
+  pub begins : (x : T) → entries x ≡ [] → Kept entries tie record { words = 1 ∷ 1 ∷ []; homes = some (Some x) ∷ []; views = known (tie x) 64 0 (Some 0) [] [] Idle ∷ [] }
+  begins x empty = let v : FrontView E = known (tie x) 64 0 (Some 0) [] [] Idle in record {
     next = 1;
     serving = 1;
     top = 1;

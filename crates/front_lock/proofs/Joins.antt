@@ -27,7 +27,7 @@ module _ {T E : Type 0} (entries : T → List (ℕ × E)) (tie : T → List ℕ)
   pub joins : (id : ℕ) (v : FrontView E) (other : ℕ) (w : FrontView E) (t : ℕ) (fresh : Bool) (l : List (ℕ × E)) (ns : List ℕ) (also : List (ℕ × E)) → v.stage ≡ Holds t fresh l ns also → 0 < v.parts → w.stage ≡ Idle
       → Joins (Kept entries tie) id v other w (joined_at v w (Holds t fresh l ns also)) nobody
   joins id v other w t fresh l ns also holding some_part idle s r at differ there_w =
-      let a : FrontView E = known v.tie (v.parts + w.parts) v.own (v.joined ++ ended w.own w.seen w.joined) (longer v.seen w.seen) (Holds t fresh l (names w) w.seen) in
+      let a : FrontView E = known v.tie (v.parts + w.parts) (v.entered + w.entered) v.own (v.joined ++ ended w.own w.seen w.joined) (longer v.seen w.seen) (Holds t fresh l (names w) w.seen) in
       let nm : names a ≡ names v ++ names w = names_join v.own v.joined w.own w.seen w.joined in
       let b : FrontView E = nobody in
       let mid : List (FrontView E) = set s.views id a in

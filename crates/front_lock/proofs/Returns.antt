@@ -25,12 +25,12 @@ module _ {T E : Type 0} (entries : T → List (ℕ × E)) (tie : T → List ℕ)
   M = Me (Option T) (FrontView E)
 
   -- the value comes back, with further entries of the pass
-  returned : (s : St) (r : Kept entries tie s) (id : ℕ) (v : FrontView E) (more : List (ℕ × Option T)) (x : T) (t : ℕ) (fresh : Bool) (l : List (ℕ × E)) (ns : List ℕ) (also seen : List (ℕ × E)) (n : ℕ)
+  returned : (s : St) (r : Kept entries tie s) (id : ℕ) (v : FrontView E) (more : List (ℕ × Option T)) (x : T) (t : ℕ) (fresh : Bool) (l : List (ℕ × E)) (ns : List ℕ) (also seen : List (ℕ × E)) (n times : ℕ)
       → get_elem? s.views id ≡ some v → v.stage ≡ Holds t fresh l ns also → 0 < v.parts → v.own ≡ Some n → GrownBy n l (entries x) → Extends (names v) seen (entries x) → tie x ≡ v.tie
-      → Kept entries tie (stepped s 1 (t + 1) id ((0, Some x) ∷ more) (known v.tie v.parts v.own v.joined seen Idle) gives)
-  returned s r id v more x t fresh l ns also seen n at holding some_part own grown ext tied_x =
+      → Kept entries tie (stepped s 1 (t + 1) id ((0, Some x) ∷ more) (known v.tie v.parts times v.own v.joined seen Idle) gives)
+  returned s r id v more x t fresh l ns also seen n times at holding some_part own grown ext tied_x =
       let mine : In n (names v) = own_named v.own v.joined n own in
-      let w : FrontView E = known v.tie v.parts v.own v.joined seen Idle in
+      let w : FrontView E = known v.tie v.parts times v.own v.joined seen Idle in
       let f = r.each id v at in
       let st : Staged r.next r.serving r.top r.log s.homes (Holds t fresh l ns also) = subst (Staged r.next r.serving r.top r.log s.homes) holding f.staged in
       let served : t ≡ r.serving = st.0 in let near : t < r.next = st.1 in let b = r.top_near in
@@ -80,11 +80,11 @@ module _ {T E : Type 0} (entries : T → List (ℕ × E)) (tie : T → List ℕ)
       → v.stage ≡ Holds t fresh l ns also → 0 < v.parts → v.own ≡ Some n → GrownBy n l (entries x) → tie x ≡ v.tie
       → Allows (Kept entries tie) slots id (v, (0, Some x) ∷ more) 1 (λ _. t + 1) (λ _. GaveBack entries tie (step slots 1 (t + 1) 0 none) (v, (0, Some x) ∷ more) (t + 1))
   gives_back slots id v more x t fresh l ns also n holding some_part own grown tied_x s r wide at fits = (
-    known v.tie v.parts v.own v.joined (entries x) Idle,
+    known v.tie v.parts (v.entered + 1) v.own v.joined (entries x) Idle,
     gives,
     tt,
-    returned s r id v more x t fresh l ns also (entries x) n at holding some_part own grown (extends_all (names v) (entries x)) tied_x,
-    λ y e. ap (λ (z : T). (known v.tie v.parts v.own v.joined (entries z) Idle, more)) (one x y more e),
+    returned s r id v more x t fresh l ns also (entries x) n (v.entered + 1) at holding some_part own grown (extends_all (names v) (entries x)) tied_x,
+    λ y e. ap (λ (z : T). (known v.tie v.parts (v.entered + 1) v.own v.joined (entries z) Idle, more)) (one x y more e),
   )
     where
       one : (x y : T) (more : List (ℕ × Option T)) → (0, Some x) ∷ more ≡ (0, Some y) ∷ more → x ≡ y
@@ -99,7 +99,7 @@ module _ {T E : Type 0} (entries : T → List (ℕ × E)) (tie : T → List ℕ)
         at_stage v Idle,
         gives,
         tt,
-        returned s r id v more x t fresh l ns also v.seen n at holding some_part own record { added = []; is = same ∙ nil l; owned = tt } (subst (Extends (names v) v.seen) (sym (same ∙ st.2)) f.extends) tied_x,
+        returned s r id v more x t fresh l ns also v.seen n v.entered at holding some_part own record { added = []; is = same ∙ nil l; owned = tt } (subst (Extends (names v) v.seen) (sym (same ∙ st.2)) f.extends) tied_x,
         (
           refl,
           λ u fresh' l' ns' also' e. let st' : Staged r.next r.serving r.top r.log s.homes (Holds u fresh' l' ns' also') = subst (Staged r.next r.serving r.top r.log s.homes) e f.staged in

@@ -26,10 +26,10 @@ module _ {T : Type 0} where
   module _ {E : Type 0} (entries : T → List (ℕ × E)) (tie : T → List ℕ) where
     abbrev pub Out : ℕ → Me (Option T) (FrontView E) → Me (Option T) (FrontView E) → T → Type 0
     Out t m m' x = (m' ≡ (at_stage m.0 (Holds t true (entries x) [] []), (0, None) ∷ []))
-        × Extends (names m.0) m.0.seen (entries x) × Owners (λ n. n < t) (entries x) × ((n : ℕ) → In n (names m.0) → n < t) × (tie x ≡ m.0.tie)
+        × Extends (names m.0) m.0.seen (entries x) × Owners (λ n. n < t) (entries x) × ((n : ℕ) → In n (names m.0) → n < t) × (tie x ≡ m.0.tie) × (m.0.parts ≡ 64 → Owners (λ n. In n (names m.0)) (entries x))
 
     abbrev pub Told : ℕ → Me (Option T) (FrontView E) → Me (Option T) (FrontView E) → Type 0
-    Told r m m' = (x : T) × (m' ≡ (at_stage m.0 (Holds r true (entries x) [] []), (0, Some x) ∷ m.1)) × Extends (names m.0) m.0.seen (entries x) × Owners (λ n. n < r) (entries x) × ((n : ℕ) → In n (names m.0) → n < r) × (tie x ≡ m.0.tie)
+    Told r m m' = (x : T) × (m' ≡ (at_stage m.0 (Holds r true (entries x) [] []), (0, Some x) ∷ m.1)) × Extends (names m.0) m.0.seen (entries x) × Owners (λ n. n < r) (entries x) × ((n : ℕ) → In n (names m.0) → n < r) × (tie x ≡ m.0.tie) × (m.0.parts ≡ 64 → Owners (λ n. In n (names m.0)) (entries x))
 
     -- what was told at the load, after the value was taken from the slot
     pub taken : (start m m' m'' : Me (Option T) (FrontView E)) (r t : ℕ) (got : Option T) (value : T) → m ≡ start → start.1 ≡ [] → r ≡ t → Told r m m'
@@ -44,5 +44,6 @@ module _ {T : Type 0} where
           told.3,
           told.4,
           told.5,
+          told.6,
         ) in
         subst (λ (y : T). Out t start m'' y) v (subst (λ (y : ℕ). Out y start m'' x) hit (subst (λ (y : Me (Option T) (FrontView E)). Out r y m'' x) same o))

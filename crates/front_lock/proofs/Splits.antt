@@ -27,8 +27,8 @@ module _ {T E : Type 0} (entries : T → List (ℕ × E)) (tie : T → List ℕ)
   pub splits : (id : ℕ) (v : FrontView E) (t : ℕ) (l : List (ℕ × E)) (ns : List ℕ) (also : List (ℕ × E)) → v.stage ≡ Holds t true l ns also → 1 < v.parts
       → Splits (Kept entries tie) id v (left_at v (Holds t true l ns also)) (right_at v (Holds t true l ns also))
   splits id v t l ns also holding enough s r at =
-      let a : FrontView E = known v.tie (v.parts - 1) v.own v.joined v.seen (Holds t false l ns also) in
-      let b : FrontView E = known v.tie 1 (Some t) [] v.seen Idle in
+      let a : FrontView E = known v.tie (v.parts - 1) v.entered v.own v.joined v.seen (Holds t false l ns also) in
+      let b : FrontView E = known v.tie 1 0 (Some t) [] v.seen Idle in
       let mid : List (FrontView E) = set s.views id a in
       let views : List (FrontView E) = mid ++ b ∷ [] in
       let f = r.each id v at in

@@ -1,5 +1,5 @@
 -- A ticket is drawn, and the value is taken where it is served.
-use Rattle.std.proofs.Common.{◌≡◌, ℕ, ◌+◌, ◌^◌, ◌<◌, eqb, Bool, true, List, [], ◌∷◌, get_or, set, refl, sym, ap, ◌∙◌, subst, inl, inr, ⊎_elim, arith}
+use Rattle.std.proofs.Common.{◌≡◌, ◌≢◌, ℕ, ◌+◌, ◌^◌, ◌<◌, eqb, Bool, true, List, [], ◌∷◌, get_or, set, refl, sym, ap, ◌∙◌, subst, inl, inr, ⊎_elim, arith}
 use mathlib.Core.Option.{some, none, some-injective, some-ne-none}
 use mathlib.Core.Option as maybe
 use mathlib.Core.Logic.{dite}
@@ -17,7 +17,7 @@ use Rattle.front_lock.specs.Passes.{at_stage, names}
 use Rattle.front_lock.specs.Rule.{HasTicket, Staged, Fits, AtHome, Kept}
 use Rattle.front_lock.specs.Steps.{Drew, Turned}
 use Rattle.front_lock.proofs.Histories.{owners_map}
-use Rattle.front_lock.proofs.Views.{there, each_set}
+use Rattle.front_lock.proofs.Views.{there, each_set, parts_two}
 use Rattle.front_lock.proofs.Unchanged.{waits_later, ticket_below, foreign_to_none, not_held, at_serving, Goes, apart_on, turns_mid, whole', owners', out', again}
 
 module _ {T E : Type 0} (entries : T → List (ℕ × E)) (tie : T → List ℕ) where
@@ -76,6 +76,16 @@ module _ {T E : Type 0} (entries : T → List (ℕ × E)) (tie : T → List ℕ)
       differ : (t u : ℕ) (fresh : Bool) (l : List (ℕ × E)) (ns : List ℕ) (also : List (ℕ × E)) → Waits t ≡ Holds u fresh l ns also → ⊥
       differ t u fresh l ns also e = cc
 
+  -- where one pass has all parts, each entry is of one of its names
+  all_mine : (s : St) (r : Kept entries tie s) (id : ℕ) (v : FrontView E) → get_elem? s.views id ≡ some v → v.parts ≡ 64 → Owners (λ n. In n (names v)) r.log
+  all_mine s r id v at all =
+      let alone : (j : ℕ) (u : FrontView E) → get_elem? s.views j ≡ some u → j ≢ id → u.parts ≡ 0 = λ j u e ne. (let h = parts_two s.views j id u v ne e at in let w = r.whole in omega arith) in
+      let same : (j : ℕ) (u : FrontView E) → get_elem? s.views j ≡ some u → j ≡ id → v ≡ u = λ j u e hit. some-injective v u (sym at ∙ subst (λ k. get_elem? s.views k ≡ some u) hit e) in
+      owners_map (λ n. (j : ℕ) × (u : FrontView E) × (get_elem? s.views j ≡ some u) × In n (names u)) (λ n. In n (names v)) r.log
+      (λ n o. dite (ℕ_discrete o.0 id)
+      (λ hit. subst (λ (y : FrontView E). In n (names y)) (sym (same o.0 o.1 o.2 hit)) o.3)
+      (λ miss. absurd (subst (In n) ((r.each o.0 o.1 o.2).spent (alone o.0 o.1 o.2 miss)).0 o.3))) r.owners
+
   pub takes_turn : (slots id : ℕ) (me : M) (t : ℕ) → me.0.stage ≡ Waits t → 0 < me.0.parts → Allows (Kept entries tie) slots id me 1 (λ n. n) (Turned entries tie (step slots 1 0 0 none) me)
   takes_turn slots id me t waits some_part s r wide at fits = let y : ℕ = get_or s.words 1 0 in let told = Turned entries tie (step slots 1 0 0 none) me in
       let y_is : y ≡ r.serving = ap (λ (l : List ℕ). get_or l 1 0) r.words in
@@ -110,7 +120,7 @@ module _ {T E : Type 0} (entries : T → List (ℕ × E)) (tie : T → List ℕ)
           owners = owners' entries tie s r id me.0 w at refl refl;
         },
         λ u e. (
-          (λ _. (x, refl, subst (Extends (names me.0) me.0.seen) (sym home.2) mine.extends, subst (Owners (λ n. n < y)) (sym home.2) (owners_map (Owned_in s.views) (λ n. n < y) r.log (λ n o. let b : n < r.top = (r.each o.0 o.1 o.2).below n o.3 in let c = home.3 in omega arith) r.owners), (λ n p. let b : n < r.top = mine.below n p in let c = home.3 in omega arith), home.4 ∙ sym (mine.tie some_part))),
+          (λ _. (x, refl, subst (Extends (names me.0) me.0.seen) (sym home.2) mine.extends, subst (Owners (λ n. n < y)) (sym home.2) (owners_map (Owned_in s.views) (λ n. n < y) r.log (λ n o. let b : n < r.top = (r.each o.0 o.1 o.2).below n o.3 in let c = home.3 in omega arith) r.owners), (λ n p. let b : n < r.top = mine.below n p in let c = home.3 in omega arith), home.4 ∙ sym (mine.tie some_part), (λ all. subst (Owners (λ n. In n (names me.0))) (sym home.2) (all_mine s r id me.0 at all)))),
           (λ miss. absurd (miss (hit ∙ same_ticket u e))),
         ),
       ) in

@@ -29,7 +29,7 @@ module _ {T E : Type 0} (entries : T → List (ℕ × E)) (tie : T → List ℕ)
   gives_back_as slots id me f x t is grown tied_x = subst (λ (m : M). Allows (Kept entries tie) slots id m 1 (λ _. t + 1) (λ _. GaveBack entries tie (step slots 1 (t + 1) 0 none) m (t + 1))) (sym is)
       (gives_back entries tie slots id (holding_of t f) [] x t true f.began [] [] f.pass.number refl (omega arith) refl grown tied_x)
 
-  pub gave_is : (slots : ℕ) (me me' : M) (f : TurnView E) (x : T) (t r : ℕ) → me ≡ in_turn t f (Some x) → GaveBack entries tie (step slots 1 r 0 none) me r me' → me' ≡ (known f.pass.tie (f.pass.spare + 1) (Some f.pass.number) f.pass.joined (entries x) Idle, [])
+  pub gave_is : (slots : ℕ) (me me' : M) (f : TurnView E) (x : T) (t r : ℕ) → me ≡ in_turn t f (Some x) → GaveBack entries tie (step slots 1 r 0 none) me r me' → me' ≡ (known f.pass.tie (f.pass.spare + 1) (f.pass.entered + 1) (Some f.pass.number) f.pass.joined (entries x) Idle, [])
   gave_is slots me me' f x t r is told = (subst (λ (m : M). GaveBack entries tie (step slots 1 r 0 none) m r me') is told) x refl
 
   -- the turn as its holder sees it, with the value in the slot again
@@ -75,10 +75,10 @@ module _ {T E : Type 0} (entries : T → List (ℕ × E)) (tie : T → List ℕ)
   splits_as id v f t x is enough = subst (λ (u : FrontView E). Splits (Kept entries tie) id u (left_at u u.stage) (right_at u u.stage)) (sym is) (splits entries tie id (holding_of t (turn_with f x)) t (entries x) [] [] refl (omega arith))
 
   -- the two passes after a split
-  pub left_is : (me me' : M) (f : PassView E) (t : ℕ) (x : T) → me ≡ in_turn t (turn_with f x) None → me' ≡ (left_at me.0 me.0.stage, me.1) → me' ≡ (known f.tie (f.spare + 1 - 1) (Some f.number) f.joined f.seen (Holds t false (entries x) [] []), (0, None) ∷ [])
+  pub left_is : (me me' : M) (f : PassView E) (t : ℕ) (x : T) → me ≡ in_turn t (turn_with f x) None → me' ≡ (left_at me.0 me.0.stage, me.1) → me' ≡ (known f.tie (f.spare + 1 - 1) f.entered (Some f.number) f.joined f.seen (Holds t false (entries x) [] []), (0, None) ∷ [])
   left_is me me' f t x is after = after ∙ (λ i. (left_at (is i).0 (is i).0.stage, (is i).1))
 
-  pub right_is : (me : M) (v : FrontView E) (f : PassView E) (t : ℕ) (x : T) → me ≡ in_turn t (turn_with f x) None → v ≡ right_at me.0 me.0.stage → v ≡ known f.tie 1 (Some t) [] f.seen Idle
+  pub right_is : (me : M) (v : FrontView E) (f : PassView E) (t : ℕ) (x : T) → me ≡ in_turn t (turn_with f x) None → v ≡ right_at me.0 me.0.stage → v ≡ known f.tie 1 0 (Some t) [] f.seen Idle
   right_is me v f t x is after = after ∙ (λ i. right_at (is i).0 (is i).0.stage)
 
   pub joins_as : (id : ℕ) (v : FrontView E) (other : ℕ) (w : FrontView E) (f h : PassView E) (t : ℕ) (x : T) → v ≡ holding_of t (turn_with f x) → w ≡ idle_of h → Joins (Kept entries tie) id v other w (joined_at v w v.stage) nobody
@@ -86,13 +86,20 @@ module _ {T E : Type 0} (entries : T → List (ℕ × E)) (tie : T → List ℕ)
       (joins entries tie id (holding_of t (turn_with f x)) other (idle_of h) t true (entries x) [] [] refl (omega arith) refl)
 
   abbrev pub both_of : PassView E → PassView E → ℕ → T → FrontView E
-  both_of f h t x = known f.tie (f.spare + 1 + (h.spare + 1)) (Some f.number) (f.joined ++ ended_of h) (longer f.seen h.seen) (Holds t true (entries x) (names_of h) h.seen)
+  both_of f h t x = known f.tie (f.spare + 1 + (h.spare + 1)) (f.entered + h.entered) (Some f.number) (f.joined ++ ended_of h) (longer f.seen h.seen) (Holds t true (entries x) (names_of h) h.seen)
 
   pub joined_is : (me me' : M) (w : FrontView E) (f h : PassView E) (t : ℕ) (x : T) → me ≡ in_turn t (turn_with f x) None → w ≡ idle_of h → me' ≡ (joined_at me.0 w me.0.stage, me.1) → me' ≡ (both_of f h t x, (0, None) ∷ [])
   joined_is me me' w f h t x is idle after = after ∙ (λ i. (joined_at (is i).0 (idle i) (is i).0.stage, (is i).1))
 
   pub turned_extends : (f : PassView E) (t : ℕ) (v : FrontView E) (c : List (ℕ × Option T)) (me : M) (log : List (ℕ × E)) → v ≡ idle_of f → me ≡ (at_stage v (Waits t), c) → Extends (names me.0) me.0.seen log → Extends (names_of f) f.seen log
   turned_extends f t v c me log is drawn e = subst (λ (u : FrontView E). Extends (names u) u.seen log) is (subst (λ (m : M). Extends (names m.0) m.0.seen log) drawn e)
+
+  -- where the pass has all parts, each entry is of one of its names
+  pub turned_owned : (f : PassView E) (t : ℕ) (v : FrontView E) (c : List (ℕ × Option T)) (me : M) (log : List (ℕ × E)) → v ≡ idle_of f → me ≡ (at_stage v (Waits t), c)
+      → (me.0.parts ≡ 64 → Owners (λ n. In n (names me.0)) log) → f.spare ≡ 63 → Owners (λ n. In n (names_of f)) log
+  turned_owned f t v c me log is drawn o all =
+      let told : f.spare + 1 ≡ 64 → Owners (λ n. In n (names_of f)) log = subst (λ (u : FrontView E). u.parts ≡ 64 → Owners (λ n. In n (names u)) log) is (subst (λ (m : M). m.0.parts ≡ 64 → Owners (λ n. In n (names m.0)) log) drawn o) in
+      told (ap (λ n. n + 1) all)
 
   -- what is seen after a join
   pub seen_after : (f h : PassView E) (t : ℕ) (x : T) (me me' : M) (views : List (FrontView E)) → me ≡ (both_of f h t x, (0, None) ∷ []) → me' ≡ (at_stage me.0 Idle, []) → views ≡ me'.0 ∷ [] → longer f.seen h.seen ≡ (first_of views).seen

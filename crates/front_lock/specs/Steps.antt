@@ -16,15 +16,15 @@ module _ {T E : Type 0} (entries : T → List (ℕ × E)) (tie : T → List ℕ)
   Drew st m r m' = (r ≡ st.first → m' ≡ (at_stage m.0 (Waits r), m.1)) × (r ≢ st.first → m' ≡ m)
 
   -- where the ticket is served, the value is out with the pass, its entries go on from what the pass had seen with no further one of its
-  -- names, and no pass has the ticket for its number yet
+  -- names, and no pass has the ticket for its number yet; where the pass has all parts, each entry is of one of its names
   abbrev pub Turned : Step (Option T) → Sat → ℕ → Sat → Type 0
   Turned st m r m' = (t : ℕ) → m.0.stage ≡ Waits t
-      → (r ≡ t → (x : T) × (m' ≡ (at_stage m.0 (Holds r true (entries x) [] []), (0, Some x) ∷ m.1)) × Extends (names m.0) m.0.seen (entries x) × Owners (λ n. n < r) (entries x) × ((n : ℕ) → In n (names m.0) → n < r) × (tie x ≡ m.0.tie))
+      → (r ≡ t → (x : T) × (m' ≡ (at_stage m.0 (Holds r true (entries x) [] []), (0, Some x) ∷ m.1)) × Extends (names m.0) m.0.seen (entries x) × Owners (λ n. n < r) (entries x) × ((n : ℕ) → In n (names m.0) → n < r) × (tie x ≡ m.0.tie) × (m.0.parts ≡ 64 → Owners (λ n. In n (names m.0)) (entries x)))
       × (r ≢ t → m' ≡ m)
 
-  -- the value is back, and the pass has seen all of it
+  -- the value is back, and the pass has seen all of it, and entered once more
   abbrev pub GaveBack : Step (Option T) → Sat → ℕ → Sat → Type 0
-  GaveBack st m r m' = (x : T) → m.1 ≡ (0, Some x) ∷ rest m.1 → m' ≡ (known m.0.tie m.0.parts m.0.own m.0.joined (entries x) Idle, rest m.1)
+  GaveBack st m r m' = (x : T) → m.1 ≡ (0, Some x) ∷ rest m.1 → m' ≡ (known m.0.tie m.0.parts (m.0.entered + 1) m.0.own m.0.joined (entries x) Idle, rest m.1)
 
   -- the value is back as it was, and the pass has seen no more than before; what was joined into it in this turn goes on to the
   -- value's entries too, and its names are all different
@@ -37,17 +37,17 @@ module _ {T E : Type 0} (entries : T → List (ℕ × E)) (tie : T → List ℕ)
 module _ {E : Type 0} where
   -- the pass that has the turn, when another was split off it, and that other, whose number is the turn's ticket
   abbrev pub left_at : FrontView E → Stage E → FrontView E
-  left_at v (Holds t fresh began ns also) = known v.tie (v.parts - 1) v.own v.joined v.seen (Holds t false began ns also)
+  left_at v (Holds t fresh began ns also) = known v.tie (v.parts - 1) v.entered v.own v.joined v.seen (Holds t false began ns also)
   left_at v Idle = v
   left_at v (Waits t) = v
 
   abbrev pub right_at : FrontView E → Stage E → FrontView E
-  right_at v (Holds t fresh began ns also) = known v.tie 1 (Some t) [] v.seen Idle
+  right_at v (Holds t fresh began ns also) = known v.tie 1 0 (Some t) [] v.seen Idle
   right_at v Idle = nobody
   right_at v (Waits t) = nobody
 
   -- the pass that has the turn, when another was joined into it
   abbrev pub joined_at : FrontView E → FrontView E → Stage E → FrontView E
-  joined_at v w (Holds t fresh began ns also) = known v.tie (v.parts + w.parts) v.own (v.joined ++ ended w.own w.seen w.joined) (longer v.seen w.seen) (Holds t fresh began (names w) w.seen)
+  joined_at v w (Holds t fresh began ns also) = known v.tie (v.parts + w.parts) (v.entered + w.entered) v.own (v.joined ++ ended w.own w.seen w.joined) (longer v.seen w.seen) (Holds t fresh began (names w) w.seen)
   joined_at v w Idle = v
   joined_at v w (Waits t) = v

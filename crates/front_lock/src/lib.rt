@@ -19,6 +19,3 @@ pub use lock_fault::LockFault;
 pub use pass::Pass;
 pub use rule::{FrontView, Joined, Stage};
 pub use turn::{Inner, Turn};
-
-#[cfg(test)]
-mod tests;

@@ -85,6 +85,7 @@ impl<T: Grows> FrontLock<T> {
         ensures unnamed { Owners (λ n. n < ticket) (T.entries result) }
         ensures later { (n : ℕ) → In n (names seat.old.me.0) → n < ticket }
         ensures tie { T.tie result ≡ seat.old.me.0.tie }
+        ensures owned { seat.old.me.0.parts ≡ 64 → Owners (λ n. In n (names seat.old.me.0)) (T.entries result) }
     {
         for _ in rt.forever() {
             let serving = self.table.shared.load::<TakeValue<T>>(seat, SERVING);
@@ -115,14 +116,15 @@ impl<T: Grows> FrontLock<T> {
     }
 
     /// Waits for the value, and takes it out. Its entries go on from what the pass has seen, and no further one is of this
-    /// pass or of one that was joined into it. Passes are served in the order of their tickets, which they draw here. It
-    /// takes no memory.
+    /// pass or of one that was joined into it. Where all passes were joined into this one, its spare being 63, each entry is
+    /// of one of these. Passes are served in the order of their tickets, which they draw here. It takes no memory.
     pub fn enter<R: Wait>(&self, rt: &R, pass: Pass<T::Entry>) -> Inner<T>
         requires { pass.lock ≡ self.now }
         ensures turn { (result.turn.pass ≡ pass) × (result.turn.began ≡ T.entries result.value) }
         ensures goes_on { Extends (names_of pass) pass.seen (T.entries result.value) }
         ensures mine { (n : ℕ) → In n (names_of pass) → places n (T.entries result.value) ≡ places n pass.seen }
         ensures tie { T.tie result.value ≡ pass.tie }
+        ensures owned { pass.spare ≡ 63 → Owners (λ n. In n (names_of pass)) (T.entries result.value) }
     {
         let Pass {
             badge,
@@ -145,12 +147,12 @@ impl<T: Grows> FrontLock<T> {
     }
 
     /// Gives the value back, with further entries of the pass alone, and the next ticket is served. The pass has then seen
-    /// all entries. It waits for nobody, and takes no memory.
+    /// all entries, and has entered once more. It waits for nobody, and takes no memory.
     pub fn leave(&self, inner: Inner<T>) -> Pass<T::Entry>
         requires lock { inner.turn.pass.lock ≡ self.now }
         requires grown { GrownBy inner.turn.pass.number inner.turn.began (T.entries inner.value) }
         requires tie { T.tie inner.value ≡ inner.turn.pass.tie }
-        ensures seen { result ≡ record inner.turn.pass { seen = T.entries inner.value } }
+        ensures seen { result ≡ record inner.turn.pass { seen = T.entries inner.value; entered = inner.turn.pass.entered + 1 } }
         ensures mine { places result.number result.seen ≡ places result.number inner.turn.began ++ range_with_len (length inner.turn.began) (length result.seen - length inner.turn.began) }
     {
         let Inner { value, turn } = inner;
@@ -203,7 +205,7 @@ impl<T: Grows> FrontLock<T> {
     /// wanting it gives the value back.
     pub fn new(alloc: Global, value: T) -> Result<(FrontLock<T>, Pass<T::Entry>), (T, OutOfMemory)>
         requires { T.entries value ≡ [] }
-        ensures ok { IfOk result (λ r. r.1 ≡ record { lock = r.0; number = 0; joined = []; seen = []; spare = 63; tie = T.tie value }) }
+        ensures ok { IfOk result (λ r. r.1 ≡ record { lock = r.0; number = 0; joined = []; seen = []; spare = 63; entered = 0; tie = T.tie value }) }
         ensures err { IfErr result (λ e. e.0 ≡ value) }
     {
         match Bells::new(alloc) {
@@ -218,7 +220,7 @@ impl<T: Grows> FrontLock<T> {
         value: T,
     ) -> Result<(FrontLock<T>, Pass<T::Entry>), (T, OutOfMemory)>
         requires { T.entries value ≡ [] }
-        ensures ok { IfOk result (λ r. r.1 ≡ record { lock = r.0; number = 0; joined = []; seen = []; spare = 63; tie = T.tie value }) }
+        ensures ok { IfOk result (λ r. r.1 ≡ record { lock = r.0; number = 0; joined = []; seen = []; spare = 63; entered = 0; tie = T.tie value }) }
         ensures err { IfErr result (λ e. e.0 ≡ value) }
     {
         let mut slots = Vec::new(alloc);
@@ -243,7 +245,8 @@ impl<T: Grows> FrontLock<T> {
     }
 
     /// Splits a second pass off, with a spare of 0 and a number that no pass has or had: no entry is under it, and it is
-    /// above each name of the first. The first keeps its number and all that it knows, and its spare falls by one.
+    /// above each name of the first, and it has never entered. The first keeps its number and all that it knows, and its
+    /// spare falls by one. A split counts as no entry.
     /// `SeatsFull` exactly where the spare is 0, and then nothing changes. Like `enter`, it waits for its turn.
     pub fn split<R: Wait>(
         &self,
@@ -252,7 +255,7 @@ impl<T: Grows> FrontLock<T> {
     ) -> Result<(Pass<T::Entry>, Pass<T::Entry>), (Pass<T::Entry>, LockFault)>
         requires { pass.lock ≡ self.now }
         ensures first { IfOk result (λ r. (0 < pass.spare) × (r.0 ≡ record pass { spare = pass.spare - 1 })) }
-        ensures second { IfOk result (λ r. r.1 ≡ record pass { number = r.1.number; joined = []; spare = 0 }) }
+        ensures second { IfOk result (λ r. r.1 ≡ record pass { number = r.1.number; joined = []; spare = 0; entered = 0 }) }
         ensures new { IfOk result (λ r. Owners (λ n. n < r.1.number) pass.seen) }
         ensures later { IfOk result (λ r. (n : ℕ) → In n (names_of pass) → n < r.1.number) }
         ensures full { IfErr result (λ e. (e.0 ≡ pass) × (pass.spare ≡ 0) × (e.1 ≡ LockFault.SeatsFull)) }
@@ -288,7 +291,8 @@ impl<T: Grows> FrontLock<T> {
 
     /// Joins a pass into another, which keeps its number and gets the other's spare and one more. It has then seen the
     /// longer beginning of the two, in which the entries of both are all that there are. The other's number and all that it
-    /// had seen are kept in it; that number gets no further entry. Like `enter`, it waits for its turn.
+    /// had seen are kept in it; that number gets no further entry. It has entered as often as both; the join counts as no
+    /// entry. Like `enter`, it waits for its turn.
     pub fn join<R: Wait>(
         &self,
         rt: &R,
@@ -296,7 +300,7 @@ impl<T: Grows> FrontLock<T> {
         other: Pass<T::Entry>,
     ) -> Pass<T::Entry>
         requires { (pass.lock ≡ self.now) × (other.lock ≡ self.now) }
-        ensures joined { result ≡ record pass { joined = pass.joined ++ ended_of other; seen = longer pass.seen other.seen; spare = pass.spare + other.spare + 1 } }
+        ensures joined { result ≡ record pass { joined = pass.joined ++ ended_of other; seen = longer pass.seen other.seen; spare = pass.spare + other.spare + 1; entered = pass.entered + other.entered } }
         ensures this { Extends (names_of pass) pass.seen result.seen }
         ensures that { Extends (names_of other) other.seen result.seen }
         ensures mine { (n : ℕ) → In n (names_of pass) → places n result.seen ≡ places n pass.seen }

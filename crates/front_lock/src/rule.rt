@@ -31,6 +31,8 @@ pub struct FrontView<E> {
     pub tie: LinkedList<u64>,
     /// Its parts of the 64: one more than its spare.
     pub parts: u64,
+    /// How often it has entered and left.
+    pub entered: u64,
     /// Its number; none once it was joined into another.
     pub own: Option<u64>,
     /// The passes that were joined into it.
@@ -54,7 +56,7 @@ impl<T: Grows> TableRule<Option<T>, FrontView<T::Entry>, Snapshot<T>> for OneHis
 
     ghost holds = { λ _. Kept T.entries T.tie };
 
-    ghost first = { λ k. known (T.tie k.value) 64 (Some 0) [] [] Idle };
+    ghost first = { λ k. known (T.tie k.value) 64 0 (Some 0) [] [] Idle };
 }
 
 /// A ticket is drawn.

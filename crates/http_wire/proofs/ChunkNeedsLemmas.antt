@@ -195,7 +195,7 @@ reads_long (chunk ∷ chunks) bytes r =
       length-append crlf_bytes r.0,
     )
 
-empty_section : IsSection (10 ∷ [])
+pub empty_section : IsSection (10 ∷ [])
 empty_section = ([], lf, (All-nil IsField, refl))
 
 abbrev zero_line : ChunkLine

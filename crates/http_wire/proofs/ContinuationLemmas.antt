@@ -9,7 +9,7 @@ use Rattle.http_wire.specs.Continuation.{ending, IsTail, after_name, part, IsHea
 use Rattle.httparse.proofs.GrammarLemmas.{cons-append, request_prefix_free}
 use Rattle.http_wire.proofs.CutLemmas.{levi, head_text, request_cut, end_some, least_head, least_valid, pass_front, a_token}
 
-tail_size : (tail : List ℕ) → IsTail tail → (0 < length tail) × (length tail ≤ 15)
+pub tail_size : (tail : List ℕ) → IsTail tail → (0 < length tail) × (length tail ≤ 15)
 unfolding ending
 tail_size tail (after_name e) = (omega (arith, ap length e), omega (arith, ap length e))
 tail_size tail (part k below e) = (omega (arith, ap length e, length-drop k ending), omega (arith, ap length e, length-drop k ending))

@@ -298,7 +298,7 @@ uri_is_target : (b : ℕ) → is_uri_byte b ≡ true → is_target_byte b ≡ tr
 uri_is_target b uri = grind (arith, nat_tests)
 
 -- inside a target, or before it
-in_target : (blank : List LineEnd) (method target x bytes : List ℕ) (n m : ℕ) → 0 < length method → AllPass is_token_byte method
+pub in_target : (blank : List LineEnd) (method target x bytes : List ℕ) (n m : ℕ) → 0 < length method → AllPass is_token_byte method
     → AllPass is_uri_byte (target ++ x) → bytes ≡ print_blank blank ++ (method ++ 32 ∷ target) → (target ≡ [] → 12 ≤ n) → 11 ≤ n
     → Shortens bytes n m ⊎ (EndsInside bytes × (11 ≤ n))
 in_target blank method [] x bytes n m some all uri is none short = inl (before_target blank method bytes n m some all is (none refl))

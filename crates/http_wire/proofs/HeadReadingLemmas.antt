@@ -47,9 +47,7 @@ pub no_head : (front rest seen : List ℕ) → seen ≡ front ++ rest → ((h : 
 no_head front rest seen e none h is =
     none h ([] ++ rest) (subst (λ (t : List ℕ). ReadsRequest t h ([] ++ rest)) (sym e) (ReadsRequest-append front h [] rest is.reads)) is.few
 
-pub none_reads : (n end : ℕ) (bytes : List ℕ) (r : HeadRead) → ((h : RequestHead) (rest : List ℕ) → ReadsRequest (take n bytes) h rest → ¬ (length h.fields ≤ 64))
-    → IsFront (take end (take n bytes)) (take n bytes)
-    → (((h : RequestHead) → ¬ (IsHead (take end (take n bytes)) h)) → AnswersNone (take end (take n bytes)) r) → ReadsHead bytes r
-none_reads n end bytes r none f answer =
-    let front = take end (take n bytes) in
-    inr (front, seen_front front bytes n f, inr (answer (no_head front f.rest (take n bytes) f.is none)))
+-- where no head is at the front, the answer is that to the shortest front
+pub none_reads_all : (end : ℕ) (bytes : List ℕ) (r : HeadRead) → ((h : RequestHead) (rest : List ℕ) → ReadsRequest bytes h rest → ¬ (length h.fields ≤ 64)) → IsFront (take end bytes) bytes
+    → (((h : RequestHead) → ¬ (IsHead (take end bytes) h)) → AnswersNone (take end bytes) r) → ReadsHead bytes r
+none_reads_all end bytes r none f answer = inr (take end bytes, f, inr (answer (no_head (take end bytes) f.rest bytes f.is none)))

@@ -4,9 +4,12 @@ pub mod TargetPathLemmas
 pub mod CutLemmas
 pub mod InsideTargetLemmas
 pub mod ContinuationLemmas
+pub mod HeadFrontLemmas
 pub mod HeadReadingLemmas
+pub mod ChunkPlacesLemmas
 pub mod ChunkScanLemmas
 pub mod ChunkedBodyLemmas
 pub mod ChunkLineCut
 pub mod ChunkNeedsLemmas
 pub mod BodyReadingLemmas
+pub mod ResponseTextLemmas

@@ -1,9 +1,11 @@
 pub mod BodyReading
 pub mod ChunkContinuation
+pub mod ChunkPlaces
 pub mod ChunkScan
 pub mod ChunkedBody
 pub mod Continuation
 pub mod FieldValues
+pub mod HeadFronts
 pub mod HeadMeaning
 pub mod Heads
 pub mod InsideTarget

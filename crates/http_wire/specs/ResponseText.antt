@@ -1,5 +1,5 @@
 -- The text of an answer (RFC 9112, section 4; its fields are our own).
-use Rattle.std.specs.Prelude.{ℕ, Bool, List, [], ◌∷◌, ◌++◌, length, Option, Some, None, decimal, codes, if◌then◌else◌, ◌==◌}
+use Rattle.std.specs.Prelude.{◌≡◌, ℕ, Bool, List, [], ◌∷◌, ◌++◌, length, Option, Some, None, decimal, codes, if◌then◌else◌, ◌==◌}
 use Rattle.http.specs.StatusCode.{reason_phrase}
 use Rattle.httparse.specs.Ascii.{crlf_bytes}
 use Rattle.http_wire.specs.declared.messages.Answered.{Answered}
@@ -30,3 +30,8 @@ response_head a =
 
 unfoldable pub response_text : Answered → List ℕ
 response_text a = response_head a ++ (if a.head_only then [] else a.body)
+
+-- bytes were appended
+pub record Grows (before now : List ℕ) : Type 0 where
+  pub more : List ℕ
+  pub is : now ≡ before ++ more

@@ -3,6 +3,8 @@
 
 mod body_reading;
 mod chunk_needs;
+mod chunk_place;
+mod chunk_reader;
 mod chunk_scan;
 mod continuation;
 mod field_values;
@@ -13,10 +15,9 @@ mod messages;
 mod pieces;
 mod response_text;
 mod target_path;
-#[cfg(test)]
-mod tests;
 
 pub use body_reading::read_chunks;
+pub use chunk_reader::ChunkReader;
 pub use head_reading::read_head;
 pub use messages::{AnswerStop, Answered, BodyRead, Framing, Head, HeadRead, Request};
-pub use response_text::write_response;
+pub use response_text::{push_response, write_response};

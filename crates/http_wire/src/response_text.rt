@@ -1,10 +1,11 @@
 //! Writing a response.
-ghost use Rattle.std.specs.Prelude.{◌≡◌, ◌++◌, string_bytes, IfOk, OnOk, decimal};
+ghost use Rattle.std.specs.Prelude.{◌≡◌, ◌++◌, codes, IfOk, OnOk, OnErr, decimal};
 ghost use Rattle.http.specs.StatusCode.{IsStatusCode, reason_phrase};
-ghost use Rattle.http_wire.specs.ResponseText.{phrase_or_none, status_text, line, line_if, response_head, response_text};
+ghost use Rattle.http_wire.specs.ResponseText.{phrase_or_none, status_text, line, line_if, response_head, response_text, Grows};
 
 use crate::messages::Answered;
 use http::StatusCode;
+use itoa::Buffer;
 use prop_map::OutOfMemory;
 use std::alloc::Global;
 
@@ -18,86 +19,133 @@ fn phrase_of(status: u16) -> &'static str
     }
 }
 
-fn number_text(alloc: Global, number: u64) -> Result<String, OutOfMemory>
-    ensures { IfOk result (λ text. string_bytes text ≡ decimal number) }
+fn push(bytes: &mut Vec<u8>, part: &[u8]) -> Result<(), OutOfMemory>
+    ensures ok { OnOk result (bytes.new.items ≡ bytes.old.items ++ part.now) }
+    ensures grows { Grows bytes.old.items bytes.new.items }
 {
-    format!(in alloc; "{number}")
+    bytes.extend_from_slice(part)
 }
 
-#[tactic(auto, unfolding(crate::specs::ResponseText::status_text))]
-fn status_text(alloc: Global, status: u16) -> Result<String, OutOfMemory>
+// The number of a status, a blank and its phrase.
+#[tactic(auto, using(crate::proofs::ResponseTextLemmas::grows_on), unfolding(crate::specs::ResponseText::status_text))]
+fn push_status(bytes: &mut Vec<u8>, status: u16) -> Result<(), OutOfMemory>
     requires { IsStatusCode status }
-    ensures { IfOk result (λ text. string_bytes text ≡ status_text status) }
+    ensures ok { OnOk result (bytes.new.items ≡ bytes.old.items ++ status_text status) }
+    ensures grows { Grows bytes.old.items bytes.new.items }
 {
-    let mut text = number_text(alloc, u64::from(status))?;
-    text.push_str(" ")?;
-    text.push_str(phrase_of(status))?;
-    Ok(text)
+    let mut digits = Buffer::new();
+    push(bytes, digits.format(status).as_bytes())?;
+    push(bytes, b" ")?;
+    push(bytes, phrase_of(status).as_bytes())
 }
 
 #[tactic(auto, unfolding(crate::specs::ResponseText::line))]
-fn push_line(text: &mut String, name: &str, value: &str) -> Result<(), OutOfMemory>
-    ensures { OnOk result (string_bytes text.new ≡ string_bytes text.old ++ line name.now value.now) }
+fn push_line(bytes: &mut Vec<u8>, name: &[u8], value: &[u8]) -> Result<(), OutOfMemory>
+    ensures ok { OnOk result (bytes.new.items ≡ bytes.old.items ++ line name.now value.now) }
+    ensures grows { Grows bytes.old.items bytes.new.items }
 {
-    text.push_str(name)?;
-    text.push_str(value)?;
-    text.push_str("\r\n")
+    bytes.extend_from_slice(name)?;
+    bytes.extend_from_slice(value)?;
+    bytes.extend_from_slice(b"\r\n")
 }
 
-fn push_line_if(text: &mut String, asked: bool, name: &str, value: &str) -> Result<(), OutOfMemory>
-    ensures { OnOk result (string_bytes text.new ≡ string_bytes text.old ++ line_if asked name.now value.now) }
+fn push_number_line(bytes: &mut Vec<u8>, name: &[u8], number: u64) -> Result<(), OutOfMemory>
+    ensures ok { OnOk result (bytes.new.items ≡ bytes.old.items ++ line name.now (decimal number)) }
+    ensures grows { Grows bytes.old.items bytes.new.items }
+{
+    let mut digits = Buffer::new();
+    push_line(bytes, name, digits.format(number).as_bytes())
+}
+
+fn push_line_if(
+    bytes: &mut Vec<u8>,
+    asked: bool,
+    name: &[u8],
+    value: &[u8],
+) -> Result<(), OutOfMemory>
+    ensures ok { OnOk result (bytes.new.items ≡ bytes.old.items ++ line_if asked name.now value.now) }
+    ensures grows { Grows bytes.old.items bytes.new.items }
 {
     if asked {
-        push_line(text, name, value)
+        push_line(bytes, name, value)
     } else {
         Ok(())
     }
 }
 
-fn response_head(alloc: Global, answer: &Answered) -> Result<String, OutOfMemory>
-    requires { IsStatusCode answer.now.status }
-    ensures { IfOk result (λ text. string_bytes text ≡ response_head answer.now) }
+#[tactic(auto, using(crate::proofs::ResponseTextLemmas::grows_on), unfolding(crate::specs::ResponseText::line))]
+fn push_status_line(bytes: &mut Vec<u8>, status: u16) -> Result<(), OutOfMemory>
+    requires { IsStatusCode status }
+    ensures ok { OnOk result (bytes.new.items ≡ bytes.old.items ++ line (codes "HTTP/1.1 ") (status_text status)) }
+    ensures grows { Grows bytes.old.items bytes.new.items }
 {
-    let body = answer.body.as_slice();
-    let mut text = String::new(alloc);
-    push_line(
-        &mut text,
-        "HTTP/1.1 ",
-        status_text(alloc, answer.status)?.as_str(),
-    )?;
-    push_line(
-        &mut text,
-        "service-id: ",
-        number_text(alloc, answer.service)?.as_str(),
-    )?;
+    push(bytes, b"HTTP/1.1 ")?;
+    push_status(bytes, status)?;
+    push(bytes, b"\r\n")
+}
+
+#[tactic(auto, using(crate::proofs::ResponseTextLemmas::grows_on))]
+fn push_head(bytes: &mut Vec<u8>, answer: &Answered) -> Result<(), OutOfMemory>
+    requires { IsStatusCode answer.now.status }
+    ensures ok { OnOk result (bytes.new.items ≡ bytes.old.items ++ response_head answer.now) }
+    ensures grows { Grows bytes.old.items bytes.new.items }
+{
+    let length = answer.body.as_slice().len();
+    push_status_line(bytes, answer.status)?;
+    push_number_line(bytes, b"service-id: ", answer.service)?;
     push_line_if(
-        &mut text,
+        bytes,
         answer.status == 200,
-        "content-type: ",
-        "text/plain; charset=utf-8",
+        b"content-type: ",
+        b"text/plain; charset=utf-8",
     )?;
-    push_line(
-        &mut text,
-        "content-length: ",
-        number_text(alloc, body.len() as u64)?.as_str(),
-    )?;
-    push_line_if(&mut text, answer.last, "connection: ", "close")?;
-    text.push_str("\r\n")?;
-    Ok(text)
+    push_number_line(bytes, b"content-length: ", length as u64)?;
+    push_line_if(bytes, answer.last, b"connection: ", b"close")?;
+    push(bytes, b"\r\n")?;
+    Ok(())
+}
+
+#[tactic(auto, using(crate::proofs::ResponseTextLemmas::grows_on), unfolding(crate::specs::ResponseText::response_text))]
+fn push_text(bytes: &mut Vec<u8>, answer: &Answered) -> Result<(), OutOfMemory>
+    requires { IsStatusCode answer.now.status }
+    ensures ok { OnOk result (bytes.new.items ≡ bytes.old.items ++ response_text answer.now) }
+    ensures grows { Grows bytes.old.items bytes.new.items }
+{
+    push_head(bytes, answer)?;
+    if answer.head_only {
+        Ok(())
+    } else {
+        push(bytes, answer.body.as_slice())
+    }
+}
+
+/// Appends the bytes of a response (RFC 9112, section 4): its head, and the body unless the request was HEAD. It takes
+/// memory only as the buffer grows.
+///
+/// # Errors
+/// Only want of memory; the buffer is then as it was.
+pub fn push_response(bytes: &mut Vec<u8>, answer: &Answered) -> Result<(), OutOfMemory>
+    requires { IsStatusCode answer.now.status }
+    ensures ok { OnOk result (bytes.new.items ≡ bytes.old.items ++ response_text answer.now) }
+    ensures err { OnErr result (bytes.new.items ≡ bytes.old.items) }
+{
+    let before = bytes.len();
+    let pushed = push_text(bytes, answer);
+    if pushed.is_err() {
+        bytes.truncate(before);
+    }
+    pushed
 }
 
 /// The bytes of a response (RFC 9112, section 4): its head, and the body unless the request was HEAD.
 ///
 /// # Errors
 /// Only want of memory.
-#[tactic(auto, unfolding(crate::specs::ResponseText::response_text))]
 pub fn write_response(alloc: Global, answer: &Answered) -> Result<Vec<u8>, OutOfMemory>
     requires { IsStatusCode answer.now.status }
     ensures { IfOk result (λ bytes. bytes.items ≡ response_text answer.now) }
 {
-    let mut bytes = response_head(alloc, answer)?.into_bytes();
-    if !answer.head_only {
-        bytes.extend_from_slice(answer.body.as_slice())?;
-    }
+    let mut bytes = Vec::new(alloc);
+    push_response(&mut bytes, answer)?;
     Ok(bytes)
 }

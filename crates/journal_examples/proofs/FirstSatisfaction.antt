@@ -1,142 +1,133 @@
--- A component, and then the one whose service it references.
-use Rattle.std.specs.Prelude.{◌≡◌, refl, [], ◌∷◌, codes, true, false, Some, None, Ok, Err, map}
+-- A component without its service is satisfied once the provider starts. As an independent model of the platform has it.
+use Rattle.std.specs.Prelude.{◌≡◌, refl, ℕ, List, [], ◌∷◌, codes, true, false, Some, None, Ok, Err, pos, negsuc}
+use Rattle.prop_map.specs.declared.value.Value.TheVariants.{Text, Whole, Flag, Texts, Wholes, Flags}
+use Rattle.prop_map.specs.declared.reference_words.Cardinality.TheVariants.{ZeroOrOne, One, ZeroOrMore, OneOrMore}
+use Rattle.prop_map.specs.declared.reference_words.Policy.TheVariants.{Static, Dynamic}
+use Rattle.prop_map.specs.declared.reference_words.PolicyOption.TheVariants.{Reluctant, Greedy}
+use Rattle.component_dto.specs.declared.description.Scope.TheVariants.{Singleton, Bundle as InBundleScope, Prototype}
+use Rattle.component_dto.specs.declared.description.ConfigurationPolicy.TheVariants.{Optional, Require, Ignore}
 use Rattle.bundle_doc.specs.declared.document.BundleDoc.{BundleDoc}
-use Rattle.callback_orders.specs.declared.callback.Callback.TheVariants.{Create, Bind, Activate}
-use Rattle.callback_orders.specs.declared.callback.Outcome.TheVariants.{Done}
-use Rattle.prop_map.specs.declared.reference_words.Cardinality.TheVariants.{One}
-use Rattle.prop_map.specs.declared.reference_words.Policy.TheVariants.{Static}
-use Rattle.prop_map.specs.declared.reference_words.PolicyOption.TheVariants.{Reluctant}
-use Rattle.scr_core.specs.declared.bundles.BundleState.TheVariants.{Installed, Active}
-use Rattle.scr_core.specs.declared.command.Command.TheVariants.{Install, Start, Stop}
-use Rattle.scr_core.specs.declared.command.CoreFault.{CoreFault as F}
-use Rattle.scr_core.specs.declared.command.Reply.{Reply as R}
-use Rattle.scr_core.specs.declared.command.Step.TheVariants.{Command as Commanded, Begin, End}
-use Rattle.scr_core.specs.Dues.{next_begin}
-use Rattle.scr_core.specs.Readers.{component_lines}
-use Rattle.scr_core.specs.Replies.{reply}
-use Rattle.scr_core.specs.Steps.{History}
-use Rattle.scr_core.specs.Worlds.{world_of, satisfied_in}
-use Rattle.journal_examples.proofs.Words.{reference, component, document, entry, plain, opens, chose, worlds, each, always, some_of}
-use Rattle.journal_examples.proofs.Views.{told_lines, line, marks, keys, gates, held_services, bundle_states, right_lists, lists_of, entries_reserved, shuts, reopens, all_scratch, all_in_order, all_have_room, are_passes_ready, ends_of_pass, ends_in_world, quiet, right, run_ends, lists_and_satisfied}
-use Rattle.journal_examples.proofs.Tests.{follows}
+use Rattle.bundle_life.specs.declared.bundle.BundleEvent.{BundleEvent}
+use Rattle.journal_examples.proofs.Trees.{tree_or_none}
+use Rattle.callback_orders.specs.declared.callback.Callback.TheVariants.{Create, Bind, Updated, Unbind, Activate, Modified, Deactivate, Destroy}
+use Rattle.callback_orders.specs.declared.callback.Outcome.TheVariants.{Done, Refused, NoMemory}
+use Rattle.service_listeners.specs.declared.listener.ServiceEvent.{ServiceEvent}
+use Rattle.scr_world.specs.declared.step.Step.TheVariants.{Command as Commanded, Begin, End, Drained, Got, Released}
+use Rattle.scr_world.specs.declared.command.Command.TheVariants.{Install, Update, Start, Stop, Uninstall, Enable, Disable, Register, Unregister, SetProperties, Get, Unget, Listen, Unlisten, Configure, ConfigureFactory, Unconfigure}
+use Rattle.scr_world.specs.declared.reply.CoreFault.TheVariants.{NoBundle, NoComponent, WrongState, Stopping, SameName, Cycle, BundlesFull, ComponentsFull, ServicesFull, ConfigurationsFull, ListenersFull, NoService, NotOwner, NotUsing, NoListener, NoConfiguration, BadPid, FactoryClash, ActivationFailed, ActivationNoMemory, JournalFull}
+use Rattle.scr_world.specs.declared.reply.Reply.TheVariants.{Done as IsDone, Bundle as InBundle, Service as AsService, Uses as WithUses, Listener as AsListener}
+use Rattle.scr_world.specs.Steps.{History}
+use Rattle.scr_world.specs.declared.world.World.{World}
+use Rattle.journal_examples.proofs.Meanings.{legal_means}
+use Rattle.scr_world.specs.Legal.{IsLegal}
+use Rattle.journal_examples.proofs.Tests.{worlds, legal, begins, states, quiet_ones, right_ones, asked, replies, bundle_events_at_end, events_at_end, held_at_end, found_at_end, wanted_at, bound_at_end, calm_at_end}
+use Rattle.scr_world.specs.Worlds.{satisfied_in}
+use Rattle.scr_world.specs.Room.{has_room}
+use Rattle.scr_world.specs.Consequences.{stage_in, stage_of, stopped_in, stopped_by, shut_between}
+use Rattle.scr_world.specs.Stepping.{world_after_step}
+use Rattle.scr_world.specs.Lists.{world_after_entry, world_of}
 
 abbrev pub doc1 : BundleDoc
-doc1 = document (codes "c") (component (codes "c") true [] (reference (codes "p") (codes "P") One Static Reluctant ∷ []) ∷ [])
+doc1 = record { location = (codes "c"); name = (codes "c"); version = record { major = 0; minor = 0; micro = 0; qualifier = [] }; manifest = None; activator = None; descriptions = (record { name = (codes "c"); scope = Singleton; implementation_class = (codes "C"); default_enabled = true; immediate = true; service_interfaces = []; properties = []; references = (record { name = (codes "p"); interface_name = (codes "P"); cardinality = One; policy = Static; policy_option = Reluctant; target = None; updated = None } ∷ []); modified = None; configuration_policy = Optional; configuration_pids = ((codes "c") ∷ []); implicit = true } ∷ []) }
 
 abbrev pub doc2 : BundleDoc
-doc2 = document (codes "p") (component (codes "p") false ((codes "P") ∷ []) [] ∷ [])
+doc2 = record { location = (codes "p"); name = (codes "p"); version = record { major = 0; minor = 0; micro = 0; qualifier = [] }; manifest = None; activator = None; descriptions = (record { name = (codes "p"); scope = Singleton; implementation_class = (codes "P"); default_enabled = true; immediate = false; service_interfaces = ((codes "P") ∷ []); properties = []; references = []; modified = None; configuration_policy = Optional; configuration_pids = ((codes "p") ∷ []); implicit = true } ∷ []) }
 
--- the journal, the last entry first
 abbrev pub past0 : History
 past0 = []
 
 abbrev pub past1 : History
-past1 = plain (Commanded (Install doc1)) ∷ past0
+past1 = record { step = (Commanded (Install doc1)); closed = []; opened = []; stopped = [] } ∷ past0
 
 abbrev pub past2 : History
-past2 = plain (Commanded (Start 1)) ∷ past1
+past2 = record { step = (Commanded (Start 1)); closed = []; opened = []; stopped = [] } ∷ past1
 
 abbrev pub past3 : History
-past3 = plain (Commanded (Install doc2)) ∷ past2
+past3 = record { step = (Commanded (Install doc2)); closed = []; opened = []; stopped = [] } ∷ past2
 
 abbrev pub past4 : History
-past4 = entry (Commanded (Start 2)) [] (opens 2 1 ∷ opens 1 0 ∷ []) [] ∷ past3
+past4 = record { step = (Commanded (Start 2)); closed = []; opened = (record { configuration = 2; service = 1 } ∷ record { configuration = 1; service = 0 } ∷ []); stopped = [] } ∷ past3
 
 abbrev pub past5 : History
-past5 = plain (Begin 1 1 1 0 Create (chose 0 (1 ∷ []) ∷ [])) ∷ past4
+past5 = record { step = (Begin 1 1 1 0 Create (record { reference = 0; services = (1 ∷ []) } ∷ [])); closed = []; opened = []; stopped = [] } ∷ past4
 
 abbrev pub past6 : History
-past6 = plain (End 1 Done) ∷ past5
+past6 = record { step = (End 1 Done); closed = []; opened = []; stopped = [] } ∷ past5
 
 abbrev pub past7 : History
-past7 = plain (Begin 2 2 2 0 Create []) ∷ past6
+past7 = record { step = (Begin 2 2 2 0 Create []); closed = []; opened = []; stopped = [] } ∷ past6
 
 abbrev pub past8 : History
-past8 = plain (End 2 Done) ∷ past7
+past8 = record { step = (End 2 Done); closed = []; opened = []; stopped = [] } ∷ past7
 
 abbrev pub past9 : History
-past9 = plain (Begin 3 2 2 0 Activate []) ∷ past8
+past9 = record { step = (Begin 3 2 2 0 Activate []); closed = []; opened = []; stopped = [] } ∷ past8
 
 abbrev pub past10 : History
-past10 = plain (End 3 Done) ∷ past9
+past10 = record { step = (End 3 Done); closed = []; opened = []; stopped = [] } ∷ past9
 
 abbrev pub past11 : History
-past11 = plain (Begin 4 1 1 0 (Bind (codes "p") 1) []) ∷ past10
+past11 = record { step = (Begin 4 1 1 0 (Bind (codes "p") 1) []); closed = []; opened = []; stopped = [] } ∷ past10
 
 abbrev pub past12 : History
-past12 = plain (End 4 Done) ∷ past11
+past12 = record { step = (End 4 Done); closed = []; opened = []; stopped = [] } ∷ past11
 
 abbrev pub past13 : History
-past13 = plain (Begin 5 1 1 0 Activate []) ∷ past12
+past13 = record { step = (Begin 5 1 1 0 Activate []); closed = []; opened = []; stopped = [] } ∷ past12
 
 abbrev pub past14 : History
-past14 = plain (End 5 Done) ∷ past13
+past14 = record { step = (End 5 Done); closed = []; opened = []; stopped = [] } ∷ past13
 
-begins : map next_begin (worlds past14) ≡ (None ∷ None ∷ Some (Begin 5 1 1 0 Activate []) ∷ None ∷ Some (Begin 4 1 1 0 (Bind (codes "p") 1) []) ∷ None ∷ Some (Begin 3 2 2 0 Activate []) ∷ None ∷ Some (Begin 2 2 2 0 Create []) ∷ Some (Begin 2 2 2 0 Create []) ∷ Some (Begin 1 1 1 0 Create (chose 0 (1 ∷ []) ∷ [])) ∷ None ∷ None ∷ None ∷ None ∷ [])
-begins = refl
+abbrev all : List World
+all = worlds past14
 
-missing_keys : map keys (worlds past14) ≡ ([] ∷ [] ∷ [] ∷ [] ∷ [] ∷ [] ∷ [] ∷ [] ∷ (2 ∷ []) ∷ (2 ∷ []) ∷ (1 ∷ []) ∷ [] ∷ [] ∷ [] ∷ [] ∷ [])
-missing_keys = refl
+is_legal : legal 4194304 past14 all ≡ true
+unfolding world_after_entry world_of world_after_step stage_in stage_of stopped_in stopped_by shut_between has_room satisfied_in
+is_legal = refl
 
-failed_ones : map marks (worlds past14) ≡ ([] ∷ [] ∷ [] ∷ [] ∷ [] ∷ [] ∷ [] ∷ [] ∷ [] ∷ [] ∷ [] ∷ [] ∷ [] ∷ [] ∷ [] ∷ [])
-failed_ones = refl
+stands_legal : IsLegal 4194304 past14
+stands_legal = legal_means 4194304 past14 is_legal
 
-satisfied_ones : map satisfied_in (worlds past14) ≡ ((2 ∷ 1 ∷ []) ∷ (2 ∷ 1 ∷ []) ∷ (2 ∷ 1 ∷ []) ∷ (2 ∷ 1 ∷ []) ∷ (2 ∷ 1 ∷ []) ∷ (2 ∷ 1 ∷ []) ∷ (2 ∷ 1 ∷ []) ∷ (2 ∷ 1 ∷ []) ∷ (2 ∷ 1 ∷ []) ∷ (2 ∷ 1 ∷ []) ∷ (2 ∷ 1 ∷ []) ∷ [] ∷ [] ∷ [] ∷ [] ∷ [])
-satisfied_ones = refl
+which_begin : begins all ≡ (None ∷ None ∷ (Some (Begin 5 1 1 0 Activate [])) ∷ None ∷ (Some (Begin 4 1 1 0 (Bind (codes "p") 1) [])) ∷ None ∷ (Some (Begin 3 2 2 0 Activate [])) ∷ None ∷ (Some (Begin 2 2 2 0 Create [])) ∷ (Some (Begin 2 2 2 0 Create [])) ∷ (Some (Begin 1 1 1 0 Create (record { reference = 0; services = (1 ∷ []) } ∷ []))) ∷ None ∷ None ∷ None ∷ None ∷ [])
+unfolding world_after_entry world_of world_after_step stage_in stage_of stopped_in stopped_by shut_between has_room satisfied_in
+which_begin = refl
 
-states : map told_lines (worlds past14) ≡ (((1, 8) ∷ (2, 8) ∷ []) ∷ ((1, 4) ∷ (2, 8) ∷ []) ∷ ((1, 4) ∷ (2, 8) ∷ []) ∷ ((1, 4) ∷ (2, 8) ∷ []) ∷ ((1, 4) ∷ (2, 8) ∷ []) ∷ ((1, 4) ∷ (2, 4) ∷ []) ∷ ((1, 4) ∷ (2, 4) ∷ []) ∷ ((1, 4) ∷ (2, 4) ∷ []) ∷ ((1, 4) ∷ (2, 4) ∷ []) ∷ ((1, 4) ∷ (2, 4) ∷ []) ∷ ((1, 4) ∷ (2, 4) ∷ []) ∷ ((1, 2) ∷ []) ∷ ((1, 2) ∷ []) ∷ [] ∷ [] ∷ [])
-states = refl
+which_states : states all ≡ (((1, 8) ∷ (2, 8) ∷ []) ∷ ((1, 4) ∷ (2, 8) ∷ []) ∷ ((1, 4) ∷ (2, 8) ∷ []) ∷ ((1, 4) ∷ (2, 8) ∷ []) ∷ ((1, 4) ∷ (2, 8) ∷ []) ∷ ((1, 4) ∷ (2, 4) ∷ []) ∷ ((1, 4) ∷ (2, 4) ∷ []) ∷ ((1, 4) ∷ (2, 4) ∷ []) ∷ ((1, 4) ∷ (2, 4) ∷ []) ∷ ((1, 4) ∷ (2, 4) ∷ []) ∷ ((1, 4) ∷ (2, 4) ∷ []) ∷ ((1, 2) ∷ []) ∷ ((1, 2) ∷ []) ∷ [] ∷ [] ∷ [])
+unfolding world_after_entry world_of world_after_step stage_in stage_of stopped_in stopped_by shut_between has_room satisfied_in
+which_states = refl
 
-bundles : map bundle_states (worlds past14) ≡ ((Active ∷ Active ∷ []) ∷ (Active ∷ Active ∷ []) ∷ (Active ∷ Active ∷ []) ∷ (Active ∷ Active ∷ []) ∷ (Active ∷ Active ∷ []) ∷ (Active ∷ Active ∷ []) ∷ (Active ∷ Active ∷ []) ∷ (Active ∷ Active ∷ []) ∷ (Active ∷ Active ∷ []) ∷ (Active ∷ Active ∷ []) ∷ (Active ∷ Active ∷ []) ∷ (Active ∷ Installed ∷ []) ∷ (Active ∷ []) ∷ (Installed ∷ []) ∷ [] ∷ [])
-bundles = refl
+which_quiet : quiet_ones all ≡ (true ∷ false ∷ false ∷ false ∷ false ∷ false ∷ false ∷ false ∷ false ∷ false ∷ false ∷ true ∷ true ∷ true ∷ true ∷ [])
+unfolding world_after_entry world_of world_after_step stage_in stage_of stopped_in stopped_by shut_between has_room satisfied_in
+which_quiet = refl
 
-gate_keys : map gates (worlds past14) ≡ (((1, 0, 1) ∷ (2, 1, 1) ∷ []) ∷ ((1, 0, 0) ∷ (2, 1, 1) ∷ []) ∷ ((1, 0, 0) ∷ (2, 1, 1) ∷ []) ∷ ((1, 0, 0) ∷ (2, 1, 1) ∷ []) ∷ ((1, 0, 0) ∷ (2, 1, 1) ∷ []) ∷ ((1, 0, 0) ∷ (2, 1, 0) ∷ []) ∷ ((1, 0, 0) ∷ (2, 1, 0) ∷ []) ∷ ((1, 0, 0) ∷ (2, 1, 0) ∷ []) ∷ ((1, 0, 0) ∷ []) ∷ ((1, 0, 0) ∷ []) ∷ [] ∷ [] ∷ [] ∷ [] ∷ [] ∷ [])
-gate_keys = refl
+which_right : right_ones all ≡ (true ∷ false ∷ false ∷ false ∷ false ∷ false ∷ false ∷ false ∷ false ∷ false ∷ false ∷ true ∷ true ∷ true ∷ true ∷ [])
+unfolding world_after_entry world_of world_after_step stage_in stage_of stopped_in stopped_by shut_between has_room satisfied_in
+which_right = refl
 
-held : map held_services (worlds past14) ≡ (((1, ((1 ∷ []) ∷ [])) ∷ (2, []) ∷ []) ∷ ((1, ((1 ∷ []) ∷ [])) ∷ (2, []) ∷ []) ∷ ((1, ((1 ∷ []) ∷ [])) ∷ (2, []) ∷ []) ∷ ((1, ((1 ∷ []) ∷ [])) ∷ (2, []) ∷ []) ∷ ((1, ([] ∷ [])) ∷ (2, []) ∷ []) ∷ ((1, ([] ∷ [])) ∷ (2, []) ∷ []) ∷ ((1, ([] ∷ [])) ∷ (2, []) ∷ []) ∷ ((1, ([] ∷ [])) ∷ (2, []) ∷ []) ∷ ((1, ([] ∷ [])) ∷ []) ∷ ((1, ([] ∷ [])) ∷ []) ∷ [] ∷ [] ∷ [] ∷ [] ∷ [] ∷ [])
-held = refl
+which_wanted : wanted_at all ≡ ((record { configuration = 1; consumer = 0 } ∷ record { configuration = 2; consumer = 0 } ∷ []) ∷ (record { configuration = 1; consumer = 0 } ∷ record { configuration = 2; consumer = 0 } ∷ []) ∷ (record { configuration = 1; consumer = 0 } ∷ record { configuration = 2; consumer = 0 } ∷ []) ∷ (record { configuration = 1; consumer = 0 } ∷ record { configuration = 2; consumer = 0 } ∷ []) ∷ (record { configuration = 1; consumer = 0 } ∷ record { configuration = 2; consumer = 0 } ∷ []) ∷ (record { configuration = 1; consumer = 0 } ∷ record { configuration = 2; consumer = 0 } ∷ []) ∷ (record { configuration = 1; consumer = 0 } ∷ record { configuration = 2; consumer = 0 } ∷ []) ∷ (record { configuration = 1; consumer = 0 } ∷ record { configuration = 2; consumer = 0 } ∷ []) ∷ (record { configuration = 1; consumer = 0 } ∷ record { configuration = 2; consumer = 0 } ∷ []) ∷ (record { configuration = 1; consumer = 0 } ∷ record { configuration = 2; consumer = 0 } ∷ []) ∷ (record { configuration = 1; consumer = 0 } ∷ []) ∷ [] ∷ [] ∷ [] ∷ [] ∷ [])
+unfolding world_after_entry world_of world_after_step stage_in stage_of stopped_in stopped_by shut_between has_room satisfied_in
+which_wanted = refl
 
-room : map entries_reserved (worlds past14) ≡ (2 ∷ 3 ∷ 1 ∷ 2 ∷ 1 ∷ 2 ∷ 0 ∷ 1 ∷ 0 ∷ 1 ∷ 0 ∷ 0 ∷ 0 ∷ 0 ∷ 0 ∷ [])
-room = refl
+which_replies : replies 4194304 all (asked 0 (Install doc1) ∷ asked 1 (Start 1) ∷ asked 2 (Install doc2) ∷ asked 3 (Start 2) ∷ []) ≡ ((Ok (InBundle 1)) ∷ (Ok IsDone) ∷ (Ok (InBundle 2)) ∷ (Ok IsDone) ∷ [])
+unfolding world_after_entry world_of world_after_step stage_in stage_of stopped_in stopped_by shut_between has_room satisfied_in
+which_replies = refl
 
-quiet_ones : map quiet (worlds past14) ≡ (true ∷ false ∷ false ∷ false ∷ false ∷ false ∷ false ∷ false ∷ false ∷ false ∷ false ∷ true ∷ true ∷ true ∷ true ∷ [])
-quiet_ones = refl
+bundle_events : bundle_events_at_end all ≡ (record { value = 1; bundle = 1 } ∷ record { value = 32; bundle = 1 } ∷ record { value = 128; bundle = 1 } ∷ record { value = 2; bundle = 1 } ∷ record { value = 1; bundle = 2 } ∷ record { value = 32; bundle = 2 } ∷ record { value = 128; bundle = 2 } ∷ record { value = 2; bundle = 2 } ∷ [])
+unfolding world_after_entry world_of world_after_step stage_in stage_of stopped_in stopped_by shut_between has_room satisfied_in
+bundle_events = refl
 
-right_ones : map (right 4) (worlds past14) ≡ (true ∷ false ∷ false ∷ false ∷ false ∷ false ∷ false ∷ false ∷ false ∷ false ∷ false ∷ true ∷ true ∷ true ∷ true ∷ [])
-right_ones = refl
+held_1 : held_at_end 1 all ≡ (record { instance = 1; reference = (codes "p"); service = 1 } ∷ [])
+unfolding world_after_entry world_of world_after_step stage_in stage_of stopped_in stopped_by shut_between has_room satisfied_in
+held_1 = refl
 
-lists : each right_lists past14 (worlds past14) ≡ map lists_of past14
-lists = refl
+held_2 : held_at_end 2 all ≡ []
+unfolding world_after_entry world_of world_after_step stage_in stage_of stopped_in stopped_by shut_between has_room satisfied_in
+held_2 = refl
 
-shut_gates : some_of (each shuts past14 (worlds past14)) ≡ []
-shut_gates = refl
+bound_is : bound_at_end all ≡ 72
+unfolding world_after_entry world_of world_after_step stage_in stage_of stopped_in stopped_by shut_between has_room satisfied_in
+bound_is = refl
 
-reopened_gates : some_of (each reopens past14 (worlds past14)) ≡ ((13, ((0, 1) ∷ [])) ∷ (9, ((1, 1) ∷ [])) ∷ [])
-reopened_gates = refl
-
-scratch : always (all_scratch 4) past14 (worlds past14) ≡ true
-scratch = refl
-
-order : always all_in_order past14 (worlds past14) ≡ true
-order = refl
-
-fits : always (all_have_room 4194304) past14 (worlds past14) ≡ true
-fits = refl
-
-followed : always (follows 4194304) past14 (worlds past14) ≡ true
-followed = refl
-
-ready : always are_passes_ready past14 (worlds past14) ≡ true
-ready = refl
-
-runs : each run_ends past14 (worlds past14) ≡ each lists_and_satisfied past14 (worlds past14)
-runs = refl
-
-ends : each ends_of_pass past14 (worlds past14) ≡ each ends_in_world past14 (worlds past14)
-ends = refl
-
-answers : (reply 4194304 (world_of past0) (Install doc1) ∷ reply 4194304 (world_of past1) (Start 1) ∷ reply 4194304 (world_of past2) (Install doc2) ∷ reply 4194304 (world_of past3) (Start 2) ∷ reply 4194304 (world_of past14) (Install doc1) ∷ reply 4194304 (world_of past14) (Start 1) ∷ reply 4194304 (world_of past14) (Start 3) ∷ reply 4194304 (world_of past14) (Stop 0) ∷ []) ≡ (Ok (R.Bundle 1) ∷ Ok R.Done ∷ Ok (R.Bundle 2) ∷ Ok R.Done ∷ Ok (R.Bundle 1) ∷ Ok R.Done ∷ Err (F.NoBundle 3) ∷ Err (F.NoBundle 0) ∷ [])
-answers = refl
-
-lines : component_lines (world_of past14) ≡ (line 1 (codes "c") 8 ∷ line 2 (codes "p") 8 ∷ [])
-lines = refl
+calm_is : calm_at_end all ≡ true
+unfolding world_after_entry world_of world_after_step stage_in stage_of stopped_in stopped_by shut_between has_room satisfied_in
+calm_is = refl

@@ -1,559 +1,215 @@
--- A random journal.
-use Rattle.std.specs.Prelude.{◌≡◌, refl, [], ◌∷◌, codes, true, false, Some, None, Ok, Err, map, take}
-use Rattle.bundle_doc.specs.declared.document.BundleDoc.{BundleDoc}
-use Rattle.callback_orders.specs.declared.callback.Callback.TheVariants.{Create, Activate, Deactivate, Destroy}
-use Rattle.callback_orders.specs.declared.callback.Outcome.TheVariants.{Done, Refused, NoMemory}
+-- A worked example, as an independent model of the platform has it.
+use Rattle.std.specs.Prelude.{◌≡◌, refl, ℕ, List, [], ◌∷◌, codes, true, false, Some, None, Ok, Err, pos, negsuc}
+use Rattle.prop_map.specs.declared.value.Value.TheVariants.{Text, Whole, Flag, Texts, Wholes, Flags}
 use Rattle.prop_map.specs.declared.reference_words.Cardinality.TheVariants.{ZeroOrOne, One, ZeroOrMore, OneOrMore}
 use Rattle.prop_map.specs.declared.reference_words.Policy.TheVariants.{Static, Dynamic}
 use Rattle.prop_map.specs.declared.reference_words.PolicyOption.TheVariants.{Reluctant, Greedy}
-use Rattle.scr_core.specs.declared.bundles.BundleState.TheVariants.{Installed, Resolved, Stopping, Active}
-use Rattle.scr_core.specs.declared.command.Command.TheVariants.{Install, Start, Stop}
-use Rattle.scr_core.specs.declared.command.CoreFault.{CoreFault as F}
-use Rattle.scr_core.specs.declared.command.Reply.{Reply as R}
-use Rattle.scr_core.specs.declared.command.Step.TheVariants.{Command as Commanded, Begin, End, Drained}
-use Rattle.scr_core.specs.Dues.{next_begin}
-use Rattle.scr_core.specs.Readers.{component_lines}
-use Rattle.scr_core.specs.Replies.{reply}
-use Rattle.scr_core.specs.Steps.{History}
-use Rattle.scr_core.specs.Worlds.{world_of, satisfied_in}
-use Rattle.journal_examples.proofs.Words.{reference, component, document, entry, plain, opens, chose, worlds, each, always, some_of}
-use Rattle.journal_examples.proofs.Views.{told_lines, line, marks, keys, gates, held_services, bundle_states, right_lists, lists_of, entries_reserved, shuts, reopens, all_scratch, all_in_order, all_have_room, are_passes_ready, ends_of_pass, ends_in_world, quiet, right}
-use Rattle.journal_examples.proofs.Tests.{follows}
+use Rattle.component_dto.specs.declared.description.Scope.TheVariants.{Singleton, Bundle as InBundleScope, Prototype}
+use Rattle.component_dto.specs.declared.description.ConfigurationPolicy.TheVariants.{Optional, Require, Ignore}
+use Rattle.bundle_doc.specs.declared.document.BundleDoc.{BundleDoc}
+use Rattle.bundle_life.specs.declared.bundle.BundleEvent.{BundleEvent}
+use Rattle.journal_examples.proofs.Trees.{tree_or_none}
+use Rattle.callback_orders.specs.declared.callback.Callback.TheVariants.{Create, Bind, Updated, Unbind, Activate, Modified, Deactivate, Destroy}
+use Rattle.callback_orders.specs.declared.callback.Outcome.TheVariants.{Done, Refused, NoMemory}
+use Rattle.service_listeners.specs.declared.listener.ServiceEvent.{ServiceEvent}
+use Rattle.scr_world.specs.declared.step.Step.TheVariants.{Command as Commanded, Begin, End, Drained, Got, Released}
+use Rattle.scr_world.specs.declared.command.Command.TheVariants.{Install, Update, Start, Stop, Uninstall, Enable, Disable, Register, Unregister, SetProperties, Get, Unget, Listen, Unlisten, Configure, ConfigureFactory, Unconfigure}
+use Rattle.scr_world.specs.declared.reply.CoreFault.TheVariants.{NoBundle, NoComponent, WrongState, Stopping, SameName, Cycle, BundlesFull, ComponentsFull, ServicesFull, ConfigurationsFull, ListenersFull, NoService, NotOwner, NotUsing, NoListener, NoConfiguration, BadPid, FactoryClash, ActivationFailed, ActivationNoMemory, JournalFull}
+use Rattle.scr_world.specs.declared.reply.Reply.TheVariants.{Done as IsDone, Bundle as InBundle, Service as AsService, Uses as WithUses, Listener as AsListener}
+use Rattle.scr_world.specs.Steps.{History}
+use Rattle.scr_world.specs.declared.world.World.{World}
+use Rattle.journal_examples.proofs.Meanings.{legal_means}
+use Rattle.scr_world.specs.Legal.{IsLegal}
+use Rattle.journal_examples.proofs.Tests.{worlds, legal, begins, states, quiet_ones, right_ones, asked, replies, bundle_events_at_end, events_at_end, held_at_end, found_at_end, wanted_at, bound_at_end, calm_at_end}
+use Rattle.scr_world.specs.Worlds.{satisfied_in}
+use Rattle.scr_world.specs.Room.{has_room}
+use Rattle.scr_world.specs.Consequences.{stage_in, stage_of, stopped_in, stopped_by, shut_between}
+use Rattle.scr_world.specs.Stepping.{world_after_step}
+use Rattle.scr_world.specs.Lists.{world_after_entry, world_of}
 
-abbrev pub doc1 : BundleDoc
-doc1 = document (codes "b0") (component (codes "c0") true ((codes "L0") ∷ (codes "I0") ∷ []) [] ∷ component (codes "c3") false ((codes "L1") ∷ []) (reference (codes "r0") (codes "L0") OneOrMore Static Greedy ∷ reference (codes "r1") (codes "I1") ZeroOrMore Static Greedy ∷ []) ∷ [])
+abbrev doc1 : BundleDoc
+doc1 = record { location = (codes "b0"); name = (codes "b0"); version = record { major = 0; minor = 0; micro = 0; qualifier = [] }; manifest = None; activator = None; descriptions = (record { name = (codes "c5"); scope = Singleton; implementation_class = (codes "demo.Relay"); default_enabled = true; immediate = false; service_interfaces = ((codes "I4") ∷ (codes "J4") ∷ []); properties = (record { key = (codes "v"); value = (Whole (pos 0)) } ∷ []); references = (record { name = (codes "next"); interface_name = (codes "I2"); cardinality = OneOrMore; policy = Static; policy_option = Reluctant; target = None; updated = (Some (codes "u")) } ∷ []); modified = None; configuration_policy = Optional; configuration_pids = ((codes "c5") ∷ []); implicit = true } ∷ record { name = (codes "c4"); scope = Singleton; implementation_class = (codes "demo.Echo"); default_enabled = true; immediate = true; service_interfaces = ((codes "J4") ∷ []); properties = (record { key = (codes "r1.cardinality.minimum"); value = (Whole (pos 0)) } ∷ []); references = (record { name = (codes "r0"); interface_name = (codes "J1"); cardinality = One; policy = Static; policy_option = Greedy; target = (Some (codes "(service.bundleid=1)")); updated = None } ∷ record { name = (codes "r1"); interface_name = (codes "I2"); cardinality = ZeroOrOne; policy = Dynamic; policy_option = Greedy; target = (Some (codes "(v=*)")); updated = (Some (codes "u")) } ∷ record { name = (codes "r2"); interface_name = (codes "I2"); cardinality = ZeroOrMore; policy = Static; policy_option = Greedy; target = (Some (codes "(v=*)")); updated = None } ∷ []); modified = None; configuration_policy = Require; configuration_pids = ((codes "c4") ∷ []); implicit = true } ∷ []) }
 
-abbrev pub doc2 : BundleDoc
-doc2 = document (codes "b1") (component (codes "c2") true ((codes "L0") ∷ []) [] ∷ component (codes "c1") true ((codes "I1") ∷ []) [] ∷ [])
+abbrev doc2 : BundleDoc
+doc2 = record { location = (codes "b1"); name = (codes "b1"); version = record { major = 0; minor = 0; micro = 0; qualifier = [] }; manifest = None; activator = None; descriptions = (record { name = (codes "c2"); scope = Singleton; implementation_class = (codes "demo.Relay"); default_enabled = true; immediate = true; service_interfaces = ((codes "I1") ∷ (codes "J1") ∷ []); properties = (record { key = (codes "service.ranking"); value = (Whole (negsuc 0)) } ∷ record { key = (codes "v"); value = (Whole (pos 2)) } ∷ []); references = []; modified = None; configuration_policy = Optional; configuration_pids = ((codes "c2") ∷ []); implicit = true } ∷ record { name = (codes "c0"); scope = Singleton; implementation_class = (codes "demo.Relay"); default_enabled = true; immediate = true; service_interfaces = []; properties = (record { key = (codes ".p"); value = (Whole (pos 0)) } ∷ record { key = (codes "refuse"); value = (Text (codes "create")) } ∷ []); references = []; modified = (Some (codes "m")); configuration_policy = Ignore; configuration_pids = ((codes "c0") ∷ (codes "q") ∷ []); implicit = true } ∷ record { name = (codes "c1"); scope = Singleton; implementation_class = (codes "demo.Echo"); default_enabled = true; immediate = false; service_interfaces = ((codes "I0") ∷ (codes "J0") ∷ []); properties = (record { key = (codes "r0.cardinality.minimum"); value = (Whole (pos 1)) } ∷ record { key = (codes "service.ranking"); value = (Whole (negsuc 0)) } ∷ record { key = (codes "v"); value = (Whole (pos 1)) } ∷ []); references = (record { name = (codes "r0"); interface_name = (codes "X"); cardinality = ZeroOrMore; policy = Static; policy_option = Greedy; target = (Some (codes "(component.id=2)")); updated = None } ∷ []); modified = None; configuration_policy = Optional; configuration_pids = ((codes "q") ∷ []); implicit = true } ∷ record { name = (codes "c3"); scope = Singleton; implementation_class = (codes "K"); default_enabled = true; immediate = false; service_interfaces = ((codes "I2") ∷ (codes "J2") ∷ []); properties = (record { key = (codes "v"); value = (Whole (pos 0)) } ∷ []); references = (record { name = (codes "r0"); interface_name = (codes "I0"); cardinality = ZeroOrOne; policy = Static; policy_option = Greedy; target = (Some (codes "(!(v=1))")); updated = (Some (codes "u")) } ∷ record { name = (codes "r1"); interface_name = (codes "J0"); cardinality = One; policy = Static; policy_option = Greedy; target = None; updated = (Some (codes "u")) } ∷ record { name = (codes "r2"); interface_name = (codes "J0"); cardinality = One; policy = Static; policy_option = Greedy; target = None; updated = (Some (codes "u")) } ∷ []); modified = None; configuration_policy = Optional; configuration_pids = ((codes "q") ∷ []); implicit = true } ∷ []) }
 
-abbrev pub doc3 : BundleDoc
-doc3 = document (codes "b2") (component (codes "c4") false ((codes "L1") ∷ (codes "I4") ∷ []) (reference (codes "r0") (codes "L0") ZeroOrOne Dynamic Reluctant ∷ reference (codes "r1") (codes "L0") One Static Greedy ∷ []) ∷ [])
-
-abbrev pub doc4 : BundleDoc
-doc4 = document (codes "b3") (component (codes "c5") true [] (reference (codes "r0") (codes "L1") ZeroOrMore Dynamic Reluctant ∷ reference (codes "r1") (codes "I0") OneOrMore Static Reluctant ∷ []) ∷ [])
-
--- the journal, the last entry first
-abbrev pub past0 : History
+abbrev past0 : History
 past0 = []
 
-abbrev pub past1 : History
-past1 = plain (Commanded (Install doc1)) ∷ past0
+abbrev past1 : History
+past1 = record { step = (Commanded (Install doc1)); closed = []; opened = []; stopped = [] } ∷ past0
 
-abbrev pub past2 : History
-past2 = entry (Commanded (Start 1)) [] (opens 1 1 ∷ opens 2 2 ∷ []) [] ∷ past1
+abbrev past2 : History
+past2 = record { step = (Commanded (Install doc2)); closed = []; opened = []; stopped = [] } ∷ past1
 
-abbrev pub past3 : History
-past3 = plain (Begin 1 1 1 0 Create []) ∷ past2
+abbrev past3 : History
+past3 = record { step = (Commanded (Start 1)); closed = []; opened = []; stopped = [] } ∷ past2
 
-abbrev pub past4 : History
-past4 = plain (Commanded (Install doc2)) ∷ past3
+abbrev past4 : History
+past4 = record { step = (Commanded (Register 1 ((codes "Y") ∷ []) [])); closed = []; opened = []; stopped = [] } ∷ past3
 
-abbrev pub past5 : History
-past5 = entry (Commanded (Start 2)) [] (opens 3 3 ∷ opens 4 4 ∷ []) [] ∷ past4
+abbrev past5 : History
+past5 = record { step = (Commanded (Start 2)); closed = []; opened = (record { configuration = 3; service = 2 } ∷ record { configuration = 4; service = 0 } ∷ []); stopped = [] } ∷ past4
 
-abbrev pub past6 : History
-past6 = plain (Begin 2 2 3 0 Create []) ∷ past5
+abbrev past6 : History
+past6 = record { step = (Begin 1 1 3 0 Create []); closed = []; opened = []; stopped = [] } ∷ past5
 
-abbrev pub past7 : History
-past7 = plain (Commanded (Install doc3)) ∷ past6
+abbrev past7 : History
+past7 = record { step = (End 1 Done); closed = []; opened = []; stopped = [] } ∷ past6
 
-abbrev pub past8 : History
-past8 = entry (Commanded (Start 3)) [] (opens 5 5 ∷ []) [] ∷ past7
+abbrev past8 : History
+past8 = record { step = (Begin 2 1 3 0 Activate []); closed = []; opened = []; stopped = [] } ∷ past7
 
-abbrev pub past9 : History
-past9 = plain (Begin 3 3 4 0 Create []) ∷ past8
+abbrev past9 : History
+past9 = record { step = (End 2 Done); closed = []; opened = []; stopped = [] } ∷ past8
 
-abbrev pub past10 : History
-past10 = plain (Commanded (Install doc4)) ∷ past9
+abbrev past10 : History
+past10 = record { step = (Begin 3 2 4 0 Create []); closed = []; opened = []; stopped = [] } ∷ past9
 
-abbrev pub past11 : History
-past11 = entry (Commanded (Start 4)) [] (opens 6 0 ∷ []) [] ∷ past10
+abbrev past11 : History
+past11 = record { step = (End 3 Refused); closed = (4 ∷ []); opened = []; stopped = [] } ∷ past10
 
-abbrev pub past12 : History
-past12 = entry (End 1 Refused) (1 ∷ 6 ∷ []) [] [] ∷ past11
+abbrev past12 : History
+past12 = record { step = (Commanded (Register 2 ((codes "X") ∷ []) [])); closed = []; opened = []; stopped = [] } ∷ past11
 
-abbrev pub past13 : History
-past13 = entry (End 2 Refused) (3 ∷ 2 ∷ 5 ∷ []) [] [] ∷ past12
+abbrev past13 : History
+past13 = record { step = (Commanded (Unregister 2 3)); closed = []; opened = []; stopped = [] } ∷ past12
 
-abbrev pub past14 : History
-past14 = plain (End 3 Done) ∷ past13
+abbrev past14 : History
+past14 = record { step = (Commanded (SetProperties 1 1 [])); closed = []; opened = []; stopped = [] } ∷ past13
 
-abbrev pub past15 : History
-past15 = plain (Begin 4 3 4 0 Activate []) ∷ past14
+abbrev past15 : History
+past15 = record { step = (Commanded (SetProperties 1 1 (record { key = (codes "service.ranking"); value = (Whole (pos 3)) } ∷ []))); closed = []; opened = []; stopped = [] } ∷ past14
 
-abbrev pub past16 : History
-past16 = entry (Commanded (Stop 2)) (4 ∷ []) [] [] ∷ past15
+abbrev past16 : History
+past16 = record { step = (Commanded (Register 1 ((codes "I0") ∷ []) (record { key = (codes "service.ranking"); value = (Whole (pos 1)) } ∷ []))); closed = []; opened = []; stopped = [] } ∷ past15
 
-abbrev pub past17 : History
-past17 = entry (Commanded (Stop 3)) [] [] (3 ∷ []) ∷ past16
+abbrev past17 : History
+past17 = record { step = (Commanded (ConfigureFactory (codes "c4") (codes "a") (record { key = (codes "r1.cardinality.minimum"); value = (Whole (pos 3)) } ∷ record { key = (codes "r1.target"); value = (Text (codes "(v=1)")) } ∷ record { key = (codes "service.ranking"); value = (Whole (negsuc 0)) } ∷ []))); closed = []; opened = []; stopped = [] } ∷ past16
 
-abbrev pub past18 : History
-past18 = plain (End 4 Done) ∷ past17
+abbrev past18 : History
+past18 = record { step = (Commanded (Unregister 1 1)); closed = []; opened = []; stopped = [] } ∷ past17
 
-abbrev pub past19 : History
-past19 = plain (Drained 3) ∷ past18
+abbrev past19 : History
+past19 = record { step = (Commanded (Register 1 ((codes "I2") ∷ []) (record { key = (codes "v"); value = (Whole (pos 2)) } ∷ []))); closed = []; opened = (record { configuration = 1; service = 6 } ∷ []); stopped = [] } ∷ past18
 
-abbrev pub past20 : History
-past20 = plain (Begin 5 3 4 0 Deactivate []) ∷ past19
+abbrev past20 : History
+past20 = record { step = (Got 2 4); closed = []; opened = []; stopped = [] } ∷ past19
 
-abbrev pub past21 : History
-past21 = plain (End 5 Done) ∷ past20
+abbrev past21 : History
+past21 = record { step = (Released 19); closed = []; opened = []; stopped = [] } ∷ past20
 
-abbrev pub past22 : History
-past22 = plain (Begin 6 3 4 0 Destroy []) ∷ past21
+abbrev past22 : History
+past22 = record { step = (Commanded (Register 1 ((codes "I0") ∷ []) (record { key = (codes "service.ranking"); value = (Whole (negsuc 0)) } ∷ record { key = (codes "v"); value = (Whole (pos 1)) } ∷ []))); closed = []; opened = []; stopped = [] } ∷ past21
 
-abbrev pub past23 : History
-past23 = plain (Commanded (Start 3)) ∷ past22
+abbrev past23 : History
+past23 = record { step = (Commanded (Register 2 ((codes "I0") ∷ []) (record { key = (codes "service.ranking"); value = (Whole (negsuc 0)) } ∷ record { key = (codes "v"); value = (Whole (pos 0)) } ∷ []))); closed = []; opened = []; stopped = [] } ∷ past22
 
-abbrev pub past24 : History
-past24 = entry (End 6 Done) [] [] (2 ∷ []) ∷ past23
+abbrev past24 : History
+past24 = record { step = (Got 2 6); closed = []; opened = []; stopped = [] } ∷ past23
 
-abbrev pub past25 : History
-past25 = entry (Commanded (Start 2)) [] (opens 8 6 ∷ opens 9 7 ∷ opens 2 8 ∷ opens 7 9 ∷ []) [] ∷ past24
+abbrev past25 : History
+past25 = record { step = (Begin 4 3 1 0 Create (record { reference = 0; services = (5 ∷ []) } ∷ [])); closed = []; opened = []; stopped = [] } ∷ past24
 
-abbrev pub past26 : History
-past26 = plain (Begin 7 4 8 0 Create []) ∷ past25
+abbrev past26 : History
+past26 = record { step = (End 4 Done); closed = []; opened = []; stopped = [] } ∷ past25
 
-abbrev pub past27 : History
-past27 = plain (Begin 8 5 9 0 Create []) ∷ past26
+abbrev past27 : History
+past27 = record { step = (Begin 5 3 1 0 (Bind (codes "next") 5) []); closed = []; opened = []; stopped = [] } ∷ past26
 
-abbrev pub past28 : History
-past28 = entry (Commanded (Stop 3)) (7 ∷ []) [] (3 ∷ []) ∷ past27
+abbrev past28 : History
+past28 = record { step = (End 5 Done); closed = []; opened = []; stopped = [] } ∷ past27
 
-abbrev pub past29 : History
-past29 = entry (End 7 NoMemory) (8 ∷ 2 ∷ []) [] [] ∷ past28
+abbrev past29 : History
+past29 = record { step = (Begin 6 3 1 0 Activate []); closed = []; opened = []; stopped = [] } ∷ past28
 
-abbrev pub past30 : History
-past30 = plain (End 8 Done) ∷ past29
+abbrev past30 : History
+past30 = record { step = (End 6 Done); closed = []; opened = []; stopped = [] } ∷ past29
 
-abbrev pub past31 : History
-past31 = plain (Begin 9 5 9 0 Activate []) ∷ past30
+abbrev past31 : History
+past31 = record { step = (Released 23); closed = []; opened = []; stopped = [] } ∷ past30
 
-abbrev pub past32 : History
-past32 = plain (Commanded (Start 3)) ∷ past31
+abbrev past32 : History
+past32 = record { step = (Got 2 7); closed = []; opened = []; stopped = [] } ∷ past31
 
-abbrev pub past33 : History
-past33 = entry (End 9 Refused) (9 ∷ []) [] [] ∷ past32
+abbrev past33 : History
+past33 = record { step = (Released 31); closed = []; opened = []; stopped = [] } ∷ past32
 
-abbrev pub past34 : History
-past34 = plain (Begin 10 5 9 0 Destroy []) ∷ past33
+abbrev past34 : History
+past34 = record { step = (Got 2 7); closed = []; opened = []; stopped = [] } ∷ past33
 
-abbrev pub past35 : History
-past35 = plain (Commanded (Stop 2)) ∷ past34
+abbrev past35 : History
+past35 = record { step = (Released 33); closed = []; opened = []; stopped = [] } ∷ past34
 
-abbrev pub past36 : History
-past36 = entry (Commanded (Stop 4)) [] [] (4 ∷ []) ∷ past35
+abbrev past36 : History
+past36 = record { step = (Commanded (Register 1 ((codes "I1") ∷ []) (record { key = (codes "v"); value = (Whole (pos 2)) } ∷ []))); closed = []; opened = []; stopped = [] } ∷ past35
 
-abbrev pub past37 : History
-past37 = entry (Commanded (Stop 3)) [] [] (3 ∷ []) ∷ past36
+abbrev all : List World
+all = worlds past36
 
-abbrev pub past38 : History
-past38 = entry (End 10 Done) [] [] (2 ∷ []) ∷ past37
+is_legal : legal 4194304 past36 all ≡ true
+unfolding world_after_entry world_of world_after_step stage_in stage_of stopped_in stopped_by shut_between has_room satisfied_in
+is_legal = refl
 
-abbrev pub past39 : History
-past39 = entry (Commanded (Start 2)) [] (opens 11 10 ∷ opens 12 11 ∷ opens 2 12 ∷ []) [] ∷ past38
+stands_legal : IsLegal 4194304 past36
+stands_legal = legal_means 4194304 past36 is_legal
 
-abbrev pub past40 : History
-past40 = plain (Begin 11 6 11 0 Create []) ∷ past39
+which_begin : begins all ≡ (None ∷ None ∷ None ∷ None ∷ None ∷ None ∷ None ∷ None ∷ (Some (Begin 6 3 1 0 Activate [])) ∷ None ∷ (Some (Begin 5 3 1 0 (Bind (codes "next") 5) [])) ∷ None ∷ (Some (Begin 4 3 1 0 Create (record { reference = 0; services = (5 ∷ []) } ∷ []))) ∷ None ∷ None ∷ None ∷ None ∷ None ∷ None ∷ None ∷ None ∷ None ∷ None ∷ None ∷ None ∷ None ∷ None ∷ (Some (Begin 3 2 4 0 Create [])) ∷ (Some (Begin 3 2 4 0 Create [])) ∷ (Some (Begin 2 1 3 0 Activate [])) ∷ (Some (Begin 2 2 4 0 Create [])) ∷ (Some (Begin 1 1 3 0 Create [])) ∷ None ∷ None ∷ None ∷ None ∷ None ∷ [])
+unfolding world_after_entry world_of world_after_step stage_in stage_of stopped_in stopped_by shut_between has_room satisfied_in
+which_begin = refl
 
-abbrev pub past41 : History
-past41 = plain (Begin 12 7 12 0 Create []) ∷ past40
+which_states : states all ≡ (((1, 8) ∷ (3, 8) ∷ (4, 16) ∷ (5, 2) ∷ (6, 2) ∷ (7, 2) ∷ []) ∷ ((1, 8) ∷ (3, 8) ∷ (4, 16) ∷ (5, 2) ∷ (6, 2) ∷ (7, 2) ∷ []) ∷ ((1, 8) ∷ (3, 8) ∷ (4, 16) ∷ (5, 2) ∷ (6, 2) ∷ (7, 2) ∷ []) ∷ ((1, 8) ∷ (3, 8) ∷ (4, 16) ∷ (5, 2) ∷ (6, 2) ∷ (7, 2) ∷ []) ∷ ((1, 8) ∷ (3, 8) ∷ (4, 16) ∷ (5, 2) ∷ (6, 2) ∷ (7, 2) ∷ []) ∷ ((1, 8) ∷ (3, 8) ∷ (4, 16) ∷ (5, 2) ∷ (6, 2) ∷ (7, 2) ∷ []) ∷ ((1, 8) ∷ (3, 8) ∷ (4, 16) ∷ (5, 2) ∷ (6, 2) ∷ (7, 2) ∷ []) ∷ ((1, 4) ∷ (3, 8) ∷ (4, 16) ∷ (5, 2) ∷ (6, 2) ∷ (7, 2) ∷ []) ∷ ((1, 4) ∷ (3, 8) ∷ (4, 16) ∷ (5, 2) ∷ (6, 2) ∷ (7, 2) ∷ []) ∷ ((1, 4) ∷ (3, 8) ∷ (4, 16) ∷ (5, 2) ∷ (6, 2) ∷ (7, 2) ∷ []) ∷ ((1, 4) ∷ (3, 8) ∷ (4, 16) ∷ (5, 2) ∷ (6, 2) ∷ (7, 2) ∷ []) ∷ ((1, 4) ∷ (3, 8) ∷ (4, 16) ∷ (5, 2) ∷ (6, 2) ∷ (7, 2) ∷ []) ∷ ((1, 4) ∷ (3, 8) ∷ (4, 16) ∷ (5, 2) ∷ (6, 2) ∷ (7, 2) ∷ []) ∷ ((1, 4) ∷ (3, 8) ∷ (4, 16) ∷ (5, 2) ∷ (6, 2) ∷ (7, 2) ∷ []) ∷ ((1, 4) ∷ (3, 8) ∷ (4, 16) ∷ (5, 2) ∷ (6, 2) ∷ (7, 2) ∷ []) ∷ ((1, 4) ∷ (3, 8) ∷ (4, 16) ∷ (5, 2) ∷ (6, 2) ∷ (7, 2) ∷ []) ∷ ((1, 4) ∷ (3, 8) ∷ (4, 16) ∷ (5, 2) ∷ (6, 2) ∷ (7, 2) ∷ []) ∷ ((1, 4) ∷ (3, 8) ∷ (4, 16) ∷ (5, 2) ∷ (6, 2) ∷ (7, 2) ∷ []) ∷ ((1, 2) ∷ (3, 8) ∷ (4, 16) ∷ (5, 2) ∷ (6, 2) ∷ (7, 2) ∷ []) ∷ ((1, 2) ∷ (3, 8) ∷ (4, 16) ∷ (5, 2) ∷ (6, 2) ∷ (7, 2) ∷ []) ∷ ((1, 2) ∷ (2, 1) ∷ (3, 8) ∷ (4, 16) ∷ (5, 2) ∷ (6, 2) ∷ []) ∷ ((1, 2) ∷ (2, 1) ∷ (3, 8) ∷ (4, 16) ∷ (5, 2) ∷ (6, 2) ∷ []) ∷ ((1, 2) ∷ (2, 1) ∷ (3, 8) ∷ (4, 16) ∷ (5, 2) ∷ (6, 2) ∷ []) ∷ ((1, 2) ∷ (2, 1) ∷ (3, 8) ∷ (4, 16) ∷ (5, 2) ∷ (6, 2) ∷ []) ∷ ((1, 2) ∷ (2, 1) ∷ (3, 8) ∷ (4, 16) ∷ (5, 2) ∷ (6, 2) ∷ []) ∷ ((1, 2) ∷ (2, 1) ∷ (3, 8) ∷ (4, 16) ∷ (5, 2) ∷ (6, 2) ∷ []) ∷ ((1, 2) ∷ (2, 1) ∷ (3, 8) ∷ (4, 4) ∷ (5, 2) ∷ (6, 2) ∷ []) ∷ ((1, 2) ∷ (2, 1) ∷ (3, 8) ∷ (4, 4) ∷ (5, 2) ∷ (6, 2) ∷ []) ∷ ((1, 2) ∷ (2, 1) ∷ (3, 4) ∷ (4, 4) ∷ (5, 2) ∷ (6, 2) ∷ []) ∷ ((1, 2) ∷ (2, 1) ∷ (3, 4) ∷ (4, 4) ∷ (5, 2) ∷ (6, 2) ∷ []) ∷ ((1, 2) ∷ (2, 1) ∷ (3, 4) ∷ (4, 4) ∷ (5, 2) ∷ (6, 2) ∷ []) ∷ ((1, 2) ∷ (2, 1) ∷ (3, 4) ∷ (4, 4) ∷ (5, 2) ∷ (6, 2) ∷ []) ∷ ((1, 2) ∷ (2, 1) ∷ []) ∷ ((1, 2) ∷ (2, 1) ∷ []) ∷ [] ∷ [] ∷ [] ∷ [])
+unfolding world_after_entry world_of world_after_step stage_in stage_of stopped_in stopped_by shut_between has_room satisfied_in
+which_states = refl
 
-abbrev pub past42 : History
-past42 = plain (End 11 Done) ∷ past41
+which_quiet : quiet_ones all ≡ (true ∷ true ∷ true ∷ true ∷ true ∷ true ∷ true ∷ false ∷ false ∷ false ∷ false ∷ false ∷ false ∷ true ∷ true ∷ true ∷ true ∷ true ∷ true ∷ true ∷ true ∷ true ∷ true ∷ true ∷ true ∷ true ∷ false ∷ false ∷ false ∷ false ∷ false ∷ false ∷ true ∷ true ∷ true ∷ true ∷ true ∷ [])
+unfolding world_after_entry world_of world_after_step stage_in stage_of stopped_in stopped_by shut_between has_room satisfied_in
+which_quiet = refl
 
-abbrev pub past43 : History
-past43 = plain (Begin 13 6 11 0 Activate []) ∷ past42
+which_right : right_ones all ≡ (true ∷ true ∷ true ∷ true ∷ true ∷ true ∷ true ∷ false ∷ false ∷ false ∷ false ∷ false ∷ false ∷ true ∷ true ∷ true ∷ true ∷ true ∷ true ∷ true ∷ true ∷ true ∷ true ∷ true ∷ true ∷ true ∷ false ∷ false ∷ false ∷ false ∷ false ∷ false ∷ true ∷ true ∷ true ∷ true ∷ true ∷ [])
+unfolding world_after_entry world_of world_after_step stage_in stage_of stopped_in stopped_by shut_between has_room satisfied_in
+which_right = refl
 
-abbrev pub past44 : History
-past44 = entry (Commanded (Stop 1)) (2 ∷ []) [] (1 ∷ []) ∷ past43
+which_wanted : wanted_at all ≡ ((record { configuration = 3; consumer = 0 } ∷ []) ∷ (record { configuration = 3; consumer = 0 } ∷ []) ∷ (record { configuration = 3; consumer = 0 } ∷ []) ∷ (record { configuration = 3; consumer = 0 } ∷ []) ∷ (record { configuration = 3; consumer = 0 } ∷ []) ∷ (record { configuration = 3; consumer = 0 } ∷ []) ∷ (record { configuration = 1; consumer = 0 } ∷ record { configuration = 3; consumer = 0 } ∷ []) ∷ (record { configuration = 1; consumer = 0 } ∷ record { configuration = 3; consumer = 0 } ∷ []) ∷ (record { configuration = 1; consumer = 0 } ∷ record { configuration = 3; consumer = 0 } ∷ []) ∷ (record { configuration = 1; consumer = 0 } ∷ record { configuration = 3; consumer = 0 } ∷ []) ∷ (record { configuration = 1; consumer = 0 } ∷ record { configuration = 3; consumer = 0 } ∷ []) ∷ (record { configuration = 1; consumer = 0 } ∷ record { configuration = 3; consumer = 0 } ∷ []) ∷ (record { configuration = 1; consumer = 0 } ∷ record { configuration = 3; consumer = 0 } ∷ []) ∷ (record { configuration = 3; consumer = 0 } ∷ []) ∷ (record { configuration = 3; consumer = 0 } ∷ []) ∷ (record { configuration = 3; consumer = 0 } ∷ []) ∷ (record { configuration = 3; consumer = 0 } ∷ []) ∷ (record { configuration = 3; consumer = 0 } ∷ []) ∷ (record { configuration = 3; consumer = 0 } ∷ []) ∷ (record { configuration = 3; consumer = 0 } ∷ []) ∷ (record { configuration = 3; consumer = 0 } ∷ []) ∷ (record { configuration = 3; consumer = 0 } ∷ []) ∷ (record { configuration = 3; consumer = 0 } ∷ []) ∷ (record { configuration = 3; consumer = 0 } ∷ []) ∷ (record { configuration = 3; consumer = 0 } ∷ []) ∷ (record { configuration = 3; consumer = 0 } ∷ []) ∷ (record { configuration = 3; consumer = 0 } ∷ record { configuration = 4; consumer = 0 } ∷ []) ∷ (record { configuration = 3; consumer = 0 } ∷ record { configuration = 4; consumer = 0 } ∷ []) ∷ (record { configuration = 3; consumer = 0 } ∷ record { configuration = 4; consumer = 0 } ∷ []) ∷ (record { configuration = 3; consumer = 0 } ∷ record { configuration = 4; consumer = 0 } ∷ []) ∷ (record { configuration = 3; consumer = 0 } ∷ record { configuration = 4; consumer = 0 } ∷ []) ∷ (record { configuration = 3; consumer = 0 } ∷ record { configuration = 4; consumer = 0 } ∷ []) ∷ [] ∷ [] ∷ [] ∷ [] ∷ [] ∷ [])
+unfolding world_after_entry world_of world_after_step stage_in stage_of stopped_in stopped_by shut_between has_room satisfied_in
+which_wanted = refl
 
-abbrev pub past45 : History
-past45 = plain (End 12 Done) ∷ past44
+which_replies : replies 4194304 all (asked 0 (Install doc1) ∷ asked 1 (Install doc2) ∷ asked 2 (Start 1) ∷ asked 3 (Register 1 ((codes "Y") ∷ []) []) ∷ asked 4 (Start 2) ∷ asked 11 (Register 2 ((codes "X") ∷ []) []) ∷ asked 12 (Unregister 2 3) ∷ asked 13 (SetProperties 1 1 []) ∷ asked 14 (SetProperties 1 1 (record { key = (codes "service.ranking"); value = (Whole (pos 3)) } ∷ [])) ∷ asked 15 (Register 1 ((codes "I0") ∷ []) (record { key = (codes "service.ranking"); value = (Whole (pos 1)) } ∷ [])) ∷ asked 16 (Unconfigure (codes "c2")) ∷ asked 16 (ConfigureFactory (codes "c4") (codes "a") (record { key = (codes "r1.cardinality.minimum"); value = (Whole (pos 3)) } ∷ record { key = (codes "r1.target"); value = (Text (codes "(v=1)")) } ∷ record { key = (codes "service.ranking"); value = (Whole (negsuc 0)) } ∷ [])) ∷ asked 17 (Unregister 1 1) ∷ asked 18 (Register 1 ((codes "I2") ∷ []) (record { key = (codes "v"); value = (Whole (pos 2)) } ∷ [])) ∷ asked 21 (Register 1 ((codes "I0") ∷ []) (record { key = (codes "service.ranking"); value = (Whole (negsuc 0)) } ∷ record { key = (codes "v"); value = (Whole (pos 1)) } ∷ [])) ∷ asked 22 (Register 2 ((codes "I0") ∷ []) (record { key = (codes "service.ranking"); value = (Whole (negsuc 0)) } ∷ record { key = (codes "v"); value = (Whole (pos 0)) } ∷ [])) ∷ asked 35 (Register 1 ((codes "I1") ∷ []) (record { key = (codes "v"); value = (Whole (pos 2)) } ∷ [])) ∷ []) ≡ ((Ok (InBundle 1)) ∷ (Ok (InBundle 2)) ∷ (Ok IsDone) ∷ (Ok (AsService 1)) ∷ (Ok IsDone) ∷ (Ok (AsService 3)) ∷ (Ok IsDone) ∷ (Ok IsDone) ∷ (Ok IsDone) ∷ (Ok (AsService 4)) ∷ (Err NoConfiguration) ∷ (Ok IsDone) ∷ (Ok IsDone) ∷ (Ok (AsService 5)) ∷ (Ok (AsService 7)) ∷ (Ok (AsService 8)) ∷ (Ok (AsService 9)) ∷ [])
+unfolding world_after_entry world_of world_after_step stage_in stage_of stopped_in stopped_by shut_between has_room satisfied_in
+which_replies = refl
 
-abbrev pub past46 : History
-past46 = plain (Begin 14 7 12 0 Activate []) ∷ past45
+bundle_events : bundle_events_at_end all ≡ (record { value = 1; bundle = 1 } ∷ record { value = 1; bundle = 2 } ∷ record { value = 32; bundle = 1 } ∷ record { value = 128; bundle = 1 } ∷ record { value = 2; bundle = 1 } ∷ record { value = 32; bundle = 2 } ∷ record { value = 128; bundle = 2 } ∷ record { value = 2; bundle = 2 } ∷ [])
+unfolding world_after_entry world_of world_after_step stage_in stage_of stopped_in stopped_by shut_between has_room satisfied_in
+bundle_events = refl
 
-abbrev pub past47 : History
-past47 = plain (End 13 Done) ∷ past46
+held_1 : held_at_end 1 all ≡ (record { instance = 3; reference = (codes "next"); service = 5 } ∷ [])
+unfolding world_after_entry world_of world_after_step stage_in stage_of stopped_in stopped_by shut_between has_room satisfied_in
+held_1 = refl
 
-abbrev pub past48 : History
-past48 = entry (End 14 Refused) (12 ∷ []) [] [] ∷ past47
+held_3 : held_at_end 3 all ≡ []
+unfolding world_after_entry world_of world_after_step stage_in stage_of stopped_in stopped_by shut_between has_room satisfied_in
+held_3 = refl
 
-abbrev pub past49 : History
-past49 = entry (Commanded (Start 1)) [] (opens 13 13 ∷ opens 14 14 ∷ []) [] ∷ past48
+held_4 : held_at_end 4 all ≡ []
+unfolding world_after_entry world_of world_after_step stage_in stage_of stopped_in stopped_by shut_between has_room satisfied_in
+held_4 = refl
 
-abbrev pub past50 : History
-past50 = plain (Begin 15 7 12 0 Destroy []) ∷ past49
+held_5 : held_at_end 5 all ≡ []
+unfolding world_after_entry world_of world_after_step stage_in stage_of stopped_in stopped_by shut_between has_room satisfied_in
+held_5 = refl
 
-abbrev pub past51 : History
-past51 = plain (Begin 16 8 13 0 Create []) ∷ past50
+held_6 : held_at_end 6 all ≡ []
+unfolding world_after_entry world_of world_after_step stage_in stage_of stopped_in stopped_by shut_between has_room satisfied_in
+held_6 = refl
 
-abbrev pub past52 : History
-past52 = entry (Commanded (Start 4)) [] (opens 15 0 ∷ []) [] ∷ past51
+held_7 : held_at_end 7 all ≡ []
+unfolding world_after_entry world_of world_after_step stage_in stage_of stopped_in stopped_by shut_between has_room satisfied_in
+held_7 = refl
 
-abbrev pub past53 : History
-past53 = plain (Begin 17 9 15 0 Create (chose 1 (13 ∷ []) ∷ [])) ∷ past52
+bound_is : bound_at_end all ≡ 198
+unfolding world_after_entry world_of world_after_step stage_in stage_of stopped_in stopped_by shut_between has_room satisfied_in
+bound_is = refl
 
-abbrev pub past54 : History
-past54 = plain (Begin 18 10 14 0 Create (chose 0 (10 ∷ 13 ∷ []) ∷ chose 1 [] ∷ [])) ∷ past53
-
-abbrev pub past55 : History
-past55 = plain (End 15 Done) ∷ past54
-
-abbrev pub past56 : History
-past56 = entry (Commanded (Start 3)) [] (opens 16 15 ∷ []) [] ∷ past55
-
-abbrev pub past57 : History
-past57 = plain (Begin 19 11 16 0 Create (chose 1 (10 ∷ []) ∷ [])) ∷ past56
-
-abbrev pub past58 : History
-past58 = entry (Commanded (Stop 2)) (11 ∷ 14 ∷ 16 ∷ []) [] [] ∷ past57
-
-abbrev pub past59 : History
-past59 = entry (End 18 Refused) [] (opens 14 16 ∷ []) [] ∷ past58
-
-abbrev pub past60 : History
-past60 = plain (Begin 20 12 14 0 Create (chose 0 (13 ∷ []) ∷ chose 1 [] ∷ [])) ∷ past59
-
-abbrev pub past61 : History
-past61 = plain (Commanded (Stop 3)) ∷ past60
-
-abbrev pub past62 : History
-past62 = entry (End 16 Refused) (13 ∷ 14 ∷ 15 ∷ []) [] [] ∷ past61
-
-abbrev pub past63 : History
-past63 = plain (Drained 6) ∷ past62
-
-abbrev pub past64 : History
-past64 = plain (End 20 Done) ∷ past63
-
-abbrev pub past65 : History
-past65 = plain (Commanded (Stop 4)) ∷ past64
-
-abbrev pub past66 : History
-past66 = plain (End 19 Done) ∷ past65
-
-abbrev pub past67 : History
-past67 = entry (End 17 NoMemory) [] [] (4 ∷ []) ∷ past66
-
-abbrev pub past68 : History
-past68 = plain (Begin 21 6 11 0 Deactivate []) ∷ past67
-
-abbrev pub past69 : History
-past69 = plain (Begin 22 11 16 0 Destroy []) ∷ past68
-
-abbrev pub past70 : History
-past70 = plain (Begin 23 12 14 0 Destroy []) ∷ past69
-
-abbrev pub past71 : History
-past71 = plain (End 21 NoMemory) ∷ past70
-
-abbrev pub past72 : History
-past72 = plain (Begin 24 6 11 0 Destroy []) ∷ past71
-
-abbrev pub past73 : History
-past73 = entry (End 22 NoMemory) [] [] (3 ∷ []) ∷ past72
-
-abbrev pub past74 : History
-past74 = plain (End 23 Done) ∷ past73
-
-abbrev pub past75 : History
-past75 = plain (Commanded (Start 3)) ∷ past74
-
-abbrev pub past76 : History
-past76 = plain (Commanded (Start 4)) ∷ past75
-
-abbrev pub past77 : History
-past77 = entry (End 24 Done) [] [] (2 ∷ []) ∷ past76
-
-abbrev pub past78 : History
-past78 = entry (Commanded (Stop 4)) [] [] (4 ∷ []) ∷ past77
-
-abbrev pub past79 : History
-past79 = plain (Commanded (Start 4)) ∷ past78
-
-abbrev pub past80 : History
-past80 = entry (Commanded (Start 2)) [] (opens 20 17 ∷ opens 21 18 ∷ opens 14 19 ∷ opens 17 20 ∷ []) [] ∷ past79
-
-abbrev pub past81 : History
-past81 = plain (Begin 25 13 20 0 Create []) ∷ past80
-
-abbrev pub past82 : History
-past82 = plain (Begin 26 14 21 0 Create []) ∷ past81
-
-abbrev pub past83 : History
-past83 = plain (End 26 Done) ∷ past82
-
-abbrev pub past84 : History
-past84 = plain (Begin 27 14 21 0 Activate []) ∷ past83
-
-abbrev pub past85 : History
-past85 = entry (Commanded (Stop 3)) (17 ∷ []) [] (3 ∷ []) ∷ past84
-
-abbrev pub past86 : History
-past86 = plain (End 25 Done) ∷ past85
-
-abbrev pub past87 : History
-past87 = plain (Begin 28 13 20 0 Activate []) ∷ past86
-
-abbrev pub past88 : History
-past88 = plain (End 27 Done) ∷ past87
-
-abbrev pub past89 : History
-past89 = entry (Commanded (Stop 2)) (20 ∷ 21 ∷ 14 ∷ []) [] [] ∷ past88
-
-abbrev pub past90 : History
-past90 = plain (Drained 14) ∷ past89
-
-abbrev pub past91 : History
-past91 = plain (Begin 29 14 21 0 Deactivate []) ∷ past90
-
-abbrev pub past92 : History
-past92 = entry (Commanded (Stop 4)) [] [] (4 ∷ []) ∷ past91
-
-abbrev pub past93 : History
-past93 = entry (Commanded (Stop 1)) [] [] (1 ∷ []) ∷ past92
-
-abbrev pub past94 : History
-past94 = plain (Commanded (Start 3)) ∷ past93
-
-abbrev pub past95 : History
-past95 = plain (End 29 Done) ∷ past94
-
-abbrev pub past96 : History
-past96 = plain (End 28 Done) ∷ past95
-
-abbrev pub past97 : History
-past97 = entry (Commanded (Stop 3)) [] [] (3 ∷ []) ∷ past96
-
-abbrev pub past98 : History
-past98 = plain (Drained 13) ∷ past97
-
-abbrev pub past99 : History
-past99 = plain (Commanded (Start 3)) ∷ past98
-
-abbrev pub past100 : History
-past100 = plain (Begin 30 13 20 0 Deactivate []) ∷ past99
-
-abbrev pub past101 : History
-past101 = plain (Begin 31 14 21 0 Destroy []) ∷ past100
-
-abbrev pub past102 : History
-past102 = plain (End 31 Done) ∷ past101
-
-abbrev pub past103 : History
-past103 = plain (End 30 Done) ∷ past102
-
-abbrev pub past104 : History
-past104 = plain (Begin 32 13 20 0 Destroy []) ∷ past103
-
-abbrev pub past105 : History
-past105 = entry (Commanded (Start 1)) [] (opens 24 21 ∷ opens 23 22 ∷ opens 25 23 ∷ []) [] ∷ past104
-
-abbrev pub past106 : History
-past106 = plain (Begin 33 15 24 0 Create []) ∷ past105
-
-abbrev pub past107 : History
-past107 = entry (End 32 Done) [] [] (2 ∷ []) ∷ past106
-
-abbrev pub past108 : History
-past108 = entry (Commanded (Start 4)) [] (opens 26 0 ∷ []) [] ∷ past107
-
-abbrev pub past109 : History
-past109 = plain (Begin 34 16 26 0 Create (chose 1 (21 ∷ []) ∷ [])) ∷ past108
-
-abbrev pub past110 : History
-past110 = plain (Begin 35 17 23 0 Create (chose 1 (21 ∷ []) ∷ [])) ∷ past109
-
-begins_40 : map next_begin (worlds past40) ≡ (Some (Begin 12 7 12 0 Create []) ∷ Some (Begin 11 6 11 0 Create []) ∷ None ∷ None ∷ None ∷ None ∷ None ∷ Some (Begin 10 5 9 0 Destroy []) ∷ None ∷ None ∷ Some (Begin 9 5 9 0 Activate []) ∷ None ∷ None ∷ None ∷ Some (Begin 8 5 9 0 Create []) ∷ Some (Begin 7 4 8 0 Create []) ∷ None ∷ None ∷ None ∷ Some (Begin 6 3 4 0 Destroy []) ∷ None ∷ Some (Begin 5 3 4 0 Deactivate []) ∷ None ∷ None ∷ None ∷ None ∷ Some (Begin 4 3 4 0 Activate []) ∷ None ∷ None ∷ Some (Begin 4 4 6 0 Create (chose 1 (1 ∷ []) ∷ [])) ∷ None ∷ None ∷ Some (Begin 3 3 4 0 Create []) ∷ Some (Begin 3 3 4 0 Create []) ∷ Some (Begin 3 3 4 0 Create []) ∷ Some (Begin 2 2 3 0 Create []) ∷ None ∷ None ∷ Some (Begin 1 1 1 0 Create []) ∷ None ∷ None ∷ [])
-begins_40 = refl
-
-missing_keys_40 : map keys (worlds past40) ≡ ((12 ∷ []) ∷ (11 ∷ 12 ∷ []) ∷ [] ∷ [] ∷ [] ∷ [] ∷ [] ∷ [] ∷ [] ∷ [] ∷ [] ∷ [] ∷ [] ∷ [] ∷ (9 ∷ []) ∷ (8 ∷ 9 ∷ []) ∷ [] ∷ [] ∷ [] ∷ [] ∷ [] ∷ [] ∷ [] ∷ [] ∷ [] ∷ [] ∷ [] ∷ [] ∷ [] ∷ (6 ∷ []) ∷ [] ∷ [] ∷ (4 ∷ []) ∷ (4 ∷ []) ∷ (4 ∷ []) ∷ (3 ∷ 4 ∷ []) ∷ [] ∷ [] ∷ (1 ∷ []) ∷ [] ∷ [] ∷ [])
-missing_keys_40 = refl
-
-failed_ones_40 : map marks (worlds past40) ≡ ((1 ∷ []) ∷ (1 ∷ []) ∷ (1 ∷ []) ∷ (1 ∷ []) ∷ (1 ∷ []) ∷ (1 ∷ []) ∷ (1 ∷ 8 ∷ 9 ∷ []) ∷ (1 ∷ 8 ∷ 9 ∷ []) ∷ (1 ∷ 8 ∷ []) ∷ (1 ∷ 8 ∷ []) ∷ (1 ∷ 8 ∷ []) ∷ (1 ∷ 8 ∷ []) ∷ (1 ∷ []) ∷ (1 ∷ []) ∷ (1 ∷ []) ∷ (1 ∷ []) ∷ (1 ∷ []) ∷ (1 ∷ []) ∷ (1 ∷ []) ∷ (1 ∷ []) ∷ (1 ∷ []) ∷ (1 ∷ []) ∷ (1 ∷ []) ∷ (1 ∷ []) ∷ (1 ∷ []) ∷ (1 ∷ 3 ∷ []) ∷ (1 ∷ 3 ∷ []) ∷ (1 ∷ 3 ∷ []) ∷ (1 ∷ []) ∷ [] ∷ [] ∷ [] ∷ [] ∷ [] ∷ [] ∷ [] ∷ [] ∷ [] ∷ [] ∷ [] ∷ [] ∷ [])
-failed_ones_40 = refl
-
-satisfied_ones_40 : map satisfied_in (worlds past40) ≡ ((1 ∷ 11 ∷ 12 ∷ 2 ∷ []) ∷ (1 ∷ 11 ∷ 12 ∷ 2 ∷ []) ∷ (1 ∷ []) ∷ (1 ∷ []) ∷ (1 ∷ []) ∷ (1 ∷ []) ∷ (1 ∷ 8 ∷ 9 ∷ []) ∷ (1 ∷ 8 ∷ 9 ∷ []) ∷ (1 ∷ 8 ∷ 9 ∷ []) ∷ (1 ∷ 8 ∷ 9 ∷ []) ∷ (1 ∷ 8 ∷ 9 ∷ []) ∷ (1 ∷ 8 ∷ 9 ∷ []) ∷ (1 ∷ 8 ∷ 9 ∷ 2 ∷ []) ∷ (1 ∷ 8 ∷ 9 ∷ 2 ∷ 7 ∷ []) ∷ (1 ∷ 8 ∷ 9 ∷ 2 ∷ 7 ∷ []) ∷ (1 ∷ 8 ∷ 9 ∷ 2 ∷ 7 ∷ []) ∷ (1 ∷ []) ∷ (1 ∷ []) ∷ (1 ∷ []) ∷ (1 ∷ []) ∷ (1 ∷ []) ∷ (1 ∷ []) ∷ (1 ∷ []) ∷ (1 ∷ []) ∷ (1 ∷ []) ∷ (1 ∷ 3 ∷ 4 ∷ []) ∷ (1 ∷ 3 ∷ 4 ∷ []) ∷ (1 ∷ 3 ∷ 4 ∷ []) ∷ (1 ∷ 3 ∷ 4 ∷ 2 ∷ 5 ∷ []) ∷ (1 ∷ 3 ∷ 4 ∷ 2 ∷ 5 ∷ 6 ∷ []) ∷ (1 ∷ 3 ∷ 4 ∷ 2 ∷ 5 ∷ []) ∷ (1 ∷ 3 ∷ 4 ∷ 2 ∷ 5 ∷ []) ∷ (1 ∷ 3 ∷ 4 ∷ 2 ∷ 5 ∷ []) ∷ (1 ∷ 3 ∷ 4 ∷ 2 ∷ []) ∷ (1 ∷ 3 ∷ 4 ∷ 2 ∷ []) ∷ (1 ∷ 3 ∷ 4 ∷ 2 ∷ []) ∷ (1 ∷ 2 ∷ []) ∷ (1 ∷ 2 ∷ []) ∷ (1 ∷ 2 ∷ []) ∷ [] ∷ [] ∷ [])
-satisfied_ones_40 = refl
-
-states_40 : map told_lines (worlds past40) ≡ (((1, 16) ∷ (2, 4) ∷ (11, 4) ∷ (12, 4) ∷ []) ∷ ((1, 16) ∷ (2, 4) ∷ (11, 4) ∷ (12, 4) ∷ []) ∷ ((1, 16) ∷ (2, 2) ∷ []) ∷ ((1, 16) ∷ (2, 2) ∷ []) ∷ ((1, 16) ∷ (2, 2) ∷ (10, 2) ∷ []) ∷ ((1, 16) ∷ (2, 2) ∷ (6, 2) ∷ (10, 2) ∷ []) ∷ ((1, 16) ∷ (2, 2) ∷ (6, 2) ∷ (8, 16) ∷ (9, 16) ∷ (10, 2) ∷ []) ∷ ((1, 16) ∷ (2, 2) ∷ (6, 2) ∷ (8, 16) ∷ (9, 16) ∷ (10, 2) ∷ []) ∷ ((1, 16) ∷ (2, 2) ∷ (6, 2) ∷ (8, 16) ∷ (9, 4) ∷ (10, 2) ∷ []) ∷ ((1, 16) ∷ (2, 2) ∷ (6, 2) ∷ (8, 16) ∷ (9, 4) ∷ []) ∷ ((1, 16) ∷ (2, 2) ∷ (6, 2) ∷ (8, 16) ∷ (9, 4) ∷ []) ∷ ((1, 16) ∷ (2, 2) ∷ (6, 2) ∷ (8, 16) ∷ (9, 4) ∷ []) ∷ ((1, 16) ∷ (2, 4) ∷ (6, 2) ∷ (8, 4) ∷ (9, 4) ∷ []) ∷ ((1, 16) ∷ (2, 4) ∷ (6, 2) ∷ (7, 4) ∷ (8, 4) ∷ (9, 4) ∷ []) ∷ ((1, 16) ∷ (2, 4) ∷ (6, 2) ∷ (7, 4) ∷ (8, 4) ∷ (9, 4) ∷ []) ∷ ((1, 16) ∷ (2, 4) ∷ (6, 2) ∷ (7, 4) ∷ (8, 4) ∷ (9, 4) ∷ []) ∷ ((1, 16) ∷ (2, 2) ∷ (6, 2) ∷ (7, 2) ∷ []) ∷ ((1, 16) ∷ (2, 2) ∷ (6, 2) ∷ (7, 2) ∷ []) ∷ ((1, 16) ∷ (2, 2) ∷ (6, 2) ∷ []) ∷ ((1, 16) ∷ (2, 2) ∷ (6, 2) ∷ []) ∷ ((1, 16) ∷ (2, 2) ∷ (6, 2) ∷ []) ∷ ((1, 16) ∷ (2, 2) ∷ (6, 2) ∷ []) ∷ ((1, 16) ∷ (2, 2) ∷ (6, 2) ∷ []) ∷ ((1, 16) ∷ (2, 2) ∷ (6, 2) ∷ []) ∷ ((1, 16) ∷ (2, 2) ∷ (5, 2) ∷ (6, 2) ∷ []) ∷ ((1, 16) ∷ (2, 2) ∷ (3, 16) ∷ (4, 4) ∷ (5, 2) ∷ (6, 2) ∷ []) ∷ ((1, 16) ∷ (2, 2) ∷ (3, 16) ∷ (4, 4) ∷ (5, 2) ∷ (6, 2) ∷ []) ∷ ((1, 16) ∷ (2, 2) ∷ (3, 16) ∷ (4, 4) ∷ (5, 2) ∷ (6, 2) ∷ []) ∷ ((1, 16) ∷ (2, 4) ∷ (3, 4) ∷ (4, 4) ∷ (5, 4) ∷ (6, 2) ∷ []) ∷ ((1, 4) ∷ (2, 4) ∷ (3, 4) ∷ (4, 4) ∷ (5, 4) ∷ (6, 4) ∷ []) ∷ ((1, 4) ∷ (2, 4) ∷ (3, 4) ∷ (4, 4) ∷ (5, 4) ∷ []) ∷ ((1, 4) ∷ (2, 4) ∷ (3, 4) ∷ (4, 4) ∷ (5, 4) ∷ []) ∷ ((1, 4) ∷ (2, 4) ∷ (3, 4) ∷ (4, 4) ∷ (5, 4) ∷ []) ∷ ((1, 4) ∷ (2, 4) ∷ (3, 4) ∷ (4, 4) ∷ []) ∷ ((1, 4) ∷ (2, 4) ∷ (3, 4) ∷ (4, 4) ∷ []) ∷ ((1, 4) ∷ (2, 4) ∷ (3, 4) ∷ (4, 4) ∷ []) ∷ ((1, 4) ∷ (2, 4) ∷ []) ∷ ((1, 4) ∷ (2, 4) ∷ []) ∷ ((1, 4) ∷ (2, 4) ∷ []) ∷ [] ∷ [] ∷ [])
-states_40 = refl
-
-bundles_40 : map bundle_states (worlds past40) ≡ ((Active ∷ Active ∷ Resolved ∷ Resolved ∷ []) ∷ (Active ∷ Active ∷ Resolved ∷ Resolved ∷ []) ∷ (Active ∷ Resolved ∷ Resolved ∷ Resolved ∷ []) ∷ (Active ∷ Stopping ∷ Resolved ∷ Resolved ∷ []) ∷ (Active ∷ Stopping ∷ Active ∷ Resolved ∷ []) ∷ (Active ∷ Stopping ∷ Active ∷ Active ∷ []) ∷ (Active ∷ Active ∷ Active ∷ Active ∷ []) ∷ (Active ∷ Active ∷ Active ∷ Active ∷ []) ∷ (Active ∷ Active ∷ Active ∷ Active ∷ []) ∷ (Active ∷ Active ∷ Resolved ∷ Active ∷ []) ∷ (Active ∷ Active ∷ Resolved ∷ Active ∷ []) ∷ (Active ∷ Active ∷ Resolved ∷ Active ∷ []) ∷ (Active ∷ Active ∷ Resolved ∷ Active ∷ []) ∷ (Active ∷ Active ∷ Active ∷ Active ∷ []) ∷ (Active ∷ Active ∷ Active ∷ Active ∷ []) ∷ (Active ∷ Active ∷ Active ∷ Active ∷ []) ∷ (Active ∷ Resolved ∷ Active ∷ Active ∷ []) ∷ (Active ∷ Stopping ∷ Active ∷ Active ∷ []) ∷ (Active ∷ Stopping ∷ Resolved ∷ Active ∷ []) ∷ (Active ∷ Stopping ∷ Resolved ∷ Active ∷ []) ∷ (Active ∷ Stopping ∷ Resolved ∷ Active ∷ []) ∷ (Active ∷ Stopping ∷ Resolved ∷ Active ∷ []) ∷ (Active ∷ Stopping ∷ Resolved ∷ Active ∷ []) ∷ (Active ∷ Stopping ∷ Resolved ∷ Active ∷ []) ∷ (Active ∷ Stopping ∷ Active ∷ Active ∷ []) ∷ (Active ∷ Active ∷ Active ∷ Active ∷ []) ∷ (Active ∷ Active ∷ Active ∷ Active ∷ []) ∷ (Active ∷ Active ∷ Active ∷ Active ∷ []) ∷ (Active ∷ Active ∷ Active ∷ Active ∷ []) ∷ (Active ∷ Active ∷ Active ∷ Active ∷ []) ∷ (Active ∷ Active ∷ Active ∷ Installed ∷ []) ∷ (Active ∷ Active ∷ Active ∷ []) ∷ (Active ∷ Active ∷ Active ∷ []) ∷ (Active ∷ Active ∷ Installed ∷ []) ∷ (Active ∷ Active ∷ []) ∷ (Active ∷ Active ∷ []) ∷ (Active ∷ Installed ∷ []) ∷ (Active ∷ []) ∷ (Active ∷ []) ∷ (Installed ∷ []) ∷ [] ∷ [])
-bundles_40 = refl
-
-gate_keys_40 : map gates (worlds past40) ≡ (((6, 0, 0) ∷ []) ∷ [] ∷ [] ∷ ((5, 1, 0) ∷ []) ∷ ((5, 1, 0) ∷ []) ∷ ((5, 1, 0) ∷ []) ∷ ((5, 1, 0) ∷ []) ∷ ((5, 1, 0) ∷ []) ∷ ((5, 1, 0) ∷ []) ∷ ((5, 1, 0) ∷ []) ∷ ((5, 1, 0) ∷ []) ∷ ((5, 1, 0) ∷ []) ∷ ((4, 0, 0) ∷ (5, 1, 0) ∷ []) ∷ ((4, 0, 0) ∷ (5, 1, 0) ∷ []) ∷ ((4, 0, 0) ∷ []) ∷ [] ∷ [] ∷ ((3, 2, 1) ∷ []) ∷ ((3, 2, 1) ∷ []) ∷ ((3, 2, 1) ∷ []) ∷ ((3, 2, 1) ∷ []) ∷ ((3, 2, 1) ∷ []) ∷ ((3, 2, 1) ∷ []) ∷ ((3, 2, 0) ∷ []) ∷ ((3, 2, 0) ∷ []) ∷ ((3, 2, 0) ∷ []) ∷ ((3, 2, 0) ∷ []) ∷ ((3, 2, 0) ∷ []) ∷ ((2, 1, 0) ∷ (3, 2, 0) ∷ []) ∷ ((1, 0, 0) ∷ (2, 1, 0) ∷ (3, 2, 0) ∷ []) ∷ ((1, 0, 0) ∷ (2, 1, 0) ∷ (3, 2, 0) ∷ []) ∷ ((1, 0, 0) ∷ (2, 1, 0) ∷ (3, 2, 0) ∷ []) ∷ ((1, 0, 0) ∷ (2, 1, 0) ∷ []) ∷ ((1, 0, 0) ∷ (2, 1, 0) ∷ []) ∷ ((1, 0, 0) ∷ (2, 1, 0) ∷ []) ∷ ((1, 0, 0) ∷ []) ∷ ((1, 0, 0) ∷ []) ∷ ((1, 0, 0) ∷ []) ∷ [] ∷ [] ∷ [] ∷ [])
-gate_keys_40 = refl
-
-held_40 : map held_services (worlds past40) ≡ (((6, []) ∷ []) ∷ [] ∷ [] ∷ ((5, []) ∷ []) ∷ ((5, []) ∷ []) ∷ ((5, []) ∷ []) ∷ ((5, []) ∷ []) ∷ ((5, []) ∷ []) ∷ ((5, []) ∷ []) ∷ ((5, []) ∷ []) ∷ ((5, []) ∷ []) ∷ ((5, []) ∷ []) ∷ ((4, []) ∷ (5, []) ∷ []) ∷ ((4, []) ∷ (5, []) ∷ []) ∷ ((4, []) ∷ []) ∷ [] ∷ [] ∷ ((3, []) ∷ []) ∷ ((3, []) ∷ []) ∷ ((3, []) ∷ []) ∷ ((3, []) ∷ []) ∷ ((3, []) ∷ []) ∷ ((3, []) ∷ []) ∷ ((3, []) ∷ []) ∷ ((3, []) ∷ []) ∷ ((3, []) ∷ []) ∷ ((3, []) ∷ []) ∷ ((3, []) ∷ []) ∷ ((2, []) ∷ (3, []) ∷ []) ∷ ((1, []) ∷ (2, []) ∷ (3, []) ∷ []) ∷ ((1, []) ∷ (2, []) ∷ (3, []) ∷ []) ∷ ((1, []) ∷ (2, []) ∷ (3, []) ∷ []) ∷ ((1, []) ∷ (2, []) ∷ []) ∷ ((1, []) ∷ (2, []) ∷ []) ∷ ((1, []) ∷ (2, []) ∷ []) ∷ ((1, []) ∷ []) ∷ ((1, []) ∷ []) ∷ ((1, []) ∷ []) ∷ [] ∷ [] ∷ [] ∷ [])
-held_40 = refl
-
-room_40 : map entries_reserved (worlds past40) ≡ (1 ∷ 0 ∷ 0 ∷ 1 ∷ 1 ∷ 1 ∷ 1 ∷ 0 ∷ 2 ∷ 2 ∷ 0 ∷ 1 ∷ 2 ∷ 2 ∷ 1 ∷ 0 ∷ 0 ∷ 1 ∷ 1 ∷ 0 ∷ 1 ∷ 0 ∷ 1 ∷ 2 ∷ 2 ∷ 2 ∷ 0 ∷ 1 ∷ 2 ∷ 3 ∷ 3 ∷ 3 ∷ 2 ∷ 2 ∷ 2 ∷ 1 ∷ 1 ∷ 1 ∷ 0 ∷ 0 ∷ 0 ∷ [])
-room_40 = refl
-
-quiet_ones_40 : map quiet (worlds past40) ≡ (false ∷ false ∷ true ∷ false ∷ false ∷ false ∷ false ∷ false ∷ false ∷ false ∷ false ∷ false ∷ false ∷ false ∷ false ∷ false ∷ true ∷ false ∷ false ∷ false ∷ false ∷ false ∷ false ∷ false ∷ false ∷ false ∷ false ∷ false ∷ false ∷ false ∷ false ∷ false ∷ false ∷ false ∷ false ∷ false ∷ false ∷ false ∷ false ∷ true ∷ true ∷ [])
-quiet_ones_40 = refl
-
-right_ones_40 : map (right 28) (worlds past40) ≡ (false ∷ false ∷ true ∷ false ∷ false ∷ false ∷ false ∷ false ∷ false ∷ false ∷ false ∷ false ∷ false ∷ false ∷ false ∷ false ∷ true ∷ false ∷ false ∷ false ∷ false ∷ false ∷ false ∷ false ∷ false ∷ false ∷ false ∷ false ∷ false ∷ false ∷ false ∷ false ∷ false ∷ false ∷ false ∷ false ∷ false ∷ false ∷ false ∷ true ∷ true ∷ [])
-right_ones_40 = refl
-
-lists_40 : each right_lists past40 (worlds past40) ≡ map lists_of past40
-lists_40 = refl
-
-shut_gates_40 : some_of (each shuts past40 (worlds past40)) ≡ ((17, ((2, 1) ∷ [])) ∷ [])
-shut_gates_40 = refl
-
-reopened_gates_40 : some_of (each reopens past40 (worlds past40)) ≡ ((17, ((2, 1) ∷ [])) ∷ [])
-reopened_gates_40 = refl
-
-scratch_40 : always (all_scratch 28) past40 (worlds past40) ≡ true
-scratch_40 = refl
-
-order_40 : always all_in_order past40 (worlds past40) ≡ true
-order_40 = refl
-
-fits_40 : always (all_have_room 4194304) past40 (worlds past40) ≡ true
-fits_40 = refl
-
-followed_40 : always (follows 4194304) past40 (worlds past40) ≡ true
-followed_40 = refl
-
-ready_40 : always are_passes_ready past40 (worlds past40) ≡ true
-ready_40 = refl
-
-ends_40 : each ends_of_pass past40 (worlds past40) ≡ each ends_in_world past40 (worlds past40)
-ends_40 = refl
-
-begins_80 : map next_begin (take 40 (worlds past80)) ≡ (Some (Begin 25 13 20 0 Create []) ∷ None ∷ None ∷ None ∷ None ∷ None ∷ None ∷ None ∷ None ∷ Some (Begin 24 6 11 0 Destroy []) ∷ None ∷ Some (Begin 23 12 14 0 Destroy []) ∷ Some (Begin 22 11 16 0 Destroy []) ∷ Some (Begin 21 6 11 0 Deactivate []) ∷ Some (Begin 21 6 11 0 Deactivate []) ∷ Some (Begin 21 6 11 0 Deactivate []) ∷ Some (Begin 21 6 11 0 Deactivate []) ∷ Some (Begin 21 6 11 0 Deactivate []) ∷ None ∷ None ∷ None ∷ Some (Begin 20 12 14 0 Create (chose 0 (13 ∷ []) ∷ chose 1 [] ∷ [])) ∷ None ∷ None ∷ Some (Begin 19 11 16 0 Create (chose 1 (10 ∷ []) ∷ [])) ∷ None ∷ None ∷ Some (Begin 18 10 14 0 Create (chose 0 (10 ∷ 13 ∷ []) ∷ chose 1 [] ∷ [])) ∷ Some (Begin 17 9 15 0 Create (chose 1 (13 ∷ []) ∷ [])) ∷ None ∷ Some (Begin 16 8 13 0 Create []) ∷ Some (Begin 15 7 12 0 Destroy []) ∷ Some (Begin 15 7 12 0 Destroy []) ∷ None ∷ None ∷ Some (Begin 14 7 12 0 Activate []) ∷ None ∷ None ∷ Some (Begin 13 6 11 0 Activate []) ∷ None ∷ [])
-begins_80 = refl
-
-missing_keys_80 : map keys (take 40 (worlds past80)) ≡ ((20 ∷ 21 ∷ []) ∷ [] ∷ [] ∷ [] ∷ [] ∷ [] ∷ [] ∷ [] ∷ [] ∷ [] ∷ [] ∷ [] ∷ [] ∷ [] ∷ [] ∷ [] ∷ [] ∷ [] ∷ [] ∷ [] ∷ [] ∷ (14 ∷ []) ∷ [] ∷ [] ∷ (16 ∷ []) ∷ [] ∷ [] ∷ (14 ∷ []) ∷ (15 ∷ []) ∷ [] ∷ (13 ∷ []) ∷ (13 ∷ []) ∷ [] ∷ [] ∷ [] ∷ [] ∷ [] ∷ [] ∷ [] ∷ [] ∷ [])
-missing_keys_80 = refl
-
-failed_ones_80 : map marks (take 40 (worlds past80)) ≡ ((13 ∷ []) ∷ (13 ∷ []) ∷ (13 ∷ []) ∷ (13 ∷ []) ∷ (13 ∷ []) ∷ (13 ∷ []) ∷ (13 ∷ []) ∷ (13 ∷ []) ∷ (13 ∷ []) ∷ (13 ∷ []) ∷ (13 ∷ []) ∷ (13 ∷ []) ∷ (13 ∷ []) ∷ (13 ∷ []) ∷ (13 ∷ []) ∷ (13 ∷ []) ∷ (13 ∷ []) ∷ (13 ∷ []) ∷ (13 ∷ []) ∷ [] ∷ [] ∷ [] ∷ [] ∷ (12 ∷ []) ∷ (12 ∷ []) ∷ (12 ∷ []) ∷ (12 ∷ []) ∷ (12 ∷ []) ∷ (12 ∷ []) ∷ (12 ∷ []) ∷ (12 ∷ []) ∷ (12 ∷ []) ∷ (12 ∷ []) ∷ [] ∷ [] ∷ [] ∷ [] ∷ (1 ∷ []) ∷ (1 ∷ []) ∷ (1 ∷ []) ∷ [])
-failed_ones_80 = refl
-
-satisfied_ones_80 : map satisfied_in (take 40 (worlds past80)) ≡ ((13 ∷ 20 ∷ 21 ∷ 14 ∷ 17 ∷ []) ∷ (13 ∷ []) ∷ (13 ∷ []) ∷ (13 ∷ []) ∷ (13 ∷ []) ∷ (13 ∷ []) ∷ (13 ∷ []) ∷ (13 ∷ []) ∷ (13 ∷ []) ∷ (13 ∷ []) ∷ (13 ∷ []) ∷ (13 ∷ []) ∷ (13 ∷ []) ∷ (13 ∷ []) ∷ (13 ∷ []) ∷ (13 ∷ []) ∷ (13 ∷ []) ∷ (13 ∷ []) ∷ (13 ∷ []) ∷ (13 ∷ 14 ∷ 15 ∷ []) ∷ (13 ∷ 14 ∷ 16 ∷ 15 ∷ []) ∷ (13 ∷ 14 ∷ 16 ∷ 15 ∷ []) ∷ (13 ∷ 14 ∷ 16 ∷ 15 ∷ []) ∷ (11 ∷ 12 ∷ 13 ∷ 14 ∷ 16 ∷ 15 ∷ []) ∷ (11 ∷ 12 ∷ 13 ∷ 14 ∷ 16 ∷ 15 ∷ []) ∷ (11 ∷ 12 ∷ 13 ∷ 14 ∷ 15 ∷ []) ∷ (11 ∷ 12 ∷ 13 ∷ 14 ∷ 15 ∷ []) ∷ (11 ∷ 12 ∷ 13 ∷ 14 ∷ 15 ∷ []) ∷ (11 ∷ 12 ∷ 13 ∷ 14 ∷ 15 ∷ []) ∷ (11 ∷ 12 ∷ 13 ∷ 14 ∷ []) ∷ (11 ∷ 12 ∷ 13 ∷ 14 ∷ []) ∷ (11 ∷ 12 ∷ 13 ∷ 14 ∷ []) ∷ (11 ∷ 12 ∷ []) ∷ (11 ∷ 12 ∷ []) ∷ (11 ∷ 12 ∷ []) ∷ (11 ∷ 12 ∷ []) ∷ (11 ∷ 12 ∷ []) ∷ (1 ∷ 11 ∷ 12 ∷ 2 ∷ []) ∷ (1 ∷ 11 ∷ 12 ∷ 2 ∷ []) ∷ (1 ∷ 11 ∷ 12 ∷ 2 ∷ []) ∷ [])
-satisfied_ones_80 = refl
-
-states_80 : map told_lines (take 40 (worlds past80)) ≡ (((13, 16) ∷ (14, 4) ∷ (17, 4) ∷ (19, 2) ∷ (20, 4) ∷ (21, 4) ∷ []) ∷ ((13, 16) ∷ (14, 2) ∷ (17, 2) ∷ (19, 2) ∷ []) ∷ ((13, 16) ∷ (14, 2) ∷ (17, 2) ∷ []) ∷ ((13, 16) ∷ (14, 2) ∷ (17, 2) ∷ (18, 2) ∷ []) ∷ ((13, 16) ∷ (14, 2) ∷ (17, 2) ∷ (18, 2) ∷ []) ∷ ((13, 16) ∷ (14, 2) ∷ (17, 2) ∷ []) ∷ ((13, 16) ∷ (14, 2) ∷ []) ∷ ((13, 16) ∷ (14, 2) ∷ []) ∷ ((13, 16) ∷ (14, 2) ∷ []) ∷ ((13, 16) ∷ (14, 2) ∷ []) ∷ ((13, 16) ∷ (14, 2) ∷ []) ∷ ((13, 16) ∷ (14, 2) ∷ []) ∷ ((13, 16) ∷ (14, 2) ∷ []) ∷ ((13, 16) ∷ (14, 2) ∷ []) ∷ ((13, 16) ∷ (14, 2) ∷ []) ∷ ((13, 16) ∷ (14, 2) ∷ []) ∷ ((13, 16) ∷ (14, 2) ∷ (15, 2) ∷ []) ∷ ((13, 16) ∷ (14, 2) ∷ (15, 2) ∷ []) ∷ ((13, 16) ∷ (14, 2) ∷ (15, 2) ∷ []) ∷ ((13, 4) ∷ (14, 4) ∷ (15, 4) ∷ []) ∷ ((13, 4) ∷ (14, 4) ∷ (15, 4) ∷ (16, 4) ∷ []) ∷ ((13, 4) ∷ (14, 4) ∷ (15, 4) ∷ (16, 4) ∷ []) ∷ ((13, 4) ∷ (14, 4) ∷ (15, 4) ∷ (16, 4) ∷ []) ∷ ((11, 8) ∷ (12, 16) ∷ (13, 4) ∷ (14, 4) ∷ (15, 4) ∷ (16, 4) ∷ []) ∷ ((11, 8) ∷ (12, 16) ∷ (13, 4) ∷ (14, 4) ∷ (15, 4) ∷ (16, 4) ∷ []) ∷ ((11, 8) ∷ (12, 16) ∷ (13, 4) ∷ (14, 4) ∷ (15, 4) ∷ []) ∷ ((11, 8) ∷ (12, 16) ∷ (13, 4) ∷ (14, 4) ∷ (15, 4) ∷ []) ∷ ((11, 8) ∷ (12, 16) ∷ (13, 4) ∷ (14, 4) ∷ (15, 4) ∷ []) ∷ ((11, 8) ∷ (12, 16) ∷ (13, 4) ∷ (14, 4) ∷ (15, 4) ∷ []) ∷ ((11, 8) ∷ (12, 16) ∷ (13, 4) ∷ (14, 4) ∷ []) ∷ ((11, 8) ∷ (12, 16) ∷ (13, 4) ∷ (14, 4) ∷ []) ∷ ((11, 8) ∷ (12, 16) ∷ (13, 4) ∷ (14, 4) ∷ []) ∷ ((11, 8) ∷ (12, 16) ∷ []) ∷ ((11, 8) ∷ (12, 4) ∷ []) ∷ ((11, 4) ∷ (12, 4) ∷ []) ∷ ((11, 4) ∷ (12, 4) ∷ []) ∷ ((11, 4) ∷ (12, 4) ∷ []) ∷ ((1, 16) ∷ (2, 4) ∷ (11, 4) ∷ (12, 4) ∷ []) ∷ ((1, 16) ∷ (2, 4) ∷ (11, 4) ∷ (12, 4) ∷ []) ∷ ((1, 16) ∷ (2, 4) ∷ (11, 4) ∷ (12, 4) ∷ []) ∷ [])
-states_80 = refl
-
-bundles_80 : map bundle_states (take 40 (worlds past80)) ≡ ((Active ∷ Active ∷ Active ∷ Active ∷ []) ∷ (Active ∷ Resolved ∷ Active ∷ Active ∷ []) ∷ (Active ∷ Resolved ∷ Active ∷ Resolved ∷ []) ∷ (Active ∷ Resolved ∷ Active ∷ Active ∷ []) ∷ (Active ∷ Stopping ∷ Active ∷ Active ∷ []) ∷ (Active ∷ Stopping ∷ Active ∷ Resolved ∷ []) ∷ (Active ∷ Stopping ∷ Resolved ∷ Resolved ∷ []) ∷ (Active ∷ Stopping ∷ Resolved ∷ Resolved ∷ []) ∷ (Active ∷ Stopping ∷ Stopping ∷ Resolved ∷ []) ∷ (Active ∷ Stopping ∷ Stopping ∷ Resolved ∷ []) ∷ (Active ∷ Stopping ∷ Stopping ∷ Resolved ∷ []) ∷ (Active ∷ Stopping ∷ Stopping ∷ Resolved ∷ []) ∷ (Active ∷ Stopping ∷ Stopping ∷ Resolved ∷ []) ∷ (Active ∷ Stopping ∷ Stopping ∷ Resolved ∷ []) ∷ (Active ∷ Stopping ∷ Stopping ∷ Stopping ∷ []) ∷ (Active ∷ Stopping ∷ Stopping ∷ Stopping ∷ []) ∷ (Active ∷ Stopping ∷ Stopping ∷ Active ∷ []) ∷ (Active ∷ Stopping ∷ Stopping ∷ Active ∷ []) ∷ (Active ∷ Stopping ∷ Stopping ∷ Active ∷ []) ∷ (Active ∷ Stopping ∷ Stopping ∷ Active ∷ []) ∷ (Active ∷ Stopping ∷ Active ∷ Active ∷ []) ∷ (Active ∷ Stopping ∷ Active ∷ Active ∷ []) ∷ (Active ∷ Stopping ∷ Active ∷ Active ∷ []) ∷ (Active ∷ Active ∷ Active ∷ Active ∷ []) ∷ (Active ∷ Active ∷ Active ∷ Active ∷ []) ∷ (Active ∷ Active ∷ Resolved ∷ Active ∷ []) ∷ (Active ∷ Active ∷ Resolved ∷ Active ∷ []) ∷ (Active ∷ Active ∷ Resolved ∷ Active ∷ []) ∷ (Active ∷ Active ∷ Resolved ∷ Active ∷ []) ∷ (Active ∷ Active ∷ Resolved ∷ Resolved ∷ []) ∷ (Active ∷ Active ∷ Resolved ∷ Resolved ∷ []) ∷ (Active ∷ Active ∷ Resolved ∷ Resolved ∷ []) ∷ (Resolved ∷ Active ∷ Resolved ∷ Resolved ∷ []) ∷ (Resolved ∷ Active ∷ Resolved ∷ Resolved ∷ []) ∷ (Resolved ∷ Active ∷ Resolved ∷ Resolved ∷ []) ∷ (Resolved ∷ Active ∷ Resolved ∷ Resolved ∷ []) ∷ (Resolved ∷ Active ∷ Resolved ∷ Resolved ∷ []) ∷ (Active ∷ Active ∷ Resolved ∷ Resolved ∷ []) ∷ (Active ∷ Active ∷ Resolved ∷ Resolved ∷ []) ∷ (Active ∷ Active ∷ Resolved ∷ Resolved ∷ []) ∷ [])
-bundles_80 = refl
-
-gate_keys_80 : map gates (take 40 (worlds past80)) ≡ ([] ∷ [] ∷ [] ∷ [] ∷ ((6, 0, 1) ∷ []) ∷ ((6, 0, 1) ∷ []) ∷ ((6, 0, 1) ∷ []) ∷ ((6, 0, 1) ∷ (12, 4, 0) ∷ []) ∷ ((6, 0, 1) ∷ (11, 1, 0) ∷ (12, 4, 0) ∷ []) ∷ ((6, 0, 1) ∷ (11, 1, 0) ∷ (12, 4, 0) ∷ []) ∷ ((6, 0, 1) ∷ (11, 1, 0) ∷ (12, 4, 0) ∷ []) ∷ ((6, 0, 1) ∷ (11, 1, 0) ∷ (12, 4, 0) ∷ []) ∷ ((6, 0, 1) ∷ (11, 1, 0) ∷ (12, 4, 0) ∷ []) ∷ ((6, 0, 1) ∷ (11, 1, 0) ∷ (12, 4, 0) ∷ []) ∷ ((6, 0, 1) ∷ (9, 3, 0) ∷ (11, 1, 0) ∷ (12, 4, 0) ∷ []) ∷ ((6, 0, 1) ∷ (9, 3, 0) ∷ (11, 1, 0) ∷ (12, 4, 0) ∷ []) ∷ ((6, 0, 1) ∷ (9, 3, 0) ∷ (11, 1, 0) ∷ (12, 4, 0) ∷ []) ∷ ((6, 0, 1) ∷ (9, 3, 0) ∷ (11, 1, 0) ∷ (12, 4, 0) ∷ []) ∷ ((6, 0, 1) ∷ (9, 3, 0) ∷ (11, 1, 0) ∷ (12, 4, 0) ∷ []) ∷ ((6, 0, 1) ∷ (8, 2, 0) ∷ (9, 3, 0) ∷ (11, 1, 0) ∷ (12, 4, 0) ∷ []) ∷ ((6, 0, 1) ∷ (8, 2, 0) ∷ (9, 3, 0) ∷ (11, 1, 0) ∷ (12, 4, 0) ∷ []) ∷ ((6, 0, 1) ∷ (8, 2, 0) ∷ (9, 3, 0) ∷ (11, 1, 0) ∷ []) ∷ ((6, 0, 1) ∷ (8, 2, 0) ∷ (9, 3, 0) ∷ (10, 4, 0) ∷ (11, 1, 0) ∷ []) ∷ ((6, 0, 1) ∷ (8, 2, 0) ∷ (9, 3, 0) ∷ (10, 4, 0) ∷ (11, 1, 0) ∷ []) ∷ ((6, 0, 1) ∷ (8, 2, 0) ∷ (9, 3, 0) ∷ (10, 4, 0) ∷ []) ∷ ((6, 0, 1) ∷ (8, 2, 0) ∷ (9, 3, 0) ∷ (10, 4, 0) ∷ []) ∷ ((6, 0, 1) ∷ (7, 1, 0) ∷ (8, 2, 0) ∷ (9, 3, 0) ∷ (10, 4, 0) ∷ []) ∷ ((6, 0, 1) ∷ (7, 1, 0) ∷ (8, 2, 0) ∷ (9, 3, 0) ∷ []) ∷ ((6, 0, 1) ∷ (7, 1, 0) ∷ (8, 2, 0) ∷ []) ∷ ((6, 0, 1) ∷ (7, 1, 0) ∷ (8, 2, 0) ∷ []) ∷ ((6, 0, 1) ∷ (7, 1, 0) ∷ []) ∷ ((6, 0, 1) ∷ (7, 1, 0) ∷ []) ∷ ((6, 0, 1) ∷ (7, 1, 0) ∷ []) ∷ ((6, 0, 1) ∷ (7, 1, 0) ∷ []) ∷ ((6, 0, 0) ∷ (7, 1, 0) ∷ []) ∷ ((6, 0, 0) ∷ (7, 1, 0) ∷ []) ∷ ((6, 0, 0) ∷ (7, 1, 0) ∷ []) ∷ ((6, 0, 0) ∷ (7, 1, 0) ∷ []) ∷ ((6, 0, 0) ∷ (7, 1, 0) ∷ []) ∷ ((6, 0, 0) ∷ (7, 1, 0) ∷ []) ∷ [])
-gate_keys_80 = refl
-
-held_80 : map held_services (take 40 (worlds past80)) ≡ ([] ∷ [] ∷ [] ∷ [] ∷ ((6, []) ∷ []) ∷ ((6, []) ∷ []) ∷ ((6, []) ∷ []) ∷ ((6, []) ∷ (12, ([] ∷ [] ∷ [])) ∷ []) ∷ ((6, []) ∷ (11, ([] ∷ [] ∷ [])) ∷ (12, ([] ∷ [] ∷ [])) ∷ []) ∷ ((6, []) ∷ (11, ([] ∷ [] ∷ [])) ∷ (12, ([] ∷ [] ∷ [])) ∷ []) ∷ ((6, []) ∷ (11, ([] ∷ [] ∷ [])) ∷ (12, ([] ∷ [] ∷ [])) ∷ []) ∷ ((6, []) ∷ (11, ([] ∷ [] ∷ [])) ∷ (12, ([] ∷ [] ∷ [])) ∷ []) ∷ ((6, []) ∷ (11, ([] ∷ [] ∷ [])) ∷ (12, ([] ∷ [] ∷ [])) ∷ []) ∷ ((6, []) ∷ (11, ([] ∷ [] ∷ [])) ∷ (12, ([] ∷ [] ∷ [])) ∷ []) ∷ ((6, []) ∷ (9, ([] ∷ [] ∷ [])) ∷ (11, ([] ∷ [] ∷ [])) ∷ (12, ([] ∷ [] ∷ [])) ∷ []) ∷ ((6, []) ∷ (9, ([] ∷ [] ∷ [])) ∷ (11, ([] ∷ [] ∷ [])) ∷ (12, ([] ∷ [] ∷ [])) ∷ []) ∷ ((6, []) ∷ (9, ([] ∷ [] ∷ [])) ∷ (11, ([] ∷ [] ∷ [])) ∷ (12, ([] ∷ [] ∷ [])) ∷ []) ∷ ((6, []) ∷ (9, ([] ∷ [] ∷ [])) ∷ (11, ([] ∷ [] ∷ [])) ∷ (12, ([] ∷ [] ∷ [])) ∷ []) ∷ ((6, []) ∷ (9, ([] ∷ [] ∷ [])) ∷ (11, ([] ∷ [] ∷ [])) ∷ (12, ([] ∷ [] ∷ [])) ∷ []) ∷ ((6, []) ∷ (8, []) ∷ (9, ([] ∷ [] ∷ [])) ∷ (11, ([] ∷ [] ∷ [])) ∷ (12, ([] ∷ [] ∷ [])) ∷ []) ∷ ((6, []) ∷ (8, []) ∷ (9, ([] ∷ [] ∷ [])) ∷ (11, ([] ∷ [] ∷ [])) ∷ (12, ([] ∷ [] ∷ [])) ∷ []) ∷ ((6, []) ∷ (8, []) ∷ (9, ([] ∷ [] ∷ [])) ∷ (11, ([] ∷ [] ∷ [])) ∷ []) ∷ ((6, []) ∷ (8, []) ∷ (9, ([] ∷ [] ∷ [])) ∷ (10, ([] ∷ [] ∷ [])) ∷ (11, ([] ∷ [] ∷ [])) ∷ []) ∷ ((6, []) ∷ (8, []) ∷ (9, ([] ∷ [] ∷ [])) ∷ (10, ([] ∷ [] ∷ [])) ∷ (11, ([] ∷ [] ∷ [])) ∷ []) ∷ ((6, []) ∷ (8, []) ∷ (9, ([] ∷ [] ∷ [])) ∷ (10, ([] ∷ [] ∷ [])) ∷ []) ∷ ((6, []) ∷ (8, []) ∷ (9, ([] ∷ [] ∷ [])) ∷ (10, ([] ∷ [] ∷ [])) ∷ []) ∷ ((6, []) ∷ (7, []) ∷ (8, []) ∷ (9, ([] ∷ [] ∷ [])) ∷ (10, ([] ∷ [] ∷ [])) ∷ []) ∷ ((6, []) ∷ (7, []) ∷ (8, []) ∷ (9, ([] ∷ [] ∷ [])) ∷ []) ∷ ((6, []) ∷ (7, []) ∷ (8, []) ∷ []) ∷ ((6, []) ∷ (7, []) ∷ (8, []) ∷ []) ∷ ((6, []) ∷ (7, []) ∷ []) ∷ ((6, []) ∷ (7, []) ∷ []) ∷ ((6, []) ∷ (7, []) ∷ []) ∷ ((6, []) ∷ (7, []) ∷ []) ∷ ((6, []) ∷ (7, []) ∷ []) ∷ ((6, []) ∷ (7, []) ∷ []) ∷ ((6, []) ∷ (7, []) ∷ []) ∷ ((6, []) ∷ (7, []) ∷ []) ∷ ((6, []) ∷ (7, []) ∷ []) ∷ ((6, []) ∷ (7, []) ∷ []) ∷ [])
-held_80 = refl
-
-room_80 : map entries_reserved (take 40 (worlds past80)) ≡ (0 ∷ 0 ∷ 0 ∷ 0 ∷ 1 ∷ 1 ∷ 1 ∷ 2 ∷ 3 ∷ 2 ∷ 3 ∷ 2 ∷ 1 ∷ 0 ∷ 1 ∷ 2 ∷ 2 ∷ 3 ∷ 4 ∷ 5 ∷ 5 ∷ 4 ∷ 5 ∷ 5 ∷ 4 ∷ 4 ∷ 5 ∷ 4 ∷ 3 ∷ 3 ∷ 2 ∷ 1 ∷ 1 ∷ 3 ∷ 4 ∷ 2 ∷ 3 ∷ 3 ∷ 1 ∷ 2 ∷ [])
-room_80 = refl
-
-quiet_ones_80 : map quiet (take 40 (worlds past80)) ≡ (false ∷ true ∷ true ∷ true ∷ false ∷ false ∷ false ∷ false ∷ false ∷ false ∷ false ∷ false ∷ false ∷ false ∷ false ∷ false ∷ false ∷ false ∷ false ∷ false ∷ false ∷ false ∷ false ∷ false ∷ false ∷ false ∷ false ∷ false ∷ false ∷ false ∷ false ∷ false ∷ false ∷ false ∷ false ∷ false ∷ false ∷ false ∷ false ∷ false ∷ [])
-quiet_ones_80 = refl
-
-right_ones_80 : map (right 28) (take 40 (worlds past80)) ≡ (false ∷ true ∷ true ∷ true ∷ false ∷ false ∷ false ∷ false ∷ false ∷ false ∷ false ∷ false ∷ false ∷ false ∷ false ∷ false ∷ false ∷ false ∷ false ∷ false ∷ false ∷ false ∷ false ∷ false ∷ false ∷ false ∷ false ∷ false ∷ false ∷ false ∷ false ∷ false ∷ false ∷ false ∷ false ∷ false ∷ false ∷ false ∷ false ∷ false ∷ [])
-right_ones_80 = refl
-
-lists_80 : each right_lists (take 40 past80) (take 41 (worlds past80)) ≡ map lists_of (take 40 past80)
-lists_80 = refl
-
-shut_gates_80 : some_of (each shuts (take 40 past80) (take 41 (worlds past80))) ≡ ((57, ((0, 1) ∷ [])) ∷ [])
-shut_gates_80 = refl
-
-reopened_gates_80 : some_of (each reopens (take 40 past80) (take 41 (worlds past80))) ≡ ((46, ((0, 1) ∷ [])) ∷ [])
-reopened_gates_80 = refl
-
-scratch_80 : always (all_scratch 28) (take 40 past80) (take 41 (worlds past80)) ≡ true
-scratch_80 = refl
-
-order_80 : always all_in_order (take 40 past80) (take 41 (worlds past80)) ≡ true
-order_80 = refl
-
-fits_80 : always (all_have_room 4194304) (take 40 past80) (take 41 (worlds past80)) ≡ true
-fits_80 = refl
-
-followed_80 : always (follows 4194304) (take 40 past80) (take 41 (worlds past80)) ≡ true
-followed_80 = refl
-
-ready_80 : always are_passes_ready (take 40 past80) (take 41 (worlds past80)) ≡ true
-ready_80 = refl
-
-ends_80 : each ends_of_pass (take 40 past80) (take 41 (worlds past80)) ≡ each ends_in_world (take 40 past80) (take 41 (worlds past80))
-ends_80 = refl
-
-begins_110 : map next_begin (take 30 (worlds past110)) ≡ (Some (Begin 36 18 25 0 Create (chose 0 (21 ∷ []) ∷ chose 1 [] ∷ [])) ∷ Some (Begin 35 17 23 0 Create (chose 1 (21 ∷ []) ∷ [])) ∷ Some (Begin 34 16 26 0 Create (chose 1 (21 ∷ []) ∷ [])) ∷ None ∷ None ∷ Some (Begin 33 15 24 0 Create []) ∷ None ∷ Some (Begin 32 13 20 0 Destroy []) ∷ None ∷ None ∷ Some (Begin 31 14 21 0 Destroy []) ∷ Some (Begin 30 13 20 0 Deactivate []) ∷ Some (Begin 30 13 20 0 Deactivate []) ∷ Some (Begin 30 14 21 0 Destroy []) ∷ Some (Begin 30 14 21 0 Destroy []) ∷ Some (Begin 30 14 21 0 Destroy []) ∷ None ∷ None ∷ None ∷ None ∷ Some (Begin 29 14 21 0 Deactivate []) ∷ None ∷ None ∷ None ∷ Some (Begin 28 13 20 0 Activate []) ∷ None ∷ None ∷ Some (Begin 27 14 21 0 Activate []) ∷ None ∷ Some (Begin 26 14 21 0 Create []) ∷ [])
-begins_110 = refl
-
-missing_keys_110 : map keys (take 30 (worlds past110)) ≡ ((25 ∷ []) ∷ (23 ∷ 25 ∷ []) ∷ (26 ∷ []) ∷ [] ∷ [] ∷ (24 ∷ []) ∷ [] ∷ [] ∷ [] ∷ [] ∷ [] ∷ [] ∷ [] ∷ [] ∷ [] ∷ [] ∷ [] ∷ [] ∷ [] ∷ [] ∷ [] ∷ [] ∷ [] ∷ [] ∷ [] ∷ [] ∷ [] ∷ [] ∷ [] ∷ (21 ∷ []) ∷ [])
-missing_keys_110 = refl
-
-failed_ones_110 : map marks (take 30 (worlds past110)) ≡ ([] ∷ [] ∷ [] ∷ [] ∷ [] ∷ [] ∷ [] ∷ [] ∷ [] ∷ [] ∷ [] ∷ [] ∷ [] ∷ [] ∷ [] ∷ [] ∷ [] ∷ [] ∷ (13 ∷ []) ∷ (13 ∷ []) ∷ (13 ∷ []) ∷ (13 ∷ []) ∷ (13 ∷ []) ∷ (13 ∷ []) ∷ (13 ∷ []) ∷ (13 ∷ []) ∷ (13 ∷ []) ∷ (13 ∷ []) ∷ (13 ∷ []) ∷ (13 ∷ []) ∷ [])
-failed_ones_110 = refl
-
-satisfied_ones_110 : map satisfied_in (take 30 (worlds past110)) ≡ ((24 ∷ 23 ∷ 25 ∷ 26 ∷ []) ∷ (24 ∷ 23 ∷ 25 ∷ 26 ∷ []) ∷ (24 ∷ 23 ∷ 25 ∷ 26 ∷ []) ∷ (24 ∷ 23 ∷ 25 ∷ []) ∷ (24 ∷ 23 ∷ 25 ∷ []) ∷ (24 ∷ 23 ∷ 25 ∷ []) ∷ [] ∷ [] ∷ [] ∷ [] ∷ [] ∷ [] ∷ [] ∷ [] ∷ [] ∷ [] ∷ [] ∷ [] ∷ (13 ∷ []) ∷ (13 ∷ []) ∷ (13 ∷ []) ∷ (13 ∷ []) ∷ (13 ∷ 20 ∷ 21 ∷ 14 ∷ []) ∷ (13 ∷ 20 ∷ 21 ∷ 14 ∷ []) ∷ (13 ∷ 20 ∷ 21 ∷ 14 ∷ []) ∷ (13 ∷ 20 ∷ 21 ∷ 14 ∷ []) ∷ (13 ∷ 20 ∷ 21 ∷ 14 ∷ 17 ∷ []) ∷ (13 ∷ 20 ∷ 21 ∷ 14 ∷ 17 ∷ []) ∷ (13 ∷ 20 ∷ 21 ∷ 14 ∷ 17 ∷ []) ∷ (13 ∷ 20 ∷ 21 ∷ 14 ∷ 17 ∷ []) ∷ [])
-satisfied_ones_110 = refl
-
-states_110 : map told_lines (take 30 (worlds past110)) ≡ (((23, 4) ∷ (24, 4) ∷ (25, 4) ∷ (26, 4) ∷ []) ∷ ((23, 4) ∷ (24, 4) ∷ (25, 4) ∷ (26, 4) ∷ []) ∷ ((23, 4) ∷ (24, 4) ∷ (25, 4) ∷ (26, 4) ∷ []) ∷ ((23, 4) ∷ (24, 4) ∷ (25, 4) ∷ []) ∷ ((23, 4) ∷ (24, 4) ∷ (25, 4) ∷ []) ∷ ((23, 4) ∷ (24, 4) ∷ (25, 4) ∷ []) ∷ ((23, 2) ∷ []) ∷ ((23, 2) ∷ []) ∷ ((23, 2) ∷ []) ∷ ((23, 2) ∷ []) ∷ ((23, 2) ∷ []) ∷ ((23, 2) ∷ []) ∷ [] ∷ [] ∷ ((22, 2) ∷ []) ∷ ((22, 2) ∷ []) ∷ ((22, 2) ∷ []) ∷ [] ∷ ((13, 16) ∷ (14, 2) ∷ []) ∷ ((13, 16) ∷ (14, 2) ∷ (19, 2) ∷ []) ∷ ((13, 16) ∷ (14, 2) ∷ (19, 2) ∷ []) ∷ ((13, 16) ∷ (14, 2) ∷ (19, 2) ∷ []) ∷ ((13, 16) ∷ (14, 4) ∷ (19, 2) ∷ (20, 4) ∷ (21, 8) ∷ []) ∷ ((13, 16) ∷ (14, 4) ∷ (19, 2) ∷ (20, 4) ∷ (21, 4) ∷ []) ∷ ((13, 16) ∷ (14, 4) ∷ (19, 2) ∷ (20, 4) ∷ (21, 4) ∷ []) ∷ ((13, 16) ∷ (14, 4) ∷ (19, 2) ∷ (20, 4) ∷ (21, 4) ∷ []) ∷ ((13, 16) ∷ (14, 4) ∷ (17, 4) ∷ (19, 2) ∷ (20, 4) ∷ (21, 4) ∷ []) ∷ ((13, 16) ∷ (14, 4) ∷ (17, 4) ∷ (19, 2) ∷ (20, 4) ∷ (21, 4) ∷ []) ∷ ((13, 16) ∷ (14, 4) ∷ (17, 4) ∷ (19, 2) ∷ (20, 4) ∷ (21, 4) ∷ []) ∷ ((13, 16) ∷ (14, 4) ∷ (17, 4) ∷ (19, 2) ∷ (20, 4) ∷ (21, 4) ∷ []) ∷ [])
-states_110 = refl
-
-bundles_110 : map bundle_states (take 30 (worlds past110)) ≡ ((Active ∷ Resolved ∷ Active ∷ Active ∷ []) ∷ (Active ∷ Resolved ∷ Active ∷ Active ∷ []) ∷ (Active ∷ Resolved ∷ Active ∷ Active ∷ []) ∷ (Active ∷ Resolved ∷ Active ∷ Resolved ∷ []) ∷ (Active ∷ Stopping ∷ Active ∷ Resolved ∷ []) ∷ (Active ∷ Stopping ∷ Active ∷ Resolved ∷ []) ∷ (Resolved ∷ Stopping ∷ Active ∷ Resolved ∷ []) ∷ (Resolved ∷ Stopping ∷ Active ∷ Resolved ∷ []) ∷ (Resolved ∷ Stopping ∷ Active ∷ Resolved ∷ []) ∷ (Resolved ∷ Stopping ∷ Active ∷ Resolved ∷ []) ∷ (Resolved ∷ Stopping ∷ Active ∷ Resolved ∷ []) ∷ (Resolved ∷ Stopping ∷ Active ∷ Resolved ∷ []) ∷ (Resolved ∷ Stopping ∷ Resolved ∷ Resolved ∷ []) ∷ (Resolved ∷ Stopping ∷ Resolved ∷ Resolved ∷ []) ∷ (Resolved ∷ Stopping ∷ Active ∷ Resolved ∷ []) ∷ (Resolved ∷ Stopping ∷ Active ∷ Resolved ∷ []) ∷ (Resolved ∷ Stopping ∷ Active ∷ Resolved ∷ []) ∷ (Resolved ∷ Stopping ∷ Resolved ∷ Resolved ∷ []) ∷ (Active ∷ Stopping ∷ Resolved ∷ Resolved ∷ []) ∷ (Active ∷ Stopping ∷ Resolved ∷ Active ∷ []) ∷ (Active ∷ Stopping ∷ Resolved ∷ Active ∷ []) ∷ (Active ∷ Stopping ∷ Resolved ∷ Active ∷ []) ∷ (Active ∷ Active ∷ Resolved ∷ Active ∷ []) ∷ (Active ∷ Active ∷ Resolved ∷ Active ∷ []) ∷ (Active ∷ Active ∷ Resolved ∷ Active ∷ []) ∷ (Active ∷ Active ∷ Resolved ∷ Active ∷ []) ∷ (Active ∷ Active ∷ Active ∷ Active ∷ []) ∷ (Active ∷ Active ∷ Active ∷ Active ∷ []) ∷ (Active ∷ Active ∷ Active ∷ Active ∷ []) ∷ (Active ∷ Active ∷ Active ∷ Active ∷ []) ∷ [])
-bundles_110 = refl
-
-gate_keys_110 : map gates (take 30 (worlds past110)) ≡ (((15, 1, 0) ∷ (16, 0, 0) ∷ (17, 2, 0) ∷ []) ∷ ((15, 1, 0) ∷ (16, 0, 0) ∷ []) ∷ ((15, 1, 0) ∷ []) ∷ ((15, 1, 0) ∷ []) ∷ ((13, 0, 2) ∷ (15, 1, 0) ∷ []) ∷ ((13, 0, 2) ∷ []) ∷ ((13, 0, 2) ∷ []) ∷ ((13, 0, 2) ∷ []) ∷ ((13, 0, 2) ∷ []) ∷ ((13, 0, 2) ∷ (14, 1, 1) ∷ []) ∷ ((13, 0, 2) ∷ (14, 1, 1) ∷ []) ∷ ((13, 0, 2) ∷ (14, 1, 1) ∷ []) ∷ ((13, 0, 2) ∷ (14, 1, 1) ∷ []) ∷ ((13, 0, 2) ∷ (14, 1, 1) ∷ []) ∷ ((13, 0, 2) ∷ (14, 1, 1) ∷ []) ∷ ((13, 0, 0) ∷ (14, 1, 1) ∷ []) ∷ ((13, 0, 0) ∷ (14, 1, 1) ∷ []) ∷ ((13, 0, 0) ∷ (14, 1, 1) ∷ []) ∷ ((13, 0, 0) ∷ (14, 1, 1) ∷ []) ∷ ((13, 0, 0) ∷ (14, 1, 1) ∷ []) ∷ ((13, 0, 0) ∷ (14, 1, 1) ∷ []) ∷ ((13, 0, 0) ∷ (14, 1, 1) ∷ []) ∷ ((13, 0, 0) ∷ (14, 1, 1) ∷ []) ∷ ((13, 0, 0) ∷ (14, 1, 0) ∷ []) ∷ ((13, 0, 0) ∷ (14, 1, 0) ∷ []) ∷ ((13, 0, 0) ∷ (14, 1, 0) ∷ []) ∷ ((13, 0, 0) ∷ (14, 1, 0) ∷ []) ∷ ((13, 0, 0) ∷ (14, 1, 0) ∷ []) ∷ ((13, 0, 0) ∷ (14, 1, 0) ∷ []) ∷ ((13, 0, 0) ∷ []) ∷ [])
-gate_keys_110 = refl
-
-held_110 : map held_services (take 30 (worlds past110)) ≡ (((15, []) ∷ (16, ([] ∷ [] ∷ [])) ∷ (17, ([] ∷ [] ∷ [])) ∷ []) ∷ ((15, []) ∷ (16, ([] ∷ [] ∷ [])) ∷ []) ∷ ((15, []) ∷ []) ∷ ((15, []) ∷ []) ∷ ((13, []) ∷ (15, []) ∷ []) ∷ ((13, []) ∷ []) ∷ ((13, []) ∷ []) ∷ ((13, []) ∷ []) ∷ ((13, []) ∷ []) ∷ ((13, []) ∷ (14, []) ∷ []) ∷ ((13, []) ∷ (14, []) ∷ []) ∷ ((13, []) ∷ (14, []) ∷ []) ∷ ((13, []) ∷ (14, []) ∷ []) ∷ ((13, []) ∷ (14, []) ∷ []) ∷ ((13, []) ∷ (14, []) ∷ []) ∷ ((13, []) ∷ (14, []) ∷ []) ∷ ((13, []) ∷ (14, []) ∷ []) ∷ ((13, []) ∷ (14, []) ∷ []) ∷ ((13, []) ∷ (14, []) ∷ []) ∷ ((13, []) ∷ (14, []) ∷ []) ∷ ((13, []) ∷ (14, []) ∷ []) ∷ ((13, []) ∷ (14, []) ∷ []) ∷ ((13, []) ∷ (14, []) ∷ []) ∷ ((13, []) ∷ (14, []) ∷ []) ∷ ((13, []) ∷ (14, []) ∷ []) ∷ ((13, []) ∷ (14, []) ∷ []) ∷ ((13, []) ∷ (14, []) ∷ []) ∷ ((13, []) ∷ (14, []) ∷ []) ∷ ((13, []) ∷ (14, []) ∷ []) ∷ ((13, []) ∷ []) ∷ [])
-held_110 = refl
-
-room_110 : map entries_reserved (take 30 (worlds past110)) ≡ (3 ∷ 2 ∷ 1 ∷ 1 ∷ 2 ∷ 1 ∷ 1 ∷ 0 ∷ 1 ∷ 2 ∷ 1 ∷ 0 ∷ 0 ∷ 1 ∷ 1 ∷ 2 ∷ 3 ∷ 3 ∷ 3 ∷ 3 ∷ 2 ∷ 3 ∷ 3 ∷ 4 ∷ 2 ∷ 3 ∷ 3 ∷ 1 ∷ 2 ∷ 1 ∷ [])
-room_110 = refl
-
-quiet_ones_110 : map quiet (take 30 (worlds past110)) ≡ (false ∷ false ∷ false ∷ false ∷ false ∷ false ∷ false ∷ false ∷ false ∷ false ∷ false ∷ false ∷ false ∷ false ∷ false ∷ false ∷ false ∷ false ∷ false ∷ false ∷ false ∷ false ∷ false ∷ false ∷ false ∷ false ∷ false ∷ false ∷ false ∷ false ∷ [])
-quiet_ones_110 = refl
-
-right_ones_110 : map (right 28) (take 30 (worlds past110)) ≡ (false ∷ false ∷ false ∷ false ∷ false ∷ false ∷ false ∷ false ∷ false ∷ false ∷ false ∷ false ∷ false ∷ false ∷ false ∷ false ∷ false ∷ false ∷ false ∷ false ∷ false ∷ false ∷ false ∷ false ∷ false ∷ false ∷ false ∷ false ∷ false ∷ false ∷ [])
-right_ones_110 = refl
-
-lists_110 : each right_lists (take 30 past110) (take 31 (worlds past110)) ≡ map lists_of (take 30 past110)
-lists_110 = refl
-
-shut_gates_110 : some_of (each shuts (take 30 past110) (take 31 (worlds past110))) ≡ ((95, ((0, 2) ∷ [])) ∷ (88, ((1, 1) ∷ [])) ∷ [])
-shut_gates_110 = refl
-
-reopened_gates_110 : some_of (each reopens (take 30 past110) (take 31 (worlds past110))) ≡ ((95, ((0, 2) ∷ [])) ∷ (87, ((1, 1) ∷ [])) ∷ [])
-reopened_gates_110 = refl
-
-scratch_110 : always (all_scratch 28) (take 30 past110) (take 31 (worlds past110)) ≡ true
-scratch_110 = refl
-
-order_110 : always all_in_order (take 30 past110) (take 31 (worlds past110)) ≡ true
-order_110 = refl
-
-fits_110 : always (all_have_room 4194304) (take 30 past110) (take 31 (worlds past110)) ≡ true
-fits_110 = refl
-
-followed_110 : always (follows 4194304) (take 30 past110) (take 31 (worlds past110)) ≡ true
-followed_110 = refl
-
-ready_110 : always are_passes_ready (take 30 past110) (take 31 (worlds past110)) ≡ true
-ready_110 = refl
-
-ends_110 : each ends_of_pass (take 30 past110) (take 31 (worlds past110)) ≡ each ends_in_world (take 30 past110) (take 31 (worlds past110))
-ends_110 = refl
-
-answers_40 : (reply 4194304 (world_of past2) (Stop 3) ∷ reply 4194304 (world_of past15) (Start 1) ∷ reply 4194304 (world_of past16) (Start 4) ∷ reply 4194304 (world_of past17) (Start 0) ∷ reply 4194304 (world_of past17) (Stop 2) ∷ reply 4194304 (world_of past22) (Start 3) ∷ []) ≡ (Err (F.NoBundle 3) ∷ Ok R.Done ∷ Ok R.Done ∷ Err (F.NoBundle 0) ∷ Ok R.Done ∷ Ok R.Done ∷ [])
-answers_40 = refl
-
-answers_80 : (reply 4194304 (world_of past41) (Start 2) ∷ reply 4194304 (world_of past43) (Stop 1) ∷ reply 4194304 (world_of past57) (Stop 2) ∷ reply 4194304 (world_of past72) (Start 2) ∷ reply 4194304 (world_of past77) (Stop 0) ∷ reply 4194304 (world_of past79) (Start 2) ∷ []) ≡ (Ok R.Done ∷ Ok R.Done ∷ Ok R.Done ∷ Err (F.Stopping 6) ∷ Err (F.NoBundle 0) ∷ Ok R.Done ∷ [])
-answers_80 = refl
-
-answers_110 : (reply 4194304 (world_of past81) (Start 1) ∷ reply 4194304 (world_of past88) (Start 0) ∷ reply 4194304 (world_of past92) (Stop 3) ∷ reply 4194304 (world_of past92) (Stop 1) ∷ reply 4194304 (world_of past93) (Start 0) ∷ reply 4194304 (world_of past98) (Start 3) ∷ reply 4194304 (world_of past99) (Start 2) ∷ []) ≡ (Ok R.Done ∷ Err (F.NoBundle 0) ∷ Ok R.Done ∷ Ok R.Done ∷ Err (F.NoBundle 0) ∷ Ok R.Done ∷ Err (F.Stopping 13) ∷ [])
-answers_110 = refl
-
-lines : component_lines (world_of past110) ≡ (line 23 (codes "c4") 4 ∷ line 24 (codes "c0") 4 ∷ line 25 (codes "c3") 4 ∷ line 26 (codes "c5") 4 ∷ [])
-lines = refl
+calm_is : calm_at_end all ≡ false
+unfolding world_after_entry world_of world_after_step stage_in stage_of stopped_in stopped_by shut_between has_room satisfied_in
+calm_is = refl

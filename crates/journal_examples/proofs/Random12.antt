@@ -1,400 +1,268 @@
--- A random journal.
-use Rattle.std.specs.Prelude.{◌≡◌, refl, [], ◌∷◌, codes, true, false, Some, None, Ok, Err, map, take}
-use Rattle.bundle_doc.specs.declared.document.BundleDoc.{BundleDoc}
-use Rattle.callback_orders.specs.declared.callback.Callback.TheVariants.{Create, Bind, Activate, Deactivate, Destroy}
-use Rattle.callback_orders.specs.declared.callback.Outcome.TheVariants.{Done, NoMemory}
-use Rattle.prop_map.specs.declared.reference_words.Cardinality.TheVariants.{ZeroOrOne, One, OneOrMore}
+-- A worked example, as an independent model of the platform has it.
+use Rattle.std.specs.Prelude.{◌≡◌, refl, ℕ, List, [], ◌∷◌, codes, true, false, Some, None, Ok, Err, pos, negsuc}
+use Rattle.prop_map.specs.declared.value.Value.TheVariants.{Text, Whole, Flag, Texts, Wholes, Flags}
+use Rattle.prop_map.specs.declared.reference_words.Cardinality.TheVariants.{ZeroOrOne, One, ZeroOrMore, OneOrMore}
 use Rattle.prop_map.specs.declared.reference_words.Policy.TheVariants.{Static, Dynamic}
 use Rattle.prop_map.specs.declared.reference_words.PolicyOption.TheVariants.{Reluctant, Greedy}
-use Rattle.scr_core.specs.declared.bundles.BundleState.TheVariants.{Installed, Resolved, Stopping, Active}
-use Rattle.scr_core.specs.declared.command.Command.TheVariants.{Install, Start, Stop}
-use Rattle.scr_core.specs.declared.command.CoreFault.{CoreFault as F}
-use Rattle.scr_core.specs.declared.command.Reply.{Reply as R}
-use Rattle.scr_core.specs.declared.command.Step.TheVariants.{Command as Commanded, Begin, End, Drained}
-use Rattle.scr_core.specs.Dues.{next_begin}
-use Rattle.scr_core.specs.Readers.{component_lines}
-use Rattle.scr_core.specs.Replies.{reply}
-use Rattle.scr_core.specs.Steps.{History}
-use Rattle.scr_core.specs.Worlds.{world_of, satisfied_in}
-use Rattle.journal_examples.proofs.Words.{reference, component, document, entry, plain, opens, chose, worlds, each, always, some_of}
-use Rattle.journal_examples.proofs.Views.{told_lines, line, marks, keys, gates, held_services, bundle_states, right_lists, lists_of, entries_reserved, shuts, reopens, all_scratch, all_in_order, all_have_room, are_passes_ready, ends_of_pass, ends_in_world, quiet, right}
-use Rattle.journal_examples.proofs.Tests.{follows}
+use Rattle.component_dto.specs.declared.description.Scope.TheVariants.{Singleton, Bundle as InBundleScope, Prototype}
+use Rattle.component_dto.specs.declared.description.ConfigurationPolicy.TheVariants.{Optional, Require, Ignore}
+use Rattle.bundle_doc.specs.declared.document.BundleDoc.{BundleDoc}
+use Rattle.bundle_life.specs.declared.bundle.BundleEvent.{BundleEvent}
+use Rattle.journal_examples.proofs.Trees.{tree_or_none}
+use Rattle.callback_orders.specs.declared.callback.Callback.TheVariants.{Create, Bind, Updated, Unbind, Activate, Modified, Deactivate, Destroy}
+use Rattle.callback_orders.specs.declared.callback.Outcome.TheVariants.{Done, Refused, NoMemory}
+use Rattle.service_listeners.specs.declared.listener.ServiceEvent.{ServiceEvent}
+use Rattle.scr_world.specs.declared.step.Step.TheVariants.{Command as Commanded, Begin, End, Drained, Got, Released}
+use Rattle.scr_world.specs.declared.command.Command.TheVariants.{Install, Update, Start, Stop, Uninstall, Enable, Disable, Register, Unregister, SetProperties, Get, Unget, Listen, Unlisten, Configure, ConfigureFactory, Unconfigure}
+use Rattle.scr_world.specs.declared.reply.CoreFault.TheVariants.{NoBundle, NoComponent, WrongState, Stopping, SameName, Cycle, BundlesFull, ComponentsFull, ServicesFull, ConfigurationsFull, ListenersFull, NoService, NotOwner, NotUsing, NoListener, NoConfiguration, BadPid, FactoryClash, ActivationFailed, ActivationNoMemory, JournalFull}
+use Rattle.scr_world.specs.declared.reply.Reply.TheVariants.{Done as IsDone, Bundle as InBundle, Service as AsService, Uses as WithUses, Listener as AsListener}
+use Rattle.scr_world.specs.Steps.{History}
+use Rattle.scr_world.specs.declared.world.World.{World}
+use Rattle.journal_examples.proofs.Meanings.{legal_means}
+use Rattle.scr_world.specs.Legal.{IsLegal}
+use Rattle.journal_examples.proofs.Tests.{worlds, legal, begins, states, quiet_ones, right_ones, asked, replies, bundle_events_at_end, events_at_end, held_at_end, found_at_end, wanted_at, bound_at_end, calm_at_end}
+use Rattle.scr_world.specs.Worlds.{satisfied_in}
+use Rattle.scr_world.specs.Room.{has_room}
+use Rattle.scr_world.specs.Consequences.{stage_in, stage_of, stopped_in, stopped_by, shut_between}
+use Rattle.scr_world.specs.Stepping.{world_after_step}
+use Rattle.scr_world.specs.Lists.{world_after_entry, world_of}
 
-abbrev pub doc1 : BundleDoc
-doc1 = document (codes "b0") (component (codes "c0") false ((codes "L0") ∷ []) [] ∷ component (codes "c6") false ((codes "I6") ∷ []) (reference (codes "r0") (codes "L1") One Static Reluctant ∷ reference (codes "r1") (codes "I1") One Static Greedy ∷ []) ∷ component (codes "c1") true ((codes "L0") ∷ (codes "I1") ∷ []) [] ∷ [])
+abbrev doc1 : BundleDoc
+doc1 = record { location = (codes "b0"); name = (codes "b0"); version = record { major = 0; minor = 0; micro = 0; qualifier = [] }; manifest = None; activator = None; descriptions = [] }
 
-abbrev pub doc2 : BundleDoc
-doc2 = document (codes "b1") (component (codes "c5") false ((codes "L2") ∷ (codes "I5") ∷ []) (reference (codes "r0") (codes "L1") One Dynamic Reluctant ∷ []) ∷ component (codes "c7") false ((codes "L2") ∷ (codes "I7") ∷ []) (reference (codes "r0") (codes "L1") OneOrMore Dynamic Greedy ∷ reference (codes "r1") (codes "L0") One Static Greedy ∷ []) ∷ component (codes "c4") false ((codes "L1") ∷ []) (reference (codes "r0") (codes "L0") OneOrMore Dynamic Reluctant ∷ reference (codes "r1") (codes "L0") ZeroOrOne Dynamic Reluctant ∷ reference (codes "r2") (codes "L0") One Static Reluctant ∷ []) ∷ component (codes "c3") true [] (reference (codes "r0") (codes "I2") One Static Greedy ∷ reference (codes "r1") (codes "L0") ZeroOrOne Dynamic Reluctant ∷ reference (codes "r2") (codes "L0") One Static Reluctant ∷ []) ∷ [])
+abbrev doc2 : BundleDoc
+doc2 = record { location = (codes "b1"); name = (codes "b1"); version = record { major = 0; minor = 0; micro = 0; qualifier = [] }; manifest = None; activator = None; descriptions = (record { name = (codes "c0"); scope = InBundleScope; implementation_class = (codes "K"); default_enabled = true; immediate = false; service_interfaces = ((codes "I0") ∷ (codes "J0") ∷ []); properties = (record { key = (codes "text"); value = (Text (codes "Tc0")) } ∷ record { key = (codes "v"); value = (Whole (pos 2)) } ∷ []); references = []; modified = None; configuration_policy = Optional; configuration_pids = ((codes "c0") ∷ []); implicit = true } ∷ []) }
 
-abbrev pub doc3 : BundleDoc
-doc3 = document (codes "b2") (component (codes "c2") false ((codes "L0") ∷ (codes "I2") ∷ []) [] ∷ [])
+abbrev doc3 : BundleDoc
+doc3 = record { location = (codes "b2"); name = (codes "b2"); version = record { major = 0; minor = 0; micro = 0; qualifier = [] }; manifest = None; activator = None; descriptions = (record { name = (codes "c2"); scope = Singleton; implementation_class = (codes "demo.Relay"); default_enabled = true; immediate = false; service_interfaces = ((codes "I1") ∷ []); properties = (record { key = (codes "service.ranking"); value = (Whole (negsuc 0)) } ∷ record { key = (codes "v"); value = (Whole (pos 1)) } ∷ []); references = []; modified = (Some (codes "m")); configuration_policy = Optional; configuration_pids = ((codes "q") ∷ (codes "c2") ∷ (codes "p") ∷ []); implicit = true } ∷ []) }
 
--- the journal, the last entry first
-abbrev pub past0 : History
+abbrev doc4 : BundleDoc
+doc4 = record { location = (codes "b3"); name = (codes "b3"); version = record { major = 0; minor = 0; micro = 0; qualifier = [] }; manifest = None; activator = None; descriptions = (record { name = (codes "c6"); scope = Singleton; implementation_class = (codes "demo.Relay"); default_enabled = true; immediate = false; service_interfaces = ((codes "I4") ∷ []); properties = (record { key = (codes "v"); value = (Whole (pos 2)) } ∷ []); references = (record { name = (codes "next"); interface_name = (codes "X"); cardinality = ZeroOrMore; policy = Static; policy_option = Greedy; target = None; updated = None } ∷ []); modified = None; configuration_policy = Optional; configuration_pids = ((codes "c6") ∷ []); implicit = true } ∷ record { name = (codes "c5"); scope = Singleton; implementation_class = (codes "demo.Relay"); default_enabled = true; immediate = true; service_interfaces = []; properties = (record { key = (codes "r0.cardinality.minimum"); value = (Whole (pos 2)) } ∷ record { key = (codes "v"); value = (Whole (pos 0)) } ∷ []); references = (record { name = (codes "r0"); interface_name = (codes "Y"); cardinality = OneOrMore; policy = Static; policy_option = Greedy; target = None; updated = (Some (codes "u")) } ∷ []); modified = (Some (codes "m")); configuration_policy = Optional; configuration_pids = ((codes "q") ∷ (codes "c5") ∷ []); implicit = true } ∷ record { name = (codes "c4"); scope = Singleton; implementation_class = (codes "demo.Relay"); default_enabled = true; immediate = false; service_interfaces = ((codes "I3") ∷ []); properties = (record { key = (codes "osgi.ds.satisfying.condition.target"); value = (Text (codes "(osgi.condition.id=q)")) } ∷ record { key = (codes "v"); value = (Whole (pos 0)) } ∷ []); references = (record { name = (codes "next"); interface_name = (codes "J0"); cardinality = ZeroOrMore; policy = Static; policy_option = Reluctant; target = None; updated = (Some (codes "u")) } ∷ record { name = (codes "r1"); interface_name = (codes "J1"); cardinality = OneOrMore; policy = Static; policy_option = Reluctant; target = None; updated = (Some (codes "u")) } ∷ record { name = (codes "r2"); interface_name = (codes "J2"); cardinality = OneOrMore; policy = Dynamic; policy_option = Reluctant; target = None; updated = (Some (codes "u")) } ∷ []); modified = None; configuration_policy = Optional; configuration_pids = ((codes "c4") ∷ []); implicit = true } ∷ record { name = (codes "c3"); scope = Prototype; implementation_class = (codes "demo.Echo"); default_enabled = true; immediate = false; service_interfaces = ((codes "I2") ∷ (codes "J2") ∷ []); properties = (record { key = (codes ".p"); value = (Whole (pos 1)) } ∷ []); references = (record { name = (codes "r0"); interface_name = (codes "I1"); cardinality = One; policy = Dynamic; policy_option = Greedy; target = None; updated = (Some (codes "u")) } ∷ record { name = (codes "r1"); interface_name = (codes "J0"); cardinality = One; policy = Dynamic; policy_option = Greedy; target = None; updated = None } ∷ []); modified = None; configuration_policy = Optional; configuration_pids = ((codes "c3") ∷ []); implicit = true } ∷ record { name = (codes "c1"); scope = Prototype; implementation_class = (codes "demo.Relay"); default_enabled = true; immediate = false; service_interfaces = ((codes "I1") ∷ (codes "J1") ∷ []); properties = (record { key = (codes "v"); value = (Whole (pos 1)) } ∷ []); references = (record { name = (codes "next"); interface_name = (codes "X"); cardinality = ZeroOrOne; policy = Dynamic; policy_option = Greedy; target = None; updated = None } ∷ []); modified = (Some (codes "m")); configuration_policy = Optional; configuration_pids = ((codes "q") ∷ (codes "c1") ∷ []); implicit = true } ∷ []) }
+
+abbrev past0 : History
 past0 = []
 
-abbrev pub past1 : History
-past1 = plain (Commanded (Install doc1)) ∷ past0
+abbrev past1 : History
+past1 = record { step = (Commanded (Install doc1)); closed = []; opened = []; stopped = [] } ∷ past0
 
-abbrev pub past2 : History
-past2 = entry (Commanded (Start 1)) [] (opens 1 1 ∷ opens 3 2 ∷ []) [] ∷ past1
+abbrev past2 : History
+past2 = record { step = (Commanded (Install doc2)); closed = []; opened = []; stopped = [] } ∷ past1
 
-abbrev pub past3 : History
-past3 = plain (Begin 1 1 3 0 Create []) ∷ past2
+abbrev past3 : History
+past3 = record { step = (Commanded (Install doc3)); closed = []; opened = []; stopped = [] } ∷ past2
 
-abbrev pub past4 : History
-past4 = plain (Commanded (Install doc2)) ∷ past3
+abbrev past4 : History
+past4 = record { step = (Commanded (Install doc4)); closed = []; opened = []; stopped = [] } ∷ past3
 
-abbrev pub past5 : History
-past5 = entry (Commanded (Start 2)) [] (opens 6 3 ∷ opens 2 4 ∷ opens 4 5 ∷ opens 5 6 ∷ []) [] ∷ past4
+abbrev past5 : History
+past5 = record { step = (Commanded (Start 1)); closed = []; opened = []; stopped = [] } ∷ past4
 
-abbrev pub past6 : History
-past6 = plain (End 1 Done) ∷ past5
+abbrev past6 : History
+past6 = record { step = (Commanded (Register 1 ((codes "Y") ∷ []) (record { key = (codes "service.ranking"); value = (Whole (pos 0)) } ∷ record { key = (codes "v"); value = (Whole (pos 2)) } ∷ []))); closed = []; opened = []; stopped = [] } ∷ past5
 
-abbrev pub past7 : History
-past7 = plain (Commanded (Install doc3)) ∷ past6
+abbrev past7 : History
+past7 = record { step = (Commanded (Start 2)); closed = []; opened = (record { configuration = 1; service = 2 } ∷ []); stopped = [] } ∷ past6
 
-abbrev pub past8 : History
-past8 = entry (Commanded (Start 3)) [] (opens 8 7 ∷ opens 7 0 ∷ []) [] ∷ past7
+abbrev past8 : History
+past8 = record { step = (Commanded (Register 2 ((codes "Y") ∷ []) (record { key = (codes "v"); value = (Whole (pos 2)) } ∷ []))); closed = []; opened = []; stopped = [] } ∷ past7
 
-abbrev pub past9 : History
-past9 = plain (Begin 2 1 3 0 Activate []) ∷ past8
+abbrev past9 : History
+past9 = record { step = (Commanded (Start 3)); closed = []; opened = (record { configuration = 2; service = 4 } ∷ []); stopped = [] } ∷ past8
 
-abbrev pub past10 : History
-past10 = plain (Begin 3 2 7 0 Create (chose 0 (7 ∷ []) ∷ chose 2 (1 ∷ []) ∷ [])) ∷ past9
+abbrev past10 : History
+past10 = record { step = (Commanded (Register 3 ((codes "Y") ∷ []) (record { key = (codes "service.ranking"); value = (Whole (pos 0)) } ∷ []))); closed = []; opened = []; stopped = [] } ∷ past9
 
-abbrev pub past11 : History
-past11 = plain (Begin 4 3 1 0 Create []) ∷ past10
+abbrev past11 : History
+past11 = record { step = (Commanded (Start 4)); closed = []; opened = (record { configuration = 3; service = 6 } ∷ record { configuration = 4; service = 0 } ∷ record { configuration = 7; service = 7 } ∷ record { configuration = 6; service = 8 } ∷ []); stopped = [] } ∷ past10
 
-abbrev pub past12 : History
-past12 = plain (End 3 Done) ∷ past11
+abbrev past12 : History
+past12 = record { step = (Commanded (Register 4 ((codes "X") ∷ []) [])); closed = []; opened = []; stopped = [] } ∷ past11
 
-abbrev pub past13 : History
-past13 = plain (End 4 Done) ∷ past12
+abbrev past13 : History
+past13 = record { step = (Commanded (ConfigureFactory (codes "c0") (codes "a") (record { key = (codes "r0.cardinality.minimum"); value = (Whole (pos 1)) } ∷ record { key = (codes "service.ranking"); value = (Whole (pos 0)) } ∷ record { key = (codes "v"); value = (Whole (pos 0)) } ∷ []))); closed = (1 ∷ []); opened = (record { configuration = 8; service = 10 } ∷ []); stopped = [] } ∷ past12
 
-abbrev pub past14 : History
-past14 = plain (Begin 5 3 1 0 Activate []) ∷ past13
+abbrev past14 : History
+past14 = record { step = (Commanded (SetProperties 1 1 [])); closed = []; opened = []; stopped = [] } ∷ past13
 
-abbrev pub past15 : History
-past15 = plain (Begin 6 4 8 0 Create []) ∷ past14
+abbrev past15 : History
+past15 = record { step = (Commanded (Register 4 ((codes "I2") ∷ []) (record { key = (codes ".p"); value = (Whole (pos 0)) } ∷ record { key = (codes "service.ranking"); value = (Whole (pos 1)) } ∷ []))); closed = []; opened = []; stopped = [] } ∷ past14
 
-abbrev pub past16 : History
-past16 = entry (End 6 NoMemory) (8 ∷ 7 ∷ []) [] [] ∷ past15
+abbrev past16 : History
+past16 = record { step = (Begin 1 1 4 0 Create (record { reference = 0; services = (1 ∷ 3 ∷ 5 ∷ []) } ∷ [])); closed = []; opened = []; stopped = [] } ∷ past15
 
-abbrev pub past17 : History
-past17 = plain (Begin 7 2 7 0 Destroy []) ∷ past16
+abbrev past17 : History
+past17 = record { step = (End 1 Done); closed = []; opened = []; stopped = [] } ∷ past16
 
-abbrev pub past18 : History
-past18 = entry (Commanded (Stop 1)) (1 ∷ 3 ∷ 6 ∷ 2 ∷ 4 ∷ 5 ∷ []) [] [] ∷ past17
+abbrev past18 : History
+past18 = record { step = (Begin 2 1 4 0 (Bind (codes "r0") 1) []); closed = []; opened = []; stopped = [] } ∷ past17
 
-abbrev pub past19 : History
-past19 = plain (Commanded (Stop 2)) ∷ past18
+abbrev past19 : History
+past19 = record { step = (End 2 Done); closed = []; opened = []; stopped = [] } ∷ past18
 
-abbrev pub past20 : History
-past20 = plain (End 2 Done) ∷ past19
+abbrev past20 : History
+past20 = record { step = (Begin 3 1 4 0 (Bind (codes "r0") 3) []); closed = []; opened = []; stopped = [] } ∷ past19
 
-abbrev pub past21 : History
-past21 = entry (End 7 Done) [] [] (2 ∷ []) ∷ past20
+abbrev past21 : History
+past21 = record { step = (End 3 Done); closed = []; opened = []; stopped = [] } ∷ past20
 
-abbrev pub past22 : History
-past22 = plain (Drained 1) ∷ past21
+abbrev past22 : History
+past22 = record { step = (Begin 4 1 4 0 (Bind (codes "r0") 5) []); closed = []; opened = []; stopped = [] } ∷ past21
 
-abbrev pub past23 : History
-past23 = plain (Begin 8 1 3 0 Deactivate []) ∷ past22
+abbrev past23 : History
+past23 = record { step = (End 4 Done); closed = []; opened = []; stopped = [] } ∷ past22
 
-abbrev pub past24 : History
-past24 = plain (Commanded (Start 2)) ∷ past23
+abbrev past24 : History
+past24 = record { step = (Begin 5 1 4 0 Activate []); closed = []; opened = []; stopped = [] } ∷ past23
 
-abbrev pub past25 : History
-past25 = plain (End 5 Done) ∷ past24
+abbrev past25 : History
+past25 = record { step = (End 5 Done); closed = []; opened = []; stopped = [] } ∷ past24
 
-abbrev pub past26 : History
-past26 = plain (Drained 3) ∷ past25
+abbrev past26 : History
+past26 = record { step = (Commanded (Unconfigure (codes "c0~a"))); closed = (8 ∷ []); opened = (record { configuration = 9; service = 12 } ∷ []); stopped = [] } ∷ past25
 
-abbrev pub past27 : History
-past27 = plain (End 8 Done) ∷ past26
+abbrev past27 : History
+past27 = record { step = (Commanded (ConfigureFactory (codes "c5") (codes "b") [])); closed = (4 ∷ []); opened = (record { configuration = 10; service = 0 } ∷ []); stopped = [] } ∷ past26
 
-abbrev pub past28 : History
-past28 = plain (Begin 9 1 3 0 Destroy []) ∷ past27
+abbrev past28 : History
+past28 = record { step = (Drained 1); closed = []; opened = []; stopped = [] } ∷ past27
 
-abbrev pub past29 : History
-past29 = plain (End 9 Done) ∷ past28
+abbrev past29 : History
+past29 = record { step = (Commanded (Listen 3 (tree_or_none (codes "(v=1)")))); closed = []; opened = []; stopped = [] } ∷ past28
 
-abbrev pub past30 : History
-past30 = plain (Begin 10 3 1 0 Deactivate []) ∷ past29
+abbrev past30 : History
+past30 = record { step = (Begin 6 1 4 0 Deactivate []); closed = []; opened = []; stopped = [] } ∷ past29
 
-abbrev pub past31 : History
-past31 = plain (End 10 Done) ∷ past30
+abbrev past31 : History
+past31 = record { step = (End 6 Done); closed = []; opened = []; stopped = [] } ∷ past30
 
-abbrev pub past32 : History
-past32 = plain (Begin 11 3 1 0 Destroy []) ∷ past31
+abbrev past32 : History
+past32 = record { step = (Begin 7 1 4 0 (Unbind (codes "r0") 5) []); closed = []; opened = []; stopped = [] } ∷ past31
 
-abbrev pub past33 : History
-past33 = entry (End 11 Done) [] [] (1 ∷ []) ∷ past32
+abbrev past33 : History
+past33 = record { step = (End 7 Done); closed = []; opened = []; stopped = [] } ∷ past32
 
-abbrev pub past34 : History
-past34 = entry (Commanded (Stop 3)) [] [] (3 ∷ []) ∷ past33
+abbrev past34 : History
+past34 = record { step = (Begin 8 1 4 0 (Unbind (codes "r0") 3) []); closed = []; opened = []; stopped = [] } ∷ past33
 
-abbrev pub past35 : History
-past35 = entry (Commanded (Start 1)) [] (opens 13 8 ∷ opens 15 9 ∷ opens 11 10 ∷ opens 9 11 ∷ opens 10 12 ∷ opens 14 13 ∷ []) [] ∷ past34
+abbrev past35 : History
+past35 = record { step = (End 8 Done); closed = []; opened = []; stopped = [] } ∷ past34
 
-abbrev pub past36 : History
-past36 = plain (Begin 12 5 15 0 Create []) ∷ past35
+abbrev past36 : History
+past36 = record { step = (Begin 9 1 4 0 (Unbind (codes "r0") 1) []); closed = []; opened = []; stopped = [] } ∷ past35
 
-abbrev pub past37 : History
-past37 = plain (End 12 Done) ∷ past36
+abbrev past37 : History
+past37 = record { step = (End 9 Done); closed = []; opened = []; stopped = [] } ∷ past36
 
-abbrev pub past38 : History
-past38 = entry (Commanded (Start 3)) [] (opens 16 14 ∷ opens 12 0 ∷ []) [] ∷ past37
+abbrev past38 : History
+past38 = record { step = (Begin 10 1 4 0 Destroy []); closed = []; opened = []; stopped = [] } ∷ past37
 
-abbrev pub past39 : History
-past39 = plain (Begin 13 5 15 0 Activate []) ∷ past38
+abbrev past39 : History
+past39 = record { step = (End 10 Done); closed = []; opened = []; stopped = [] } ∷ past38
 
-abbrev pub past40 : History
-past40 = plain (End 13 Done) ∷ past39
+abbrev past40 : History
+past40 = record { step = (Begin 11 2 10 0 Create (record { reference = 0; services = (1 ∷ 3 ∷ 5 ∷ []) } ∷ [])); closed = []; opened = []; stopped = [] } ∷ past39
 
-abbrev pub past41 : History
-past41 = entry (Commanded (Stop 3)) (16 ∷ 12 ∷ []) [] (3 ∷ []) ∷ past40
+abbrev past41 : History
+past41 = record { step = (End 11 Done); closed = []; opened = []; stopped = [] } ∷ past40
 
-abbrev pub past42 : History
-past42 = entry (Commanded (Stop 1)) (13 ∷ 15 ∷ 11 ∷ 9 ∷ 10 ∷ 14 ∷ []) [] [] ∷ past41
+abbrev past42 : History
+past42 = record { step = (Begin 12 2 10 0 (Bind (codes "r0") 1) []); closed = []; opened = []; stopped = [] } ∷ past41
 
-abbrev pub past43 : History
-past43 = plain (Drained 5) ∷ past42
+abbrev past43 : History
+past43 = record { step = (End 12 Done); closed = []; opened = []; stopped = [] } ∷ past42
 
-abbrev pub past44 : History
-past44 = plain (Begin 14 5 15 0 Deactivate []) ∷ past43
+abbrev past44 : History
+past44 = record { step = (Begin 13 2 10 0 (Bind (codes "r0") 3) []); closed = []; opened = []; stopped = [] } ∷ past43
 
-abbrev pub past45 : History
-past45 = plain (End 14 Done) ∷ past44
+abbrev past45 : History
+past45 = record { step = (End 13 Done); closed = []; opened = []; stopped = [] } ∷ past44
 
-abbrev pub past46 : History
-past46 = plain (Begin 15 5 15 0 Destroy []) ∷ past45
+abbrev past46 : History
+past46 = record { step = (Begin 14 2 10 0 (Bind (codes "r0") 5) []); closed = []; opened = []; stopped = [] } ∷ past45
 
-abbrev pub past47 : History
-past47 = entry (End 15 Done) [] [] (1 ∷ []) ∷ past46
+abbrev past47 : History
+past47 = record { step = (End 14 Done); closed = []; opened = []; stopped = [] } ∷ past46
 
-abbrev pub past48 : History
-past48 = entry (Commanded (Start 1)) [] (opens 17 15 ∷ opens 19 16 ∷ opens 11 17 ∷ opens 9 18 ∷ opens 10 19 ∷ opens 18 20 ∷ []) [] ∷ past47
+abbrev past48 : History
+past48 = record { step = (Begin 15 2 10 0 Activate []); closed = []; opened = []; stopped = [] } ∷ past47
 
-abbrev pub past49 : History
-past49 = plain (Begin 16 6 19 0 Create []) ∷ past48
+abbrev past49 : History
+past49 = record { step = (End 15 Done); closed = []; opened = []; stopped = [] } ∷ past48
 
-abbrev pub past50 : History
-past50 = plain (End 16 Done) ∷ past49
+abbrev all : List World
+all = worlds past49
 
-abbrev pub past51 : History
-past51 = plain (Begin 17 6 19 0 Activate []) ∷ past50
+is_legal : legal 4194304 past49 all ≡ true
+unfolding world_after_entry world_of world_after_step stage_in stage_of stopped_in stopped_by shut_between has_room satisfied_in
+is_legal = refl
 
-abbrev pub past52 : History
-past52 = plain (End 17 Done) ∷ past51
+stands_legal : IsLegal 4194304 past49
+stands_legal = legal_means 4194304 past49 is_legal
 
-abbrev pub past53 : History
-past53 = entry (Commanded (Stop 1)) (17 ∷ 19 ∷ 11 ∷ 9 ∷ 10 ∷ 18 ∷ []) [] [] ∷ past52
+which_begin : begins all ≡ (None ∷ None ∷ (Some (Begin 15 2 10 0 Activate [])) ∷ None ∷ (Some (Begin 14 2 10 0 (Bind (codes "r0") 5) [])) ∷ None ∷ (Some (Begin 13 2 10 0 (Bind (codes "r0") 3) [])) ∷ None ∷ (Some (Begin 12 2 10 0 (Bind (codes "r0") 1) [])) ∷ None ∷ (Some (Begin 11 2 10 0 Create (record { reference = 0; services = (1 ∷ 3 ∷ 5 ∷ []) } ∷ []))) ∷ (Some (Begin 11 2 10 0 Create (record { reference = 0; services = (1 ∷ 3 ∷ 5 ∷ []) } ∷ []))) ∷ (Some (Begin 10 1 4 0 Destroy [])) ∷ (Some (Begin 10 2 10 0 Create (record { reference = 0; services = (1 ∷ 3 ∷ 5 ∷ []) } ∷ []))) ∷ (Some (Begin 9 1 4 0 (Unbind (codes "r0") 1) [])) ∷ (Some (Begin 9 2 10 0 Create (record { reference = 0; services = (1 ∷ 3 ∷ 5 ∷ []) } ∷ []))) ∷ (Some (Begin 8 1 4 0 (Unbind (codes "r0") 3) [])) ∷ (Some (Begin 8 2 10 0 Create (record { reference = 0; services = (1 ∷ 3 ∷ 5 ∷ []) } ∷ []))) ∷ (Some (Begin 7 1 4 0 (Unbind (codes "r0") 5) [])) ∷ (Some (Begin 7 2 10 0 Create (record { reference = 0; services = (1 ∷ 3 ∷ 5 ∷ []) } ∷ []))) ∷ (Some (Begin 6 1 4 0 Deactivate [])) ∷ (Some (Begin 6 1 4 0 Deactivate [])) ∷ (Some (Begin 6 2 10 0 Create (record { reference = 0; services = (1 ∷ 3 ∷ 5 ∷ []) } ∷ []))) ∷ None ∷ None ∷ None ∷ (Some (Begin 5 1 4 0 Activate [])) ∷ None ∷ (Some (Begin 4 1 4 0 (Bind (codes "r0") 5) [])) ∷ None ∷ (Some (Begin 3 1 4 0 (Bind (codes "r0") 3) [])) ∷ None ∷ (Some (Begin 2 1 4 0 (Bind (codes "r0") 1) [])) ∷ None ∷ (Some (Begin 1 1 4 0 Create (record { reference = 0; services = (1 ∷ 3 ∷ 5 ∷ []) } ∷ []))) ∷ (Some (Begin 1 1 4 0 Create (record { reference = 0; services = (1 ∷ 3 ∷ 5 ∷ []) } ∷ []))) ∷ (Some (Begin 1 1 4 0 Create (record { reference = 0; services = (1 ∷ 3 ∷ 5 ∷ []) } ∷ []))) ∷ (Some (Begin 1 1 4 0 Create (record { reference = 0; services = (1 ∷ 3 ∷ 5 ∷ []) } ∷ []))) ∷ (Some (Begin 1 1 4 0 Create (record { reference = 0; services = (1 ∷ 3 ∷ 5 ∷ []) } ∷ []))) ∷ None ∷ None ∷ None ∷ None ∷ None ∷ None ∷ None ∷ None ∷ None ∷ None ∷ None ∷ [])
+unfolding world_after_entry world_of world_after_step stage_in stage_of stopped_in stopped_by shut_between has_room satisfied_in
+which_begin = refl
 
-abbrev pub past54 : History
-past54 = plain (Drained 6) ∷ past53
+which_states : states all ≡ (((2, 4) ∷ (3, 4) ∷ (5, 2) ∷ (6, 4) ∷ (7, 4) ∷ (9, 4) ∷ (10, 8) ∷ []) ∷ ((2, 4) ∷ (3, 4) ∷ (5, 2) ∷ (6, 4) ∷ (7, 4) ∷ (9, 4) ∷ (10, 4) ∷ []) ∷ ((2, 4) ∷ (3, 4) ∷ (5, 2) ∷ (6, 4) ∷ (7, 4) ∷ (9, 4) ∷ (10, 4) ∷ []) ∷ ((2, 4) ∷ (3, 4) ∷ (5, 2) ∷ (6, 4) ∷ (7, 4) ∷ (9, 4) ∷ (10, 4) ∷ []) ∷ ((2, 4) ∷ (3, 4) ∷ (5, 2) ∷ (6, 4) ∷ (7, 4) ∷ (9, 4) ∷ (10, 4) ∷ []) ∷ ((2, 4) ∷ (3, 4) ∷ (5, 2) ∷ (6, 4) ∷ (7, 4) ∷ (9, 4) ∷ (10, 4) ∷ []) ∷ ((2, 4) ∷ (3, 4) ∷ (5, 2) ∷ (6, 4) ∷ (7, 4) ∷ (9, 4) ∷ (10, 4) ∷ []) ∷ ((2, 4) ∷ (3, 4) ∷ (5, 2) ∷ (6, 4) ∷ (7, 4) ∷ (9, 4) ∷ (10, 4) ∷ []) ∷ ((2, 4) ∷ (3, 4) ∷ (5, 2) ∷ (6, 4) ∷ (7, 4) ∷ (9, 4) ∷ (10, 4) ∷ []) ∷ ((2, 4) ∷ (3, 4) ∷ (5, 2) ∷ (6, 4) ∷ (7, 4) ∷ (9, 4) ∷ (10, 4) ∷ []) ∷ ((2, 4) ∷ (3, 4) ∷ (5, 2) ∷ (6, 4) ∷ (7, 4) ∷ (9, 4) ∷ (10, 4) ∷ []) ∷ ((2, 4) ∷ (3, 4) ∷ (5, 2) ∷ (6, 4) ∷ (7, 4) ∷ (9, 4) ∷ (10, 4) ∷ []) ∷ ((2, 4) ∷ (3, 4) ∷ (5, 2) ∷ (6, 4) ∷ (7, 4) ∷ (9, 4) ∷ (10, 4) ∷ []) ∷ ((2, 4) ∷ (3, 4) ∷ (5, 2) ∷ (6, 4) ∷ (7, 4) ∷ (9, 4) ∷ (10, 4) ∷ []) ∷ ((2, 4) ∷ (3, 4) ∷ (5, 2) ∷ (6, 4) ∷ (7, 4) ∷ (9, 4) ∷ (10, 4) ∷ []) ∷ ((2, 4) ∷ (3, 4) ∷ (5, 2) ∷ (6, 4) ∷ (7, 4) ∷ (9, 4) ∷ (10, 4) ∷ []) ∷ ((2, 4) ∷ (3, 4) ∷ (5, 2) ∷ (6, 4) ∷ (7, 4) ∷ (9, 4) ∷ (10, 4) ∷ []) ∷ ((2, 4) ∷ (3, 4) ∷ (5, 2) ∷ (6, 4) ∷ (7, 4) ∷ (9, 4) ∷ (10, 4) ∷ []) ∷ ((2, 4) ∷ (3, 4) ∷ (5, 2) ∷ (6, 4) ∷ (7, 4) ∷ (9, 4) ∷ (10, 4) ∷ []) ∷ ((2, 4) ∷ (3, 4) ∷ (5, 2) ∷ (6, 4) ∷ (7, 4) ∷ (9, 4) ∷ (10, 4) ∷ []) ∷ ((2, 4) ∷ (3, 4) ∷ (5, 2) ∷ (6, 4) ∷ (7, 4) ∷ (9, 4) ∷ (10, 4) ∷ []) ∷ ((2, 4) ∷ (3, 4) ∷ (5, 2) ∷ (6, 4) ∷ (7, 4) ∷ (9, 4) ∷ (10, 4) ∷ []) ∷ ((2, 4) ∷ (3, 4) ∷ (5, 2) ∷ (6, 4) ∷ (7, 4) ∷ (9, 4) ∷ (10, 4) ∷ []) ∷ ((2, 4) ∷ (3, 4) ∷ (4, 8) ∷ (5, 2) ∷ (6, 4) ∷ (7, 4) ∷ (9, 4) ∷ []) ∷ ((2, 4) ∷ (3, 4) ∷ (4, 8) ∷ (5, 2) ∷ (6, 4) ∷ (7, 4) ∷ (8, 4) ∷ []) ∷ ((2, 4) ∷ (3, 4) ∷ (4, 4) ∷ (5, 2) ∷ (6, 4) ∷ (7, 4) ∷ (8, 4) ∷ []) ∷ ((2, 4) ∷ (3, 4) ∷ (4, 4) ∷ (5, 2) ∷ (6, 4) ∷ (7, 4) ∷ (8, 4) ∷ []) ∷ ((2, 4) ∷ (3, 4) ∷ (4, 4) ∷ (5, 2) ∷ (6, 4) ∷ (7, 4) ∷ (8, 4) ∷ []) ∷ ((2, 4) ∷ (3, 4) ∷ (4, 4) ∷ (5, 2) ∷ (6, 4) ∷ (7, 4) ∷ (8, 4) ∷ []) ∷ ((2, 4) ∷ (3, 4) ∷ (4, 4) ∷ (5, 2) ∷ (6, 4) ∷ (7, 4) ∷ (8, 4) ∷ []) ∷ ((2, 4) ∷ (3, 4) ∷ (4, 4) ∷ (5, 2) ∷ (6, 4) ∷ (7, 4) ∷ (8, 4) ∷ []) ∷ ((2, 4) ∷ (3, 4) ∷ (4, 4) ∷ (5, 2) ∷ (6, 4) ∷ (7, 4) ∷ (8, 4) ∷ []) ∷ ((2, 4) ∷ (3, 4) ∷ (4, 4) ∷ (5, 2) ∷ (6, 4) ∷ (7, 4) ∷ (8, 4) ∷ []) ∷ ((2, 4) ∷ (3, 4) ∷ (4, 4) ∷ (5, 2) ∷ (6, 4) ∷ (7, 4) ∷ (8, 4) ∷ []) ∷ ((2, 4) ∷ (3, 4) ∷ (4, 4) ∷ (5, 2) ∷ (6, 4) ∷ (7, 4) ∷ (8, 4) ∷ []) ∷ ((2, 4) ∷ (3, 4) ∷ (4, 4) ∷ (5, 2) ∷ (6, 4) ∷ (7, 4) ∷ (8, 4) ∷ []) ∷ ((2, 4) ∷ (3, 4) ∷ (4, 4) ∷ (5, 2) ∷ (6, 4) ∷ (7, 4) ∷ (8, 4) ∷ []) ∷ ((1, 4) ∷ (2, 4) ∷ (3, 4) ∷ (4, 4) ∷ (5, 2) ∷ (6, 4) ∷ (7, 4) ∷ []) ∷ ((1, 4) ∷ (2, 4) ∷ (3, 4) ∷ (4, 4) ∷ (5, 2) ∷ (6, 4) ∷ (7, 4) ∷ []) ∷ ((1, 4) ∷ (2, 4) ∷ []) ∷ ((1, 4) ∷ (2, 4) ∷ []) ∷ ((1, 4) ∷ []) ∷ ((1, 4) ∷ []) ∷ [] ∷ [] ∷ [] ∷ [] ∷ [] ∷ [] ∷ [] ∷ [])
+unfolding world_after_entry world_of world_after_step stage_in stage_of stopped_in stopped_by shut_between has_room satisfied_in
+which_states = refl
 
-abbrev pub past55 : History
-past55 = entry (Commanded (Stop 2)) [] [] (2 ∷ []) ∷ past54
+which_quiet : quiet_ones all ≡ (true ∷ false ∷ false ∷ false ∷ false ∷ false ∷ false ∷ false ∷ false ∷ false ∷ false ∷ false ∷ false ∷ false ∷ false ∷ false ∷ false ∷ false ∷ false ∷ false ∷ false ∷ false ∷ false ∷ true ∷ true ∷ false ∷ false ∷ false ∷ false ∷ false ∷ false ∷ false ∷ false ∷ false ∷ false ∷ false ∷ false ∷ false ∷ false ∷ true ∷ true ∷ true ∷ true ∷ true ∷ true ∷ true ∷ true ∷ true ∷ true ∷ true ∷ [])
+unfolding world_after_entry world_of world_after_step stage_in stage_of stopped_in stopped_by shut_between has_room satisfied_in
+which_quiet = refl
 
-abbrev pub past56 : History
-past56 = plain (Commanded (Start 2)) ∷ past55
+which_right : right_ones all ≡ (true ∷ false ∷ false ∷ false ∷ false ∷ false ∷ false ∷ false ∷ false ∷ false ∷ false ∷ false ∷ false ∷ false ∷ false ∷ false ∷ false ∷ false ∷ false ∷ false ∷ false ∷ false ∷ false ∷ true ∷ true ∷ false ∷ false ∷ false ∷ false ∷ false ∷ false ∷ false ∷ false ∷ false ∷ false ∷ false ∷ false ∷ false ∷ false ∷ true ∷ true ∷ true ∷ true ∷ true ∷ true ∷ true ∷ true ∷ true ∷ true ∷ true ∷ [])
+unfolding world_after_entry world_of world_after_step stage_in stage_of stopped_in stopped_by shut_between has_room satisfied_in
+which_right = refl
 
-abbrev pub past57 : History
-past57 = plain (Begin 18 6 19 0 Deactivate []) ∷ past56
+which_wanted : wanted_at all ≡ ((record { configuration = 10; consumer = 0 } ∷ []) ∷ (record { configuration = 10; consumer = 0 } ∷ []) ∷ (record { configuration = 10; consumer = 0 } ∷ []) ∷ (record { configuration = 10; consumer = 0 } ∷ []) ∷ (record { configuration = 10; consumer = 0 } ∷ []) ∷ (record { configuration = 10; consumer = 0 } ∷ []) ∷ (record { configuration = 10; consumer = 0 } ∷ []) ∷ (record { configuration = 10; consumer = 0 } ∷ []) ∷ (record { configuration = 10; consumer = 0 } ∷ []) ∷ (record { configuration = 10; consumer = 0 } ∷ []) ∷ (record { configuration = 10; consumer = 0 } ∷ []) ∷ (record { configuration = 10; consumer = 0 } ∷ []) ∷ (record { configuration = 10; consumer = 0 } ∷ []) ∷ (record { configuration = 10; consumer = 0 } ∷ []) ∷ (record { configuration = 10; consumer = 0 } ∷ []) ∷ (record { configuration = 10; consumer = 0 } ∷ []) ∷ (record { configuration = 10; consumer = 0 } ∷ []) ∷ (record { configuration = 10; consumer = 0 } ∷ []) ∷ (record { configuration = 10; consumer = 0 } ∷ []) ∷ (record { configuration = 10; consumer = 0 } ∷ []) ∷ (record { configuration = 10; consumer = 0 } ∷ []) ∷ (record { configuration = 10; consumer = 0 } ∷ []) ∷ (record { configuration = 10; consumer = 0 } ∷ []) ∷ (record { configuration = 4; consumer = 0 } ∷ []) ∷ (record { configuration = 4; consumer = 0 } ∷ []) ∷ (record { configuration = 4; consumer = 0 } ∷ []) ∷ (record { configuration = 4; consumer = 0 } ∷ []) ∷ (record { configuration = 4; consumer = 0 } ∷ []) ∷ (record { configuration = 4; consumer = 0 } ∷ []) ∷ (record { configuration = 4; consumer = 0 } ∷ []) ∷ (record { configuration = 4; consumer = 0 } ∷ []) ∷ (record { configuration = 4; consumer = 0 } ∷ []) ∷ (record { configuration = 4; consumer = 0 } ∷ []) ∷ (record { configuration = 4; consumer = 0 } ∷ []) ∷ (record { configuration = 4; consumer = 0 } ∷ []) ∷ (record { configuration = 4; consumer = 0 } ∷ []) ∷ (record { configuration = 4; consumer = 0 } ∷ []) ∷ (record { configuration = 4; consumer = 0 } ∷ []) ∷ (record { configuration = 4; consumer = 0 } ∷ []) ∷ [] ∷ [] ∷ [] ∷ [] ∷ [] ∷ [] ∷ [] ∷ [] ∷ [] ∷ [] ∷ [] ∷ [])
+unfolding world_after_entry world_of world_after_step stage_in stage_of stopped_in stopped_by shut_between has_room satisfied_in
+which_wanted = refl
 
-abbrev pub past58 : History
-past58 = plain (End 18 Done) ∷ past57
+which_replies : replies 4194304 all (asked 0 (Install doc1) ∷ asked 1 (Install doc2) ∷ asked 2 (Install doc3) ∷ asked 3 (Install doc4) ∷ asked 4 (Start 1) ∷ asked 5 (Register 1 ((codes "Y") ∷ []) (record { key = (codes "service.ranking"); value = (Whole (pos 0)) } ∷ record { key = (codes "v"); value = (Whole (pos 2)) } ∷ [])) ∷ asked 6 (Start 2) ∷ asked 7 (Register 2 ((codes "Y") ∷ []) (record { key = (codes "v"); value = (Whole (pos 2)) } ∷ [])) ∷ asked 8 (Start 3) ∷ asked 9 (Register 3 ((codes "Y") ∷ []) (record { key = (codes "service.ranking"); value = (Whole (pos 0)) } ∷ [])) ∷ asked 10 (Start 4) ∷ asked 11 (Register 4 ((codes "X") ∷ []) []) ∷ asked 12 (Unget 3 4) ∷ asked 12 (ConfigureFactory (codes "c0") (codes "a") (record { key = (codes "r0.cardinality.minimum"); value = (Whole (pos 1)) } ∷ record { key = (codes "service.ranking"); value = (Whole (pos 0)) } ∷ record { key = (codes "v"); value = (Whole (pos 0)) } ∷ [])) ∷ asked 13 (SetProperties 1 1 []) ∷ asked 14 (Register 4 ((codes "I2") ∷ []) (record { key = (codes ".p"); value = (Whole (pos 0)) } ∷ record { key = (codes "service.ranking"); value = (Whole (pos 1)) } ∷ [])) ∷ asked 25 (Unconfigure (codes "c0~a")) ∷ asked 26 (ConfigureFactory (codes "c5") (codes "b") []) ∷ asked 28 (Listen 3 (tree_or_none (codes "(v=1)"))) ∷ []) ≡ ((Ok (InBundle 1)) ∷ (Ok (InBundle 2)) ∷ (Ok (InBundle 3)) ∷ (Ok (InBundle 4)) ∷ (Ok IsDone) ∷ (Ok (AsService 1)) ∷ (Ok IsDone) ∷ (Ok (AsService 3)) ∷ (Ok IsDone) ∷ (Ok (AsService 5)) ∷ (Ok IsDone) ∷ (Ok (AsService 9)) ∷ (Err NotUsing) ∷ (Ok IsDone) ∷ (Ok IsDone) ∷ (Ok (AsService 11)) ∷ (Ok IsDone) ∷ (Ok IsDone) ∷ (Ok (AsListener 1)) ∷ [])
+unfolding world_after_entry world_of world_after_step stage_in stage_of stopped_in stopped_by shut_between has_room satisfied_in
+which_replies = refl
 
-abbrev pub past59 : History
-past59 = plain (Begin 19 6 19 0 Destroy []) ∷ past58
+bundle_events : bundle_events_at_end all ≡ (record { value = 1; bundle = 1 } ∷ record { value = 1; bundle = 2 } ∷ record { value = 1; bundle = 3 } ∷ record { value = 1; bundle = 4 } ∷ record { value = 32; bundle = 1 } ∷ record { value = 128; bundle = 1 } ∷ record { value = 2; bundle = 1 } ∷ record { value = 32; bundle = 2 } ∷ record { value = 128; bundle = 2 } ∷ record { value = 2; bundle = 2 } ∷ record { value = 32; bundle = 3 } ∷ record { value = 128; bundle = 3 } ∷ record { value = 2; bundle = 3 } ∷ record { value = 32; bundle = 4 } ∷ record { value = 128; bundle = 4 } ∷ record { value = 2; bundle = 4 } ∷ [])
+unfolding world_after_entry world_of world_after_step stage_in stage_of stopped_in stopped_by shut_between has_room satisfied_in
+bundle_events = refl
 
-abbrev pub past60 : History
-past60 = entry (End 19 Done) [] [] (1 ∷ []) ∷ past59
+events_of_1 : events_at_end 1 all ≡ []
+unfolding world_after_entry world_of world_after_step stage_in stage_of stopped_in stopped_by shut_between has_room satisfied_in
+events_of_1 = refl
 
-abbrev pub past61 : History
-past61 = entry (Commanded (Start 3)) [] (opens 24 21 ∷ opens 22 22 ∷ opens 23 0 ∷ opens 20 23 ∷ opens 21 24 ∷ []) [] ∷ past60
+held_2 : held_at_end 2 all ≡ []
+unfolding world_after_entry world_of world_after_step stage_in stage_of stopped_in stopped_by shut_between has_room satisfied_in
+held_2 = refl
 
-abbrev pub past62 : History
-past62 = plain (Begin 20 7 23 0 Create (chose 0 (21 ∷ []) ∷ chose 2 (21 ∷ []) ∷ [])) ∷ past61
+held_3 : held_at_end 3 all ≡ []
+unfolding world_after_entry world_of world_after_step stage_in stage_of stopped_in stopped_by shut_between has_room satisfied_in
+held_3 = refl
 
-abbrev pub past63 : History
-past63 = plain (Begin 21 8 24 0 Create []) ∷ past62
+held_5 : held_at_end 5 all ≡ []
+unfolding world_after_entry world_of world_after_step stage_in stage_of stopped_in stopped_by shut_between has_room satisfied_in
+held_5 = refl
 
-abbrev pub past64 : History
-past64 = plain (End 20 Done) ∷ past63
+held_6 : held_at_end 6 all ≡ []
+unfolding world_after_entry world_of world_after_step stage_in stage_of stopped_in stopped_by shut_between has_room satisfied_in
+held_6 = refl
 
-abbrev pub past65 : History
-past65 = plain (End 21 Done) ∷ past64
+held_7 : held_at_end 7 all ≡ []
+unfolding world_after_entry world_of world_after_step stage_in stage_of stopped_in stopped_by shut_between has_room satisfied_in
+held_7 = refl
 
-abbrev pub past66 : History
-past66 = plain (Begin 22 8 24 0 Activate []) ∷ past65
+held_9 : held_at_end 9 all ≡ []
+unfolding world_after_entry world_of world_after_step stage_in stage_of stopped_in stopped_by shut_between has_room satisfied_in
+held_9 = refl
 
-abbrev pub past67 : History
-past67 = entry (Commanded (Start 1)) [] (opens 25 25 ∷ opens 27 26 ∷ opens 26 27 ∷ []) [] ∷ past66
+held_10 : held_at_end 10 all ≡ (record { instance = 2; reference = (codes "r0"); service = 1 } ∷ record { instance = 2; reference = (codes "r0"); service = 3 } ∷ record { instance = 2; reference = (codes "r0"); service = 5 } ∷ [])
+unfolding world_after_entry world_of world_after_step stage_in stage_of stopped_in stopped_by shut_between has_room satisfied_in
+held_10 = refl
 
-abbrev pub past68 : History
-past68 = plain (End 22 Done) ∷ past67
+bound_is : bound_at_end all ≡ 444
+unfolding world_after_entry world_of world_after_step stage_in stage_of stopped_in stopped_by shut_between has_room satisfied_in
+bound_is = refl
 
-abbrev pub past69 : History
-past69 = plain (Begin 23 7 23 0 (Bind (codes "r0") 21) []) ∷ past68
-
-abbrev pub past70 : History
-past70 = plain (Begin 24 9 27 0 Create []) ∷ past69
-
-abbrev pub past71 : History
-past71 = entry (Commanded (Stop 1)) (25 ∷ 27 ∷ 26 ∷ []) [] [] ∷ past70
-
-abbrev pub past72 : History
-past72 = plain (End 24 Done) ∷ past71
-
-abbrev pub past73 : History
-past73 = plain (End 23 Done) ∷ past72
-
-abbrev pub past74 : History
-past74 = plain (Begin 25 7 23 0 (Bind (codes "r1") 21) []) ∷ past73
-
-abbrev pub past75 : History
-past75 = plain (Begin 26 9 27 0 Destroy []) ∷ past74
-
-abbrev pub past76 : History
-past76 = entry (End 26 Done) [] [] (1 ∷ []) ∷ past75
-
-abbrev pub past77 : History
-past77 = plain (End 25 Done) ∷ past76
-
-abbrev pub past78 : History
-past78 = plain (Begin 27 7 23 0 (Bind (codes "r2") 21) []) ∷ past77
-
-abbrev pub past79 : History
-past79 = plain (End 27 Done) ∷ past78
-
-begins_40 : map next_begin (worlds past40) ≡ (Some (Begin 14 6 12 0 Create (chose 0 (14 ∷ []) ∷ chose 2 (8 ∷ []) ∷ [])) ∷ Some (Begin 14 6 12 0 Create (chose 0 (14 ∷ []) ∷ chose 2 (8 ∷ []) ∷ [])) ∷ Some (Begin 13 5 15 0 Activate []) ∷ Some (Begin 13 5 15 0 Activate []) ∷ None ∷ Some (Begin 12 5 15 0 Create []) ∷ None ∷ None ∷ None ∷ Some (Begin 11 3 1 0 Destroy []) ∷ None ∷ Some (Begin 10 3 1 0 Deactivate []) ∷ Some (Begin 10 3 1 0 Deactivate []) ∷ Some (Begin 9 1 3 0 Destroy []) ∷ Some (Begin 9 3 1 0 Deactivate []) ∷ None ∷ None ∷ None ∷ Some (Begin 8 1 3 0 Deactivate []) ∷ None ∷ None ∷ None ∷ None ∷ None ∷ Some (Begin 7 2 7 0 Destroy []) ∷ None ∷ Some (Begin 6 4 8 0 Create []) ∷ Some (Begin 5 3 1 0 Activate []) ∷ Some (Begin 5 4 8 0 Create []) ∷ Some (Begin 5 4 8 0 Create []) ∷ Some (Begin 4 3 1 0 Create []) ∷ Some (Begin 3 2 7 0 Create (chose 0 (7 ∷ []) ∷ chose 2 (1 ∷ []) ∷ [])) ∷ Some (Begin 2 1 3 0 Activate []) ∷ Some (Begin 2 1 3 0 Activate []) ∷ Some (Begin 2 1 3 0 Activate []) ∷ None ∷ None ∷ None ∷ Some (Begin 1 1 3 0 Create []) ∷ None ∷ None ∷ [])
-begins_40 = refl
-
-missing_keys_40 : map keys (worlds past40) ≡ ((12 ∷ []) ∷ (12 ∷ []) ∷ (12 ∷ []) ∷ [] ∷ [] ∷ (15 ∷ []) ∷ [] ∷ [] ∷ [] ∷ [] ∷ [] ∷ [] ∷ [] ∷ [] ∷ [] ∷ [] ∷ [] ∷ [] ∷ [] ∷ [] ∷ [] ∷ [] ∷ [] ∷ [] ∷ [] ∷ [] ∷ (8 ∷ []) ∷ (8 ∷ []) ∷ (8 ∷ []) ∷ (8 ∷ []) ∷ (1 ∷ 8 ∷ []) ∷ (7 ∷ []) ∷ (7 ∷ []) ∷ [] ∷ [] ∷ [] ∷ [] ∷ [] ∷ (3 ∷ []) ∷ [] ∷ [] ∷ [])
-missing_keys_40 = refl
-
-failed_ones_40 : map marks (worlds past40) ≡ ([] ∷ [] ∷ [] ∷ [] ∷ [] ∷ [] ∷ [] ∷ (8 ∷ []) ∷ (8 ∷ []) ∷ (8 ∷ []) ∷ (8 ∷ []) ∷ (8 ∷ []) ∷ (8 ∷ []) ∷ (8 ∷ []) ∷ (8 ∷ []) ∷ (8 ∷ []) ∷ (8 ∷ []) ∷ (8 ∷ []) ∷ (8 ∷ []) ∷ (8 ∷ []) ∷ (8 ∷ []) ∷ (8 ∷ []) ∷ (8 ∷ []) ∷ (8 ∷ []) ∷ (8 ∷ []) ∷ [] ∷ [] ∷ [] ∷ [] ∷ [] ∷ [] ∷ [] ∷ [] ∷ [] ∷ [] ∷ [] ∷ [] ∷ [] ∷ [] ∷ [] ∷ [] ∷ [])
-failed_ones_40 = refl
-
-satisfied_ones_40 : map satisfied_in (worlds past40) ≡ ((13 ∷ 15 ∷ 16 ∷ 11 ∷ 12 ∷ 9 ∷ 10 ∷ 14 ∷ []) ∷ (13 ∷ 15 ∷ 16 ∷ 11 ∷ 12 ∷ 9 ∷ 10 ∷ 14 ∷ []) ∷ (13 ∷ 15 ∷ 16 ∷ 11 ∷ 12 ∷ 9 ∷ 10 ∷ 14 ∷ []) ∷ (13 ∷ 15 ∷ 11 ∷ 9 ∷ 10 ∷ 14 ∷ []) ∷ (13 ∷ 15 ∷ 11 ∷ 9 ∷ 10 ∷ 14 ∷ []) ∷ (13 ∷ 15 ∷ 11 ∷ 9 ∷ 10 ∷ 14 ∷ []) ∷ [] ∷ (8 ∷ []) ∷ (8 ∷ []) ∷ (8 ∷ []) ∷ (8 ∷ []) ∷ (8 ∷ []) ∷ (8 ∷ []) ∷ (8 ∷ []) ∷ (8 ∷ []) ∷ (8 ∷ []) ∷ (8 ∷ []) ∷ (8 ∷ []) ∷ (8 ∷ []) ∷ (8 ∷ []) ∷ (8 ∷ []) ∷ (8 ∷ []) ∷ (8 ∷ []) ∷ (1 ∷ 3 ∷ 8 ∷ 6 ∷ 2 ∷ 4 ∷ 5 ∷ []) ∷ (1 ∷ 3 ∷ 8 ∷ 6 ∷ 2 ∷ 4 ∷ 5 ∷ []) ∷ (1 ∷ 3 ∷ 8 ∷ 6 ∷ 7 ∷ 2 ∷ 4 ∷ 5 ∷ []) ∷ (1 ∷ 3 ∷ 8 ∷ 6 ∷ 7 ∷ 2 ∷ 4 ∷ 5 ∷ []) ∷ (1 ∷ 3 ∷ 8 ∷ 6 ∷ 7 ∷ 2 ∷ 4 ∷ 5 ∷ []) ∷ (1 ∷ 3 ∷ 8 ∷ 6 ∷ 7 ∷ 2 ∷ 4 ∷ 5 ∷ []) ∷ (1 ∷ 3 ∷ 8 ∷ 6 ∷ 7 ∷ 2 ∷ 4 ∷ 5 ∷ []) ∷ (1 ∷ 3 ∷ 8 ∷ 6 ∷ 7 ∷ 2 ∷ 4 ∷ 5 ∷ []) ∷ (1 ∷ 3 ∷ 8 ∷ 6 ∷ 7 ∷ 2 ∷ 4 ∷ 5 ∷ []) ∷ (1 ∷ 3 ∷ 8 ∷ 6 ∷ 7 ∷ 2 ∷ 4 ∷ 5 ∷ []) ∷ (1 ∷ 3 ∷ 6 ∷ 2 ∷ 4 ∷ 5 ∷ []) ∷ (1 ∷ 3 ∷ 6 ∷ 2 ∷ 4 ∷ 5 ∷ []) ∷ (1 ∷ 3 ∷ 6 ∷ 2 ∷ 4 ∷ 5 ∷ []) ∷ (1 ∷ 3 ∷ []) ∷ (1 ∷ 3 ∷ []) ∷ (1 ∷ 3 ∷ []) ∷ [] ∷ [] ∷ [])
-satisfied_ones_40 = refl
-
-states_40 : map told_lines (worlds past40) ≡ (((9, 4) ∷ (10, 4) ∷ (11, 4) ∷ (12, 4) ∷ (13, 4) ∷ (14, 4) ∷ (15, 8) ∷ (16, 4) ∷ []) ∷ ((9, 4) ∷ (10, 4) ∷ (11, 4) ∷ (12, 4) ∷ (13, 4) ∷ (14, 4) ∷ (15, 4) ∷ (16, 4) ∷ []) ∷ ((9, 4) ∷ (10, 4) ∷ (11, 4) ∷ (12, 4) ∷ (13, 4) ∷ (14, 4) ∷ (15, 4) ∷ (16, 4) ∷ []) ∷ ((9, 4) ∷ (10, 4) ∷ (11, 4) ∷ (12, 2) ∷ (13, 4) ∷ (14, 4) ∷ (15, 4) ∷ []) ∷ ((9, 4) ∷ (10, 4) ∷ (11, 4) ∷ (12, 2) ∷ (13, 4) ∷ (14, 4) ∷ (15, 4) ∷ []) ∷ ((9, 4) ∷ (10, 4) ∷ (11, 4) ∷ (12, 2) ∷ (13, 4) ∷ (14, 4) ∷ (15, 4) ∷ []) ∷ ((9, 2) ∷ (10, 2) ∷ (11, 2) ∷ (12, 2) ∷ []) ∷ ((8, 16) ∷ (9, 2) ∷ (10, 2) ∷ (11, 2) ∷ (12, 2) ∷ []) ∷ ((8, 16) ∷ (9, 2) ∷ (10, 2) ∷ (11, 2) ∷ (12, 2) ∷ []) ∷ ((8, 16) ∷ (9, 2) ∷ (10, 2) ∷ (11, 2) ∷ (12, 2) ∷ []) ∷ ((8, 16) ∷ (9, 2) ∷ (10, 2) ∷ (11, 2) ∷ (12, 2) ∷ []) ∷ ((8, 16) ∷ (9, 2) ∷ (10, 2) ∷ (11, 2) ∷ (12, 2) ∷ []) ∷ ((8, 16) ∷ (9, 2) ∷ (10, 2) ∷ (11, 2) ∷ (12, 2) ∷ []) ∷ ((8, 16) ∷ (9, 2) ∷ (10, 2) ∷ (11, 2) ∷ (12, 2) ∷ []) ∷ ((8, 16) ∷ (9, 2) ∷ (10, 2) ∷ (11, 2) ∷ (12, 2) ∷ []) ∷ ((8, 16) ∷ (9, 2) ∷ (10, 2) ∷ (11, 2) ∷ (12, 2) ∷ []) ∷ ((8, 16) ∷ (9, 2) ∷ (10, 2) ∷ (11, 2) ∷ (12, 2) ∷ []) ∷ ((8, 16) ∷ []) ∷ ((8, 16) ∷ []) ∷ ((8, 16) ∷ []) ∷ ((8, 16) ∷ []) ∷ ((8, 16) ∷ []) ∷ ((4, 2) ∷ (5, 2) ∷ (6, 2) ∷ (7, 2) ∷ (8, 16) ∷ []) ∷ ((1, 4) ∷ (2, 4) ∷ (3, 4) ∷ (4, 4) ∷ (5, 4) ∷ (6, 4) ∷ (7, 2) ∷ (8, 16) ∷ []) ∷ ((1, 4) ∷ (2, 4) ∷ (3, 4) ∷ (4, 4) ∷ (5, 4) ∷ (6, 4) ∷ (7, 2) ∷ (8, 16) ∷ []) ∷ ((1, 4) ∷ (2, 4) ∷ (3, 4) ∷ (4, 4) ∷ (5, 4) ∷ (6, 4) ∷ (7, 4) ∷ (8, 4) ∷ []) ∷ ((1, 4) ∷ (2, 4) ∷ (3, 4) ∷ (4, 4) ∷ (5, 4) ∷ (6, 4) ∷ (7, 4) ∷ (8, 4) ∷ []) ∷ ((1, 4) ∷ (2, 4) ∷ (3, 4) ∷ (4, 4) ∷ (5, 4) ∷ (6, 4) ∷ (7, 4) ∷ (8, 4) ∷ []) ∷ ((1, 4) ∷ (2, 4) ∷ (3, 4) ∷ (4, 4) ∷ (5, 4) ∷ (6, 4) ∷ (7, 4) ∷ (8, 4) ∷ []) ∷ ((1, 4) ∷ (2, 4) ∷ (3, 4) ∷ (4, 4) ∷ (5, 4) ∷ (6, 4) ∷ (7, 4) ∷ (8, 4) ∷ []) ∷ ((1, 4) ∷ (2, 4) ∷ (3, 4) ∷ (4, 4) ∷ (5, 4) ∷ (6, 4) ∷ (7, 4) ∷ (8, 4) ∷ []) ∷ ((1, 4) ∷ (2, 4) ∷ (3, 4) ∷ (4, 4) ∷ (5, 4) ∷ (6, 4) ∷ (7, 4) ∷ (8, 4) ∷ []) ∷ ((1, 4) ∷ (2, 4) ∷ (3, 4) ∷ (4, 4) ∷ (5, 4) ∷ (6, 4) ∷ (7, 4) ∷ (8, 4) ∷ []) ∷ ((1, 4) ∷ (2, 4) ∷ (3, 4) ∷ (4, 4) ∷ (5, 4) ∷ (6, 4) ∷ (7, 2) ∷ []) ∷ ((1, 4) ∷ (2, 4) ∷ (3, 4) ∷ (4, 4) ∷ (5, 4) ∷ (6, 4) ∷ (7, 2) ∷ []) ∷ ((1, 4) ∷ (2, 4) ∷ (3, 4) ∷ (4, 4) ∷ (5, 4) ∷ (6, 4) ∷ (7, 2) ∷ []) ∷ ((1, 4) ∷ (2, 2) ∷ (3, 4) ∷ []) ∷ ((1, 4) ∷ (2, 2) ∷ (3, 4) ∷ []) ∷ ((1, 4) ∷ (2, 2) ∷ (3, 4) ∷ []) ∷ [] ∷ [] ∷ [])
-states_40 = refl
-
-bundles_40 : map bundle_states (worlds past40) ≡ ((Active ∷ Active ∷ Active ∷ []) ∷ (Active ∷ Active ∷ Active ∷ []) ∷ (Active ∷ Active ∷ Active ∷ []) ∷ (Active ∷ Active ∷ Resolved ∷ []) ∷ (Active ∷ Active ∷ Resolved ∷ []) ∷ (Active ∷ Active ∷ Resolved ∷ []) ∷ (Resolved ∷ Active ∷ Resolved ∷ []) ∷ (Resolved ∷ Active ∷ Active ∷ []) ∷ (Stopping ∷ Active ∷ Active ∷ []) ∷ (Stopping ∷ Active ∷ Active ∷ []) ∷ (Stopping ∷ Active ∷ Active ∷ []) ∷ (Stopping ∷ Active ∷ Active ∷ []) ∷ (Stopping ∷ Active ∷ Active ∷ []) ∷ (Stopping ∷ Active ∷ Active ∷ []) ∷ (Stopping ∷ Active ∷ Active ∷ []) ∷ (Stopping ∷ Active ∷ Active ∷ []) ∷ (Stopping ∷ Active ∷ Active ∷ []) ∷ (Stopping ∷ Resolved ∷ Active ∷ []) ∷ (Stopping ∷ Resolved ∷ Active ∷ []) ∷ (Stopping ∷ Resolved ∷ Active ∷ []) ∷ (Stopping ∷ Stopping ∷ Active ∷ []) ∷ (Stopping ∷ Stopping ∷ Active ∷ []) ∷ (Stopping ∷ Active ∷ Active ∷ []) ∷ (Active ∷ Active ∷ Active ∷ []) ∷ (Active ∷ Active ∷ Active ∷ []) ∷ (Active ∷ Active ∷ Active ∷ []) ∷ (Active ∷ Active ∷ Active ∷ []) ∷ (Active ∷ Active ∷ Active ∷ []) ∷ (Active ∷ Active ∷ Active ∷ []) ∷ (Active ∷ Active ∷ Active ∷ []) ∷ (Active ∷ Active ∷ Active ∷ []) ∷ (Active ∷ Active ∷ Active ∷ []) ∷ (Active ∷ Active ∷ Active ∷ []) ∷ (Active ∷ Active ∷ Installed ∷ []) ∷ (Active ∷ Active ∷ []) ∷ (Active ∷ Active ∷ []) ∷ (Active ∷ Installed ∷ []) ∷ (Active ∷ []) ∷ (Active ∷ []) ∷ (Installed ∷ []) ∷ [] ∷ [])
-bundles_40 = refl
-
-gate_keys_40 : map gates (worlds past40) ≡ (((5, 0, 2) ∷ []) ∷ ((5, 0, 0) ∷ []) ∷ ((5, 0, 0) ∷ []) ∷ ((5, 0, 0) ∷ []) ∷ ((5, 0, 0) ∷ []) ∷ [] ∷ [] ∷ [] ∷ ((3, 2, 1) ∷ []) ∷ ((3, 2, 1) ∷ []) ∷ ((3, 2, 1) ∷ []) ∷ ((3, 2, 1) ∷ []) ∷ ((1, 0, 1) ∷ (3, 2, 1) ∷ []) ∷ ((1, 0, 1) ∷ (3, 2, 1) ∷ []) ∷ ((1, 0, 1) ∷ (3, 2, 1) ∷ []) ∷ ((1, 0, 1) ∷ (3, 2, 1) ∷ []) ∷ ((1, 0, 1) ∷ (3, 2, 0) ∷ []) ∷ ((1, 0, 1) ∷ (3, 2, 0) ∷ []) ∷ ((1, 0, 1) ∷ (3, 2, 0) ∷ []) ∷ ((1, 0, 1) ∷ (3, 2, 0) ∷ []) ∷ ((1, 0, 1) ∷ (2, 1, 0) ∷ (3, 2, 0) ∷ []) ∷ ((1, 0, 0) ∷ (2, 1, 0) ∷ (3, 2, 0) ∷ []) ∷ ((1, 0, 0) ∷ (2, 1, 0) ∷ (3, 2, 0) ∷ []) ∷ ((1, 0, 0) ∷ (2, 1, 0) ∷ (3, 2, 0) ∷ []) ∷ ((1, 0, 0) ∷ (2, 1, 0) ∷ (3, 2, 0) ∷ []) ∷ ((1, 0, 0) ∷ (2, 1, 0) ∷ (3, 2, 0) ∷ (4, 3, 0) ∷ []) ∷ ((1, 0, 0) ∷ (2, 1, 0) ∷ (3, 2, 0) ∷ []) ∷ ((1, 0, 0) ∷ (2, 1, 0) ∷ (3, 2, 0) ∷ []) ∷ ((1, 0, 0) ∷ (2, 1, 0) ∷ (3, 2, 0) ∷ []) ∷ ((1, 0, 0) ∷ (2, 1, 0) ∷ (3, 2, 0) ∷ []) ∷ ((1, 0, 0) ∷ (2, 1, 0) ∷ []) ∷ ((1, 0, 0) ∷ []) ∷ ((1, 0, 0) ∷ []) ∷ ((1, 0, 0) ∷ []) ∷ ((1, 0, 0) ∷ []) ∷ ((1, 0, 0) ∷ []) ∷ ((1, 0, 0) ∷ []) ∷ ((1, 0, 0) ∷ []) ∷ [] ∷ [] ∷ [] ∷ [])
-gate_keys_40 = refl
-
-held_40 : map held_services (worlds past40) ≡ (((5, []) ∷ []) ∷ ((5, []) ∷ []) ∷ ((5, []) ∷ []) ∷ ((5, []) ∷ []) ∷ ((5, []) ∷ []) ∷ [] ∷ [] ∷ [] ∷ ((3, []) ∷ []) ∷ ((3, []) ∷ []) ∷ ((3, []) ∷ []) ∷ ((3, []) ∷ []) ∷ ((1, []) ∷ (3, []) ∷ []) ∷ ((1, []) ∷ (3, []) ∷ []) ∷ ((1, []) ∷ (3, []) ∷ []) ∷ ((1, []) ∷ (3, []) ∷ []) ∷ ((1, []) ∷ (3, []) ∷ []) ∷ ((1, []) ∷ (3, []) ∷ []) ∷ ((1, []) ∷ (3, []) ∷ []) ∷ ((1, []) ∷ (3, []) ∷ []) ∷ ((1, []) ∷ (2, ([] ∷ [] ∷ [] ∷ [])) ∷ (3, []) ∷ []) ∷ ((1, []) ∷ (2, ([] ∷ [] ∷ [] ∷ [])) ∷ (3, []) ∷ []) ∷ ((1, []) ∷ (2, ([] ∷ [] ∷ [] ∷ [])) ∷ (3, []) ∷ []) ∷ ((1, []) ∷ (2, ([] ∷ [] ∷ [] ∷ [])) ∷ (3, []) ∷ []) ∷ ((1, []) ∷ (2, ([] ∷ [] ∷ [] ∷ [])) ∷ (3, []) ∷ []) ∷ ((1, []) ∷ (2, ([] ∷ [] ∷ [] ∷ [])) ∷ (3, []) ∷ (4, []) ∷ []) ∷ ((1, []) ∷ (2, ([] ∷ [] ∷ [] ∷ [])) ∷ (3, []) ∷ []) ∷ ((1, []) ∷ (2, ([] ∷ [] ∷ [] ∷ [])) ∷ (3, []) ∷ []) ∷ ((1, []) ∷ (2, ([] ∷ [] ∷ [] ∷ [])) ∷ (3, []) ∷ []) ∷ ((1, []) ∷ (2, ([] ∷ [] ∷ [] ∷ [])) ∷ (3, []) ∷ []) ∷ ((1, []) ∷ (2, ([] ∷ [] ∷ [] ∷ [])) ∷ []) ∷ ((1, []) ∷ []) ∷ ((1, []) ∷ []) ∷ ((1, []) ∷ []) ∷ ((1, []) ∷ []) ∷ ((1, []) ∷ []) ∷ ((1, []) ∷ []) ∷ ((1, []) ∷ []) ∷ [] ∷ [] ∷ [] ∷ [])
-held_40 = refl
-
-room_40 : map entries_reserved (worlds past40) ≡ (1 ∷ 2 ∷ 0 ∷ 0 ∷ 1 ∷ 0 ∷ 0 ∷ 0 ∷ 1 ∷ 0 ∷ 1 ∷ 0 ∷ 1 ∷ 0 ∷ 1 ∷ 2 ∷ 3 ∷ 3 ∷ 2 ∷ 3 ∷ 4 ∷ 5 ∷ 5 ∷ 5 ∷ 4 ∷ 5 ∷ 4 ∷ 2 ∷ 3 ∷ 4 ∷ 3 ∷ 2 ∷ 0 ∷ 0 ∷ 0 ∷ 1 ∷ 1 ∷ 1 ∷ 0 ∷ 0 ∷ 0 ∷ [])
-room_40 = refl
-
-quiet_ones_40 : map quiet (worlds past40) ≡ (false ∷ false ∷ false ∷ false ∷ false ∷ false ∷ true ∷ true ∷ false ∷ false ∷ false ∷ false ∷ false ∷ false ∷ false ∷ false ∷ false ∷ false ∷ false ∷ false ∷ false ∷ false ∷ false ∷ false ∷ false ∷ false ∷ false ∷ false ∷ false ∷ false ∷ false ∷ false ∷ false ∷ false ∷ false ∷ false ∷ false ∷ false ∷ false ∷ true ∷ true ∷ [])
-quiet_ones_40 = refl
-
-right_ones_40 : map (right 29) (worlds past40) ≡ (false ∷ false ∷ false ∷ false ∷ false ∷ false ∷ true ∷ true ∷ false ∷ false ∷ false ∷ false ∷ false ∷ false ∷ false ∷ false ∷ false ∷ false ∷ false ∷ false ∷ false ∷ false ∷ false ∷ false ∷ false ∷ false ∷ false ∷ false ∷ false ∷ false ∷ false ∷ false ∷ false ∷ false ∷ false ∷ false ∷ false ∷ false ∷ false ∷ true ∷ true ∷ [])
-right_ones_40 = refl
-
-lists_40 : each right_lists past40 (worlds past40) ≡ map lists_of past40
-lists_40 = refl
-
-shut_gates_40 : some_of (each shuts past40 (worlds past40)) ≡ ((24, ((2, 1) ∷ [])) ∷ (19, ((0, 1) ∷ [])) ∷ [])
-shut_gates_40 = refl
-
-reopened_gates_40 : some_of (each reopens past40 (worlds past40)) ≡ ((39, ((0, 2) ∷ [])) ∷ (24, ((2, 1) ∷ [])) ∷ (19, ((0, 1) ∷ [])) ∷ [])
-reopened_gates_40 = refl
-
-scratch_40 : always (all_scratch 29) past40 (worlds past40) ≡ true
-scratch_40 = refl
-
-order_40 : always all_in_order past40 (worlds past40) ≡ true
-order_40 = refl
-
-fits_40 : always (all_have_room 80) past40 (worlds past40) ≡ true
-fits_40 = refl
-
-followed_40 : always (follows 80) past40 (worlds past40) ≡ true
-followed_40 = refl
-
-ready_40 : always are_passes_ready past40 (worlds past40) ≡ true
-ready_40 = refl
-
-ends_40 : each ends_of_pass past40 (worlds past40) ≡ each ends_in_world past40 (worlds past40)
-ends_40 = refl
-
-begins_79 : map next_begin (take 39 (worlds past79)) ≡ (Some (Begin 28 7 23 0 Activate []) ∷ None ∷ Some (Begin 27 7 23 0 (Bind (codes "r2") 21) []) ∷ None ∷ None ∷ Some (Begin 26 9 27 0 Destroy []) ∷ Some (Begin 25 7 23 0 (Bind (codes "r1") 21) []) ∷ Some (Begin 25 9 27 0 Destroy []) ∷ None ∷ None ∷ Some (Begin 24 9 27 0 Create []) ∷ Some (Begin 23 7 23 0 (Bind (codes "r0") 21) []) ∷ Some (Begin 23 9 27 0 Create []) ∷ None ∷ Some (Begin 22 8 24 0 Activate []) ∷ None ∷ None ∷ Some (Begin 21 8 24 0 Create []) ∷ Some (Begin 20 7 23 0 Create (chose 0 (21 ∷ []) ∷ chose 2 (21 ∷ []) ∷ [])) ∷ None ∷ None ∷ Some (Begin 19 6 19 0 Destroy []) ∷ None ∷ Some (Begin 18 6 19 0 Deactivate []) ∷ Some (Begin 18 6 19 0 Deactivate []) ∷ Some (Begin 18 6 19 0 Deactivate []) ∷ None ∷ None ∷ None ∷ Some (Begin 17 6 19 0 Activate []) ∷ None ∷ Some (Begin 16 6 19 0 Create []) ∷ None ∷ None ∷ Some (Begin 15 5 15 0 Destroy []) ∷ None ∷ Some (Begin 14 5 15 0 Deactivate []) ∷ None ∷ None ∷ [])
-begins_79 = refl
-
-missing_keys_79 : map keys (take 39 (worlds past79)) ≡ ([] ∷ [] ∷ [] ∷ [] ∷ [] ∷ [] ∷ [] ∷ [] ∷ [] ∷ [] ∷ (27 ∷ []) ∷ (27 ∷ []) ∷ (27 ∷ []) ∷ [] ∷ [] ∷ [] ∷ [] ∷ (24 ∷ []) ∷ (23 ∷ []) ∷ [] ∷ [] ∷ [] ∷ [] ∷ [] ∷ [] ∷ [] ∷ [] ∷ [] ∷ [] ∷ [] ∷ [] ∷ (19 ∷ []) ∷ [] ∷ [] ∷ [] ∷ [] ∷ [] ∷ [] ∷ [] ∷ [])
-missing_keys_79 = refl
-
-failed_ones_79 : map marks (take 39 (worlds past79)) ≡ ([] ∷ [] ∷ [] ∷ [] ∷ [] ∷ [] ∷ [] ∷ [] ∷ [] ∷ [] ∷ [] ∷ [] ∷ [] ∷ [] ∷ [] ∷ [] ∷ [] ∷ [] ∷ [] ∷ [] ∷ [] ∷ [] ∷ [] ∷ [] ∷ [] ∷ [] ∷ [] ∷ [] ∷ [] ∷ [] ∷ [] ∷ [] ∷ [] ∷ [] ∷ [] ∷ [] ∷ [] ∷ [] ∷ [] ∷ [])
-failed_ones_79 = refl
-
-satisfied_ones_79 : map satisfied_in (take 39 (worlds past79)) ≡ ((24 ∷ 22 ∷ 23 ∷ 20 ∷ 21 ∷ []) ∷ (24 ∷ 22 ∷ 23 ∷ 20 ∷ 21 ∷ []) ∷ (24 ∷ 22 ∷ 23 ∷ 20 ∷ 21 ∷ []) ∷ (24 ∷ 22 ∷ 23 ∷ 20 ∷ 21 ∷ []) ∷ (24 ∷ 22 ∷ 23 ∷ 20 ∷ 21 ∷ []) ∷ (24 ∷ 22 ∷ 23 ∷ 20 ∷ 21 ∷ []) ∷ (24 ∷ 22 ∷ 23 ∷ 20 ∷ 21 ∷ []) ∷ (24 ∷ 22 ∷ 23 ∷ 20 ∷ 21 ∷ []) ∷ (24 ∷ 22 ∷ 23 ∷ 20 ∷ 21 ∷ []) ∷ (24 ∷ 25 ∷ 27 ∷ 22 ∷ 23 ∷ 20 ∷ 21 ∷ 26 ∷ []) ∷ (24 ∷ 25 ∷ 27 ∷ 22 ∷ 23 ∷ 20 ∷ 21 ∷ 26 ∷ []) ∷ (24 ∷ 25 ∷ 27 ∷ 22 ∷ 23 ∷ 20 ∷ 21 ∷ 26 ∷ []) ∷ (24 ∷ 25 ∷ 27 ∷ 22 ∷ 23 ∷ 20 ∷ 21 ∷ 26 ∷ []) ∷ (24 ∷ 22 ∷ 23 ∷ 20 ∷ 21 ∷ []) ∷ (24 ∷ 22 ∷ 23 ∷ 20 ∷ 21 ∷ []) ∷ (24 ∷ 22 ∷ 23 ∷ 20 ∷ 21 ∷ []) ∷ (24 ∷ 22 ∷ 23 ∷ 20 ∷ 21 ∷ []) ∷ (24 ∷ 22 ∷ 23 ∷ 20 ∷ 21 ∷ []) ∷ (24 ∷ 22 ∷ 23 ∷ 20 ∷ 21 ∷ []) ∷ [] ∷ [] ∷ [] ∷ [] ∷ [] ∷ [] ∷ [] ∷ [] ∷ (17 ∷ 19 ∷ 11 ∷ 9 ∷ 10 ∷ 18 ∷ []) ∷ (17 ∷ 19 ∷ 11 ∷ 9 ∷ 10 ∷ 18 ∷ []) ∷ (17 ∷ 19 ∷ 11 ∷ 9 ∷ 10 ∷ 18 ∷ []) ∷ (17 ∷ 19 ∷ 11 ∷ 9 ∷ 10 ∷ 18 ∷ []) ∷ (17 ∷ 19 ∷ 11 ∷ 9 ∷ 10 ∷ 18 ∷ []) ∷ [] ∷ [] ∷ [] ∷ [] ∷ [] ∷ [] ∷ (13 ∷ 15 ∷ 11 ∷ 9 ∷ 10 ∷ 14 ∷ []) ∷ [])
-satisfied_ones_79 = refl
-
-states_79 : map told_lines (take 39 (worlds past79)) ≡ (((20, 4) ∷ (21, 4) ∷ (22, 4) ∷ (23, 4) ∷ (24, 8) ∷ []) ∷ ((20, 4) ∷ (21, 4) ∷ (22, 4) ∷ (23, 4) ∷ (24, 8) ∷ []) ∷ ((20, 4) ∷ (21, 4) ∷ (22, 4) ∷ (23, 4) ∷ (24, 8) ∷ []) ∷ ((20, 4) ∷ (21, 4) ∷ (22, 4) ∷ (23, 4) ∷ (24, 8) ∷ []) ∷ ((20, 4) ∷ (21, 4) ∷ (22, 4) ∷ (23, 4) ∷ (24, 8) ∷ []) ∷ ((20, 4) ∷ (21, 4) ∷ (22, 4) ∷ (23, 4) ∷ (24, 8) ∷ []) ∷ ((20, 4) ∷ (21, 4) ∷ (22, 4) ∷ (23, 4) ∷ (24, 8) ∷ []) ∷ ((20, 4) ∷ (21, 4) ∷ (22, 4) ∷ (23, 4) ∷ (24, 8) ∷ []) ∷ ((20, 4) ∷ (21, 4) ∷ (22, 4) ∷ (23, 4) ∷ (24, 8) ∷ []) ∷ ((20, 4) ∷ (21, 4) ∷ (22, 4) ∷ (23, 4) ∷ (24, 8) ∷ (25, 4) ∷ (26, 4) ∷ (27, 4) ∷ []) ∷ ((20, 4) ∷ (21, 4) ∷ (22, 4) ∷ (23, 4) ∷ (24, 8) ∷ (25, 4) ∷ (26, 4) ∷ (27, 4) ∷ []) ∷ ((20, 4) ∷ (21, 4) ∷ (22, 4) ∷ (23, 4) ∷ (24, 8) ∷ (25, 4) ∷ (26, 4) ∷ (27, 4) ∷ []) ∷ ((20, 4) ∷ (21, 4) ∷ (22, 4) ∷ (23, 4) ∷ (24, 4) ∷ (25, 4) ∷ (26, 4) ∷ (27, 4) ∷ []) ∷ ((20, 4) ∷ (21, 4) ∷ (22, 4) ∷ (23, 4) ∷ (24, 4) ∷ []) ∷ ((20, 4) ∷ (21, 4) ∷ (22, 4) ∷ (23, 4) ∷ (24, 4) ∷ []) ∷ ((20, 4) ∷ (21, 4) ∷ (22, 4) ∷ (23, 4) ∷ (24, 4) ∷ []) ∷ ((20, 4) ∷ (21, 4) ∷ (22, 4) ∷ (23, 4) ∷ (24, 4) ∷ []) ∷ ((20, 4) ∷ (21, 4) ∷ (22, 4) ∷ (23, 4) ∷ (24, 4) ∷ []) ∷ ((20, 4) ∷ (21, 4) ∷ (22, 4) ∷ (23, 4) ∷ (24, 4) ∷ []) ∷ ((20, 2) ∷ (21, 2) ∷ (22, 2) ∷ (23, 2) ∷ []) ∷ ((20, 2) ∷ (21, 2) ∷ (22, 2) ∷ (23, 2) ∷ []) ∷ ((20, 2) ∷ (21, 2) ∷ (22, 2) ∷ (23, 2) ∷ []) ∷ ((20, 2) ∷ (21, 2) ∷ (22, 2) ∷ (23, 2) ∷ []) ∷ ((20, 2) ∷ (21, 2) ∷ (22, 2) ∷ (23, 2) ∷ []) ∷ [] ∷ ((9, 2) ∷ (10, 2) ∷ (11, 2) ∷ (12, 2) ∷ []) ∷ ((9, 2) ∷ (10, 2) ∷ (11, 2) ∷ (12, 2) ∷ []) ∷ ((9, 4) ∷ (10, 4) ∷ (11, 4) ∷ (12, 2) ∷ (17, 4) ∷ (18, 4) ∷ (19, 8) ∷ []) ∷ ((9, 4) ∷ (10, 4) ∷ (11, 4) ∷ (12, 2) ∷ (17, 4) ∷ (18, 4) ∷ (19, 4) ∷ []) ∷ ((9, 4) ∷ (10, 4) ∷ (11, 4) ∷ (12, 2) ∷ (17, 4) ∷ (18, 4) ∷ (19, 4) ∷ []) ∷ ((9, 4) ∷ (10, 4) ∷ (11, 4) ∷ (12, 2) ∷ (17, 4) ∷ (18, 4) ∷ (19, 4) ∷ []) ∷ ((9, 4) ∷ (10, 4) ∷ (11, 4) ∷ (12, 2) ∷ (17, 4) ∷ (18, 4) ∷ (19, 4) ∷ []) ∷ ((9, 2) ∷ (10, 2) ∷ (11, 2) ∷ (12, 2) ∷ []) ∷ ((9, 2) ∷ (10, 2) ∷ (11, 2) ∷ (12, 2) ∷ []) ∷ ((9, 2) ∷ (10, 2) ∷ (11, 2) ∷ (12, 2) ∷ []) ∷ ((9, 2) ∷ (10, 2) ∷ (11, 2) ∷ (12, 2) ∷ []) ∷ ((9, 2) ∷ (10, 2) ∷ (11, 2) ∷ (12, 2) ∷ []) ∷ ((9, 2) ∷ (10, 2) ∷ (11, 2) ∷ (12, 2) ∷ []) ∷ ((9, 4) ∷ (10, 4) ∷ (11, 4) ∷ (12, 2) ∷ (13, 4) ∷ (14, 4) ∷ (15, 8) ∷ []) ∷ [])
-states_79 = refl
-
-bundles_79 : map bundle_states (take 39 (worlds past79)) ≡ ((Resolved ∷ Active ∷ Active ∷ []) ∷ (Resolved ∷ Active ∷ Active ∷ []) ∷ (Resolved ∷ Active ∷ Active ∷ []) ∷ (Resolved ∷ Active ∷ Active ∷ []) ∷ (Stopping ∷ Active ∷ Active ∷ []) ∷ (Stopping ∷ Active ∷ Active ∷ []) ∷ (Stopping ∷ Active ∷ Active ∷ []) ∷ (Stopping ∷ Active ∷ Active ∷ []) ∷ (Stopping ∷ Active ∷ Active ∷ []) ∷ (Active ∷ Active ∷ Active ∷ []) ∷ (Active ∷ Active ∷ Active ∷ []) ∷ (Active ∷ Active ∷ Active ∷ []) ∷ (Active ∷ Active ∷ Active ∷ []) ∷ (Resolved ∷ Active ∷ Active ∷ []) ∷ (Resolved ∷ Active ∷ Active ∷ []) ∷ (Resolved ∷ Active ∷ Active ∷ []) ∷ (Resolved ∷ Active ∷ Active ∷ []) ∷ (Resolved ∷ Active ∷ Active ∷ []) ∷ (Resolved ∷ Active ∷ Active ∷ []) ∷ (Resolved ∷ Active ∷ Resolved ∷ []) ∷ (Stopping ∷ Active ∷ Resolved ∷ []) ∷ (Stopping ∷ Active ∷ Resolved ∷ []) ∷ (Stopping ∷ Active ∷ Resolved ∷ []) ∷ (Stopping ∷ Active ∷ Resolved ∷ []) ∷ (Stopping ∷ Resolved ∷ Resolved ∷ []) ∷ (Stopping ∷ Active ∷ Resolved ∷ []) ∷ (Stopping ∷ Active ∷ Resolved ∷ []) ∷ (Active ∷ Active ∷ Resolved ∷ []) ∷ (Active ∷ Active ∷ Resolved ∷ []) ∷ (Active ∷ Active ∷ Resolved ∷ []) ∷ (Active ∷ Active ∷ Resolved ∷ []) ∷ (Active ∷ Active ∷ Resolved ∷ []) ∷ (Resolved ∷ Active ∷ Resolved ∷ []) ∷ (Stopping ∷ Active ∷ Resolved ∷ []) ∷ (Stopping ∷ Active ∷ Resolved ∷ []) ∷ (Stopping ∷ Active ∷ Resolved ∷ []) ∷ (Stopping ∷ Active ∷ Resolved ∷ []) ∷ (Stopping ∷ Active ∷ Resolved ∷ []) ∷ (Active ∷ Active ∷ Resolved ∷ []) ∷ [])
-bundles_79 = refl
-
-gate_keys_79 : map gates (take 39 (worlds past79)) ≡ (((7, 0, 0) ∷ (8, 1, 1) ∷ []) ∷ ((7, 0, 0) ∷ (8, 1, 1) ∷ []) ∷ ((7, 0, 0) ∷ (8, 1, 1) ∷ []) ∷ ((7, 0, 0) ∷ (8, 1, 1) ∷ []) ∷ ((7, 0, 0) ∷ (8, 1, 1) ∷ (9, 2, 0) ∷ []) ∷ ((7, 0, 0) ∷ (8, 1, 1) ∷ (9, 2, 0) ∷ []) ∷ ((7, 0, 0) ∷ (8, 1, 1) ∷ (9, 2, 0) ∷ []) ∷ ((7, 0, 0) ∷ (8, 1, 1) ∷ (9, 2, 0) ∷ []) ∷ ((7, 0, 0) ∷ (8, 1, 1) ∷ (9, 2, 0) ∷ []) ∷ ((7, 0, 0) ∷ (8, 1, 1) ∷ (9, 2, 0) ∷ []) ∷ ((7, 0, 0) ∷ (8, 1, 1) ∷ []) ∷ ((7, 0, 0) ∷ (8, 1, 1) ∷ []) ∷ ((7, 0, 0) ∷ (8, 1, 0) ∷ []) ∷ ((7, 0, 0) ∷ (8, 1, 0) ∷ []) ∷ ((7, 0, 0) ∷ (8, 1, 0) ∷ []) ∷ ((7, 0, 0) ∷ (8, 1, 0) ∷ []) ∷ ((7, 0, 0) ∷ (8, 1, 0) ∷ []) ∷ ((7, 0, 0) ∷ []) ∷ [] ∷ [] ∷ ((6, 0, 3) ∷ []) ∷ ((6, 0, 3) ∷ []) ∷ ((6, 0, 3) ∷ []) ∷ ((6, 0, 3) ∷ []) ∷ ((6, 0, 3) ∷ []) ∷ ((6, 0, 3) ∷ []) ∷ ((6, 0, 3) ∷ []) ∷ ((6, 0, 3) ∷ []) ∷ ((6, 0, 0) ∷ []) ∷ ((6, 0, 0) ∷ []) ∷ ((6, 0, 0) ∷ []) ∷ [] ∷ [] ∷ ((5, 0, 2) ∷ []) ∷ ((5, 0, 2) ∷ []) ∷ ((5, 0, 2) ∷ []) ∷ ((5, 0, 2) ∷ []) ∷ ((5, 0, 2) ∷ []) ∷ ((5, 0, 2) ∷ []) ∷ [])
-gate_keys_79 = refl
-
-held_79 : map held_services (take 39 (worlds past79)) ≡ (((7, ((21 ∷ []) ∷ (21 ∷ []) ∷ (21 ∷ []) ∷ [])) ∷ (8, []) ∷ []) ∷ ((7, ((21 ∷ []) ∷ (21 ∷ []) ∷ (21 ∷ []) ∷ [])) ∷ (8, []) ∷ []) ∷ ((7, ((21 ∷ []) ∷ (21 ∷ []) ∷ [] ∷ [])) ∷ (8, []) ∷ []) ∷ ((7, ((21 ∷ []) ∷ (21 ∷ []) ∷ [] ∷ [])) ∷ (8, []) ∷ []) ∷ ((7, ((21 ∷ []) ∷ (21 ∷ []) ∷ [] ∷ [])) ∷ (8, []) ∷ (9, []) ∷ []) ∷ ((7, ((21 ∷ []) ∷ (21 ∷ []) ∷ [] ∷ [])) ∷ (8, []) ∷ (9, []) ∷ []) ∷ ((7, ((21 ∷ []) ∷ [] ∷ [] ∷ [])) ∷ (8, []) ∷ (9, []) ∷ []) ∷ ((7, ((21 ∷ []) ∷ [] ∷ [] ∷ [])) ∷ (8, []) ∷ (9, []) ∷ []) ∷ ((7, ((21 ∷ []) ∷ [] ∷ [] ∷ [])) ∷ (8, []) ∷ (9, []) ∷ []) ∷ ((7, ((21 ∷ []) ∷ [] ∷ [] ∷ [])) ∷ (8, []) ∷ (9, []) ∷ []) ∷ ((7, ((21 ∷ []) ∷ [] ∷ [] ∷ [])) ∷ (8, []) ∷ []) ∷ ((7, ([] ∷ [] ∷ [] ∷ [])) ∷ (8, []) ∷ []) ∷ ((7, ([] ∷ [] ∷ [] ∷ [])) ∷ (8, []) ∷ []) ∷ ((7, ([] ∷ [] ∷ [] ∷ [])) ∷ (8, []) ∷ []) ∷ ((7, ([] ∷ [] ∷ [] ∷ [])) ∷ (8, []) ∷ []) ∷ ((7, ([] ∷ [] ∷ [] ∷ [])) ∷ (8, []) ∷ []) ∷ ((7, ([] ∷ [] ∷ [] ∷ [])) ∷ (8, []) ∷ []) ∷ ((7, ([] ∷ [] ∷ [] ∷ [])) ∷ []) ∷ [] ∷ [] ∷ ((6, []) ∷ []) ∷ ((6, []) ∷ []) ∷ ((6, []) ∷ []) ∷ ((6, []) ∷ []) ∷ ((6, []) ∷ []) ∷ ((6, []) ∷ []) ∷ ((6, []) ∷ []) ∷ ((6, []) ∷ []) ∷ ((6, []) ∷ []) ∷ ((6, []) ∷ []) ∷ ((6, []) ∷ []) ∷ [] ∷ [] ∷ ((5, []) ∷ []) ∷ ((5, []) ∷ []) ∷ ((5, []) ∷ []) ∷ ((5, []) ∷ []) ∷ ((5, []) ∷ []) ∷ ((5, []) ∷ []) ∷ [])
-held_79 = refl
-
-room_79 : map entries_reserved (take 39 (worlds past79)) ≡ (1 ∷ 2 ∷ 1 ∷ 2 ∷ 3 ∷ 2 ∷ 1 ∷ 2 ∷ 3 ∷ 3 ∷ 2 ∷ 1 ∷ 2 ∷ 2 ∷ 0 ∷ 1 ∷ 2 ∷ 1 ∷ 0 ∷ 0 ∷ 1 ∷ 0 ∷ 1 ∷ 0 ∷ 0 ∷ 0 ∷ 1 ∷ 1 ∷ 2 ∷ 0 ∷ 1 ∷ 0 ∷ 0 ∷ 1 ∷ 0 ∷ 1 ∷ 0 ∷ 1 ∷ 1 ∷ [])
-room_79 = refl
-
-quiet_ones_79 : map quiet (take 39 (worlds past79)) ≡ (false ∷ false ∷ false ∷ false ∷ false ∷ false ∷ false ∷ false ∷ false ∷ false ∷ false ∷ false ∷ false ∷ false ∷ false ∷ false ∷ false ∷ false ∷ false ∷ true ∷ false ∷ false ∷ false ∷ false ∷ false ∷ false ∷ false ∷ true ∷ false ∷ false ∷ false ∷ false ∷ true ∷ false ∷ false ∷ false ∷ false ∷ false ∷ true ∷ [])
-quiet_ones_79 = refl
-
-right_ones_79 : map (right 29) (take 39 (worlds past79)) ≡ (false ∷ false ∷ false ∷ false ∷ false ∷ false ∷ false ∷ false ∷ false ∷ false ∷ false ∷ false ∷ false ∷ false ∷ false ∷ false ∷ false ∷ false ∷ false ∷ true ∷ false ∷ false ∷ false ∷ false ∷ false ∷ false ∷ false ∷ true ∷ false ∷ false ∷ false ∷ false ∷ true ∷ false ∷ false ∷ false ∷ false ∷ false ∷ true ∷ [])
-right_ones_79 = refl
-
-lists_79 : each right_lists (take 39 past79) (take 40 (worlds past79)) ≡ map lists_of (take 39 past79)
-lists_79 = refl
-
-shut_gates_79 : some_of (each shuts (take 39 past79) (take 40 (worlds past79))) ≡ ((52, ((0, 3) ∷ [])) ∷ (41, ((0, 2) ∷ [])) ∷ [])
-shut_gates_79 = refl
-
-reopened_gates_79 : some_of (each reopens (take 39 past79) (take 40 (worlds past79))) ≡ ((67, ((1, 1) ∷ [])) ∷ (51, ((0, 3) ∷ [])) ∷ [])
-reopened_gates_79 = refl
-
-scratch_79 : always (all_scratch 29) (take 39 past79) (take 40 (worlds past79)) ≡ true
-scratch_79 = refl
-
-order_79 : always all_in_order (take 39 past79) (take 40 (worlds past79)) ≡ true
-order_79 = refl
-
-fits_79 : always (all_have_room 80) (take 39 past79) (take 40 (worlds past79)) ≡ true
-fits_79 = refl
-
-followed_79 : always (follows 80) (take 39 past79) (take 40 (worlds past79)) ≡ true
-followed_79 = refl
-
-ready_79 : always are_passes_ready (take 39 past79) (take 40 (worlds past79)) ≡ true
-ready_79 = refl
-
-ends_79 : each ends_of_pass (take 39 past79) (take 40 (worlds past79)) ≡ each ends_in_world (take 39 past79) (take 40 (worlds past79))
-ends_79 = refl
-
-answers_40 : (reply 80 (world_of past17) (Stop 1) ∷ reply 80 (world_of past28) (Start 2) ∷ reply 80 (world_of past33) (Stop 3) ∷ reply 80 (world_of past33) (Install doc2) ∷ []) ≡ (Ok R.Done ∷ Ok R.Done ∷ Ok R.Done ∷ Ok (R.Bundle 2) ∷ [])
-answers_40 = refl
-
-answers_79 : (reply 80 (world_of past41) (Start 2) ∷ reply 80 (world_of past48) (Start 1) ∷ reply 80 (world_of past54) (Stop 2) ∷ reply 80 (world_of past55) (Start 2) ∷ reply 80 (world_of past75) (Start 1) ∷ reply 80 (world_of past79) (Start 0) ∷ reply 80 (world_of past79) (Stop 2) ∷ reply 80 (world_of past79) (Start 1) ∷ reply 80 (world_of past79) (Stop 2) ∷ reply 80 (world_of past79) (Start 1) ∷ reply 80 (world_of past79) (Stop 3) ∷ reply 80 (world_of past79) (Stop 3) ∷ reply 80 (world_of past79) (Start 1) ∷ reply 80 (world_of past79) (Stop 3) ∷ reply 80 (world_of past79) (Start 0) ∷ reply 80 (world_of past79) (Start 1) ∷ reply 80 (world_of past79) (Start 3) ∷ reply 80 (world_of past79) (Start 3) ∷ reply 80 (world_of past79) (Start 3) ∷ reply 80 (world_of past79) (Start 2) ∷ []) ≡ (Ok R.Done ∷ Ok R.Done ∷ Ok R.Done ∷ Ok R.Done ∷ Err (F.Stopping 9) ∷ Err (F.NoBundle 0) ∷ Err F.JournalFull ∷ Err F.JournalFull ∷ Err F.JournalFull ∷ Err F.JournalFull ∷ Err F.JournalFull ∷ Err F.JournalFull ∷ Err F.JournalFull ∷ Err F.JournalFull ∷ Err (F.NoBundle 0) ∷ Err F.JournalFull ∷ Ok R.Done ∷ Ok R.Done ∷ Ok R.Done ∷ Ok R.Done ∷ [])
-answers_79 = refl
-
-lines : component_lines (world_of past79) ≡ (line 20 (codes "c5") 4 ∷ line 21 (codes "c7") 4 ∷ line 22 (codes "c4") 4 ∷ line 23 (codes "c3") 4 ∷ line 24 (codes "c2") 8 ∷ [])
-lines = refl
+calm_is : calm_at_end all ≡ true
+unfolding world_after_entry world_of world_after_step stage_in stage_of stopped_in stopped_by shut_between has_room satisfied_in
+calm_is = refl

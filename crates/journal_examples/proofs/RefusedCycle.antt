@@ -1,125 +1,98 @@
--- Documents under which some description would have no level.
-use Rattle.std.specs.Prelude.{◌≡◌, refl, [], ◌∷◌, codes, true, false, None, Ok, Err, map}
-use Rattle.bundle_doc.specs.declared.document.BundleDoc.{BundleDoc}
-use Rattle.prop_map.specs.declared.reference_words.Cardinality.TheVariants.{One, ZeroOrMore}
+-- A document that closes a cycle is refused. As an independent model of the platform has it.
+use Rattle.std.specs.Prelude.{◌≡◌, refl, ℕ, List, [], ◌∷◌, codes, true, false, Some, None, Ok, Err, pos, negsuc}
+use Rattle.prop_map.specs.declared.value.Value.TheVariants.{Text, Whole, Flag, Texts, Wholes, Flags}
+use Rattle.prop_map.specs.declared.reference_words.Cardinality.TheVariants.{ZeroOrOne, One, ZeroOrMore, OneOrMore}
 use Rattle.prop_map.specs.declared.reference_words.Policy.TheVariants.{Static, Dynamic}
 use Rattle.prop_map.specs.declared.reference_words.PolicyOption.TheVariants.{Reluctant, Greedy}
-use Rattle.scr_core.specs.declared.bundles.BundleState.TheVariants.{Installed, Active}
-use Rattle.scr_core.specs.declared.command.Command.TheVariants.{Install, Start}
-use Rattle.scr_core.specs.declared.command.CoreFault.{CoreFault as F}
-use Rattle.scr_core.specs.declared.command.Reply.{Reply as R}
-use Rattle.scr_core.specs.declared.command.Step.TheVariants.{Command as Commanded}
-use Rattle.scr_core.specs.Dues.{next_begin}
-use Rattle.scr_core.specs.Readers.{component_lines}
-use Rattle.scr_core.specs.Replies.{reply}
-use Rattle.scr_core.specs.Steps.{History}
-use Rattle.scr_core.specs.Worlds.{world_of, satisfied_in}
-use Rattle.journal_examples.proofs.Words.{reference, component, document, entry, plain, opens, worlds, each, always, some_of}
-use Rattle.journal_examples.proofs.Views.{told_lines, line, marks, keys, gates, held_services, bundle_states, right_lists, lists_of, entries_reserved, shuts, reopens, all_scratch, all_in_order, all_have_room, are_passes_ready, ends_of_pass, ends_in_world, quiet, right, run_ends, lists_and_satisfied}
-use Rattle.journal_examples.proofs.Tests.{follows}
+use Rattle.component_dto.specs.declared.description.Scope.TheVariants.{Singleton, Bundle as InBundleScope, Prototype}
+use Rattle.component_dto.specs.declared.description.ConfigurationPolicy.TheVariants.{Optional, Require, Ignore}
+use Rattle.bundle_doc.specs.declared.document.BundleDoc.{BundleDoc}
+use Rattle.bundle_life.specs.declared.bundle.BundleEvent.{BundleEvent}
+use Rattle.journal_examples.proofs.Trees.{tree_or_none}
+use Rattle.callback_orders.specs.declared.callback.Callback.TheVariants.{Create, Bind, Updated, Unbind, Activate, Modified, Deactivate, Destroy}
+use Rattle.callback_orders.specs.declared.callback.Outcome.TheVariants.{Done, Refused, NoMemory}
+use Rattle.service_listeners.specs.declared.listener.ServiceEvent.{ServiceEvent}
+use Rattle.scr_world.specs.declared.step.Step.TheVariants.{Command as Commanded, Begin, End, Drained, Got, Released}
+use Rattle.scr_world.specs.declared.command.Command.TheVariants.{Install, Update, Start, Stop, Uninstall, Enable, Disable, Register, Unregister, SetProperties, Get, Unget, Listen, Unlisten, Configure, ConfigureFactory, Unconfigure}
+use Rattle.scr_world.specs.declared.reply.CoreFault.TheVariants.{NoBundle, NoComponent, WrongState, Stopping, SameName, Cycle, BundlesFull, ComponentsFull, ServicesFull, ConfigurationsFull, ListenersFull, NoService, NotOwner, NotUsing, NoListener, NoConfiguration, BadPid, FactoryClash, ActivationFailed, ActivationNoMemory, JournalFull}
+use Rattle.scr_world.specs.declared.reply.Reply.TheVariants.{Done as IsDone, Bundle as InBundle, Service as AsService, Uses as WithUses, Listener as AsListener}
+use Rattle.scr_world.specs.Steps.{History}
+use Rattle.scr_world.specs.declared.world.World.{World}
+use Rattle.journal_examples.proofs.Meanings.{legal_means}
+use Rattle.scr_world.specs.Legal.{IsLegal}
+use Rattle.journal_examples.proofs.Tests.{worlds, legal, begins, states, quiet_ones, right_ones, asked, replies, bundle_events_at_end, events_at_end, held_at_end, found_at_end, wanted_at, bound_at_end, calm_at_end}
+use Rattle.scr_world.specs.Worlds.{satisfied_in}
+use Rattle.scr_world.specs.Room.{has_room}
+use Rattle.scr_world.specs.Consequences.{stage_in, stage_of, stopped_in, stopped_by, shut_between}
+use Rattle.scr_world.specs.Stepping.{world_after_step}
+use Rattle.scr_world.specs.Lists.{world_after_entry, world_of}
 
-abbrev pub doc1 : BundleDoc
-doc1 = document (codes "x") (component (codes "x") false ((codes "X") ∷ []) (reference (codes "y") (codes "Y") One Static Reluctant ∷ []) ∷ [])
+abbrev doc1 : BundleDoc
+doc1 = record { location = (codes "x"); name = (codes "x"); version = record { major = 0; minor = 0; micro = 0; qualifier = [] }; manifest = None; activator = None; descriptions = (record { name = (codes "x"); scope = Singleton; implementation_class = (codes "K"); default_enabled = true; immediate = false; service_interfaces = ((codes "X") ∷ []); properties = []; references = (record { name = (codes "y"); interface_name = (codes "Y"); cardinality = One; policy = Static; policy_option = Reluctant; target = None; updated = None } ∷ []); modified = None; configuration_policy = Optional; configuration_pids = ((codes "x") ∷ []); implicit = true } ∷ []) }
 
-abbrev pub doc2 : BundleDoc
-doc2 = document (codes "y") (component (codes "y") false ((codes "Y") ∷ []) (reference (codes "z") (codes "Z") One Static Reluctant ∷ []) ∷ [])
+abbrev doc2 : BundleDoc
+doc2 = record { location = (codes "y"); name = (codes "y"); version = record { major = 0; minor = 0; micro = 0; qualifier = [] }; manifest = None; activator = None; descriptions = (record { name = (codes "y"); scope = Singleton; implementation_class = (codes "K"); default_enabled = true; immediate = false; service_interfaces = ((codes "Y") ∷ []); properties = []; references = (record { name = (codes "z"); interface_name = (codes "Z"); cardinality = One; policy = Static; policy_option = Reluctant; target = None; updated = None } ∷ []); modified = None; configuration_policy = Optional; configuration_pids = ((codes "y") ∷ []); implicit = true } ∷ []) }
 
-abbrev pub doc3 : BundleDoc
-doc3 = document (codes "z") (component (codes "z") false ((codes "Z") ∷ []) [] ∷ [])
+abbrev doc3 : BundleDoc
+doc3 = record { location = (codes "z"); name = (codes "z"); version = record { major = 0; minor = 0; micro = 0; qualifier = [] }; manifest = None; activator = None; descriptions = (record { name = (codes "z"); scope = Singleton; implementation_class = (codes "K"); default_enabled = true; immediate = false; service_interfaces = ((codes "Z") ∷ []); properties = []; references = []; modified = None; configuration_policy = Optional; configuration_pids = ((codes "z") ∷ []); implicit = true } ∷ []) }
 
-abbrev pub doc4 : BundleDoc
-doc4 = document (codes "z") (component (codes "z") false ((codes "Z") ∷ []) (reference (codes "x") (codes "X") One Static Reluctant ∷ []) ∷ [])
+abbrev doc4 : BundleDoc
+doc4 = record { location = (codes "z"); name = (codes "z"); version = record { major = 0; minor = 0; micro = 0; qualifier = [] }; manifest = None; activator = None; descriptions = (record { name = (codes "z"); scope = Singleton; implementation_class = (codes "K"); default_enabled = true; immediate = false; service_interfaces = ((codes "Z") ∷ []); properties = []; references = (record { name = (codes "x"); interface_name = (codes "X"); cardinality = One; policy = Static; policy_option = Reluctant; target = None; updated = None } ∷ []); modified = None; configuration_policy = Optional; configuration_pids = ((codes "z") ∷ []); implicit = true } ∷ []) }
 
-abbrev pub doc5 : BundleDoc
-doc5 = document (codes "s") (component (codes "s") false ((codes "S") ∷ []) (reference (codes "s") (codes "S") ZeroOrMore Dynamic Greedy ∷ []) ∷ [])
-
--- the journal, the last entry first
-abbrev pub past0 : History
+abbrev past0 : History
 past0 = []
 
-abbrev pub past1 : History
-past1 = plain (Commanded (Install doc1)) ∷ past0
+abbrev past1 : History
+past1 = record { step = (Commanded (Install doc1)); closed = []; opened = []; stopped = [] } ∷ past0
 
-abbrev pub past2 : History
-past2 = plain (Commanded (Install doc2)) ∷ past1
+abbrev past2 : History
+past2 = record { step = (Commanded (Install doc2)); closed = []; opened = []; stopped = [] } ∷ past1
 
-abbrev pub past3 : History
-past3 = plain (Commanded (Install doc3)) ∷ past2
+abbrev past3 : History
+past3 = record { step = (Commanded (Install doc3)); closed = []; opened = []; stopped = [] } ∷ past2
 
-abbrev pub past4 : History
-past4 = plain (Commanded (Start 1)) ∷ past3
+abbrev all : List World
+all = worlds past3
 
-abbrev pub past5 : History
-past5 = plain (Commanded (Start 2)) ∷ past4
+is_legal : legal 4194304 past3 all ≡ true
+unfolding world_after_entry world_of world_after_step stage_in stage_of stopped_in stopped_by shut_between has_room satisfied_in
+is_legal = refl
 
-abbrev pub past6 : History
-past6 = entry (Commanded (Start 3)) [] (opens 3 1 ∷ opens 2 2 ∷ opens 1 3 ∷ []) [] ∷ past5
+stands_legal : IsLegal 4194304 past3
+stands_legal = legal_means 4194304 past3 is_legal
 
-begins : map next_begin (worlds past6) ≡ (None ∷ None ∷ None ∷ None ∷ None ∷ None ∷ None ∷ [])
-begins = refl
+which_begin : begins all ≡ (None ∷ None ∷ None ∷ None ∷ [])
+unfolding world_after_entry world_of world_after_step stage_in stage_of stopped_in stopped_by shut_between has_room satisfied_in
+which_begin = refl
 
-missing_keys : map keys (worlds past6) ≡ ([] ∷ [] ∷ [] ∷ [] ∷ [] ∷ [] ∷ [] ∷ [])
-missing_keys = refl
+which_states : states all ≡ ([] ∷ [] ∷ [] ∷ [] ∷ [])
+unfolding world_after_entry world_of world_after_step stage_in stage_of stopped_in stopped_by shut_between has_room satisfied_in
+which_states = refl
 
-failed_ones : map marks (worlds past6) ≡ ([] ∷ [] ∷ [] ∷ [] ∷ [] ∷ [] ∷ [] ∷ [])
-failed_ones = refl
+which_quiet : quiet_ones all ≡ (true ∷ true ∷ true ∷ true ∷ [])
+unfolding world_after_entry world_of world_after_step stage_in stage_of stopped_in stopped_by shut_between has_room satisfied_in
+which_quiet = refl
 
-satisfied_ones : map satisfied_in (worlds past6) ≡ ((3 ∷ 2 ∷ 1 ∷ []) ∷ [] ∷ [] ∷ [] ∷ [] ∷ [] ∷ [] ∷ [])
-satisfied_ones = refl
+which_right : right_ones all ≡ (true ∷ true ∷ true ∷ true ∷ [])
+unfolding world_after_entry world_of world_after_step stage_in stage_of stopped_in stopped_by shut_between has_room satisfied_in
+which_right = refl
 
-states : map told_lines (worlds past6) ≡ (((1, 4) ∷ (2, 4) ∷ (3, 4) ∷ []) ∷ ((1, 2) ∷ (2, 2) ∷ []) ∷ ((1, 2) ∷ []) ∷ [] ∷ [] ∷ [] ∷ [] ∷ [])
-states = refl
+which_wanted : wanted_at all ≡ ([] ∷ [] ∷ [] ∷ [] ∷ [])
+unfolding world_after_entry world_of world_after_step stage_in stage_of stopped_in stopped_by shut_between has_room satisfied_in
+which_wanted = refl
 
-bundles : map bundle_states (worlds past6) ≡ ((Active ∷ Active ∷ Active ∷ []) ∷ (Active ∷ Active ∷ Installed ∷ []) ∷ (Active ∷ Installed ∷ Installed ∷ []) ∷ (Installed ∷ Installed ∷ Installed ∷ []) ∷ (Installed ∷ Installed ∷ []) ∷ (Installed ∷ []) ∷ [] ∷ [])
-bundles = refl
+which_replies : replies 4194304 all (asked 0 (Install doc1) ∷ asked 1 (Install doc2) ∷ asked 2 (Install doc4) ∷ asked 2 (Install doc3) ∷ []) ≡ ((Ok (InBundle 1)) ∷ (Ok (InBundle 2)) ∷ (Err (Cycle [])) ∷ (Ok (InBundle 3)) ∷ [])
+unfolding world_after_entry world_of world_after_step stage_in stage_of stopped_in stopped_by shut_between has_room satisfied_in
+which_replies = refl
 
-gate_keys : map gates (worlds past6) ≡ ([] ∷ [] ∷ [] ∷ [] ∷ [] ∷ [] ∷ [] ∷ [])
-gate_keys = refl
+bundle_events : bundle_events_at_end all ≡ (record { value = 1; bundle = 1 } ∷ record { value = 1; bundle = 2 } ∷ record { value = 1; bundle = 3 } ∷ [])
+unfolding world_after_entry world_of world_after_step stage_in stage_of stopped_in stopped_by shut_between has_room satisfied_in
+bundle_events = refl
 
-held : map held_services (worlds past6) ≡ ([] ∷ [] ∷ [] ∷ [] ∷ [] ∷ [] ∷ [] ∷ [])
-held = refl
+bound_is : bound_at_end all ≡ 6
+unfolding world_after_entry world_of world_after_step stage_in stage_of stopped_in stopped_by shut_between has_room satisfied_in
+bound_is = refl
 
-room : map entries_reserved (worlds past6) ≡ (0 ∷ 0 ∷ 0 ∷ 0 ∷ 0 ∷ 0 ∷ 0 ∷ [])
-room = refl
-
-quiet_ones : map quiet (worlds past6) ≡ (true ∷ true ∷ true ∷ true ∷ true ∷ true ∷ true ∷ [])
-quiet_ones = refl
-
-right_ones : map (right 5) (worlds past6) ≡ (true ∷ true ∷ true ∷ true ∷ true ∷ true ∷ true ∷ [])
-right_ones = refl
-
-lists : each right_lists past6 (worlds past6) ≡ map lists_of past6
-lists = refl
-
-shut_gates : some_of (each shuts past6 (worlds past6)) ≡ []
-shut_gates = refl
-
-reopened_gates : some_of (each reopens past6 (worlds past6)) ≡ []
-reopened_gates = refl
-
-scratch : always (all_scratch 5) past6 (worlds past6) ≡ true
-scratch = refl
-
-order : always all_in_order past6 (worlds past6) ≡ true
-order = refl
-
-fits : always (all_have_room 4194304) past6 (worlds past6) ≡ true
-fits = refl
-
-followed : always (follows 4194304) past6 (worlds past6) ≡ true
-followed = refl
-
-ready : always are_passes_ready past6 (worlds past6) ≡ true
-ready = refl
-
-runs : each run_ends past6 (worlds past6) ≡ each lists_and_satisfied past6 (worlds past6)
-runs = refl
-
-ends : each ends_of_pass past6 (worlds past6) ≡ each ends_in_world past6 (worlds past6)
-ends = refl
-
-answers : (reply 4194304 (world_of past0) (Install doc1) ∷ reply 4194304 (world_of past1) (Install doc2) ∷ reply 4194304 (world_of past2) (Install doc4) ∷ reply 4194304 (world_of past2) (Install doc5) ∷ reply 4194304 (world_of past2) (Install doc3) ∷ reply 4194304 (world_of past3) (Install doc3) ∷ reply 4194304 (world_of past3) (Install doc4) ∷ reply 4194304 (world_of past3) (Start 1) ∷ reply 4194304 (world_of past4) (Start 2) ∷ reply 4194304 (world_of past5) (Start 3) ∷ []) ≡ (Ok (R.Bundle 1) ∷ Ok (R.Bundle 2) ∷ Err (F.Cycle []) ∷ Err (F.Cycle []) ∷ Ok (R.Bundle 3) ∷ Ok (R.Bundle 3) ∷ Ok (R.Bundle 3) ∷ Ok R.Done ∷ Ok R.Done ∷ Ok R.Done ∷ [])
-answers = refl
-
-lines : component_lines (world_of past6) ≡ (line 1 (codes "x") 4 ∷ line 2 (codes "y") 4 ∷ line 3 (codes "z") 4 ∷ [])
-lines = refl
+calm_is : calm_at_end all ≡ true
+unfolding world_after_entry world_of world_after_step stage_in stage_of stopped_in stopped_by shut_between has_room satisfied_in
+calm_is = refl

@@ -1,6 +1,6 @@
 //! The calls of one outer call that wait for the reply of a nested one.
 ghost use Rattle.kind_trait.specs.Stacks.{too_long, pushed, IsPopped};
-ghost use Rattle.std.specs.Prelude.{◌≡◌, ◌++◌, ◌∷◌, [], IfOk, OnOk, OnErr, IfErr, true, false};
+ghost use Rattle.std.specs.Prelude.{◌≡◌, ◌++◌, ◌∷◌, [], IfOk, IsOk, OnOk, OnErr, IfErr, true, false};
 
 use prop_map::OutOfMemory;
 use std::alloc::Global;
@@ -29,7 +29,8 @@ pub struct Waiting<W> {
 ///
 /// A stack serves one outer call. The count of nested calls begins with the stack, at 0, and nothing lowers it or begins it
 /// again, not even that no call waits: the outer call itself may make one nested call after the other. For the next outer
-/// call there is a new stack.
+/// call there is a new stack. The room for the calls is taken by `make_room`, before the first call waits, so an outer call
+/// that makes no nested one takes no memory. A stack whose work can't be dropped is let go by `close`.
 #[derive(Drop)]
 pub struct CallStack<W> {
     calls: Vec<Waiting<W>>,
@@ -38,27 +39,42 @@ pub struct CallStack<W> {
 
 impl<W> Model for CallStack<W> {
     ghost use Rattle.kind_trait.specs.Stacks.{Stack};
-    ghost use Rattle.std.specs.Prelude.{◌≤◌, vec_len, vec_capacity};
+    ghost use Rattle.std.specs.Prelude.{◌≤◌, nat_le, vec_len, vec_capacity};
 
     ghost Value = { Stack W };
 
-    ghost view = { λ s. record { calls = s.calls.items; nested = s.nested } };
+    ghost view = { λ s. record { calls = s.calls.items; nested = s.nested; has_room = nat_le 16 (vec_capacity s.calls) } };
 
-    ghost invariant = { λ s. (vec_len s.calls ≤ 16) × (16 ≤ vec_capacity s.calls) × (s.nested ≤ 64) };
+    ghost invariant = { λ s. (vec_len s.calls ≤ 16) × (s.nested ≤ 64) };
 }
 
 impl<W> CallStack<W> {
-    /// The stack of an outer call that begins: no call waits, and none was made.
+    /// The stack of an outer call that begins: no call waits, and none was made. It takes no memory.
     ///
     /// # Errors
-    /// Only want of memory. It takes the room for all calls, so that `push` takes none.
+    /// None.
     pub fn new(alloc: Global) -> Result<CallStack<W>, OutOfMemory>
-        ensures { IfOk result (λ stack. stack ≡ record { calls = []; nested = 0 }) }
+        ensures made { IsOk result }
+        ensures empty { IfOk result (λ stack. (stack.calls ≡ []) × (stack.nested ≡ 0)) }
     {
         Ok(CallStack {
-            calls: Vec::with_capacity(alloc, MOST_CALLS)?,
+            calls: Vec::new(alloc),
             nested: 0,
         })
+    }
+
+    /// Takes the room for all calls that may wait, so that `push` takes none. Where it is there already, nothing happens.
+    ///
+    /// # Errors
+    /// Only want of memory. The stack is then as it was.
+    pub fn make_room(&mut self) -> Result<(), OutOfMemory>
+        ensures ok { OnOk result (self.new ≡ record self.old { has_room = true }) }
+        ensures err { OnErr result (self.new ≡ self.old) }
+    {
+        if self.calls.capacity() < MOST_CALLS {
+            self.calls.reserve(MOST_CALLS)?;
+        }
+        Ok(())
     }
 
     /// The calls that wait, the outer one first. It takes no memory.
@@ -68,12 +84,13 @@ impl<W> CallStack<W> {
         self.calls.as_slice()
     }
 
-    /// Lets a call of a service wait for the nested call that it makes. It takes no memory.
+    /// Lets a call of a service wait for the nested call that it makes. There must be room. It takes no memory.
     ///
     /// # Errors
     /// CallTooLong exactly where 16 calls wait, or 64 nested calls were made since the outer call began. The work comes back,
     /// and the stack is as it was.
     pub fn push(&mut self, service: u64, work: W) -> Result<(), (W, CallTooLong)>
+        requires { self.old.has_room ≡ true }
         ensures ok { OnOk result ((too_long self.old ≡ false) × (self.new ≡ pushed self.old service work)) }
         ensures err { OnErr result ((too_long self.old ≡ true) × (self.new ≡ self.old)) }
         ensures back { IfErr result (λ e. e.0 ≡ work) }
@@ -92,5 +109,13 @@ impl<W> CallStack<W> {
     {
         let Waiting { service: _, work } = self.calls.pop()?;
         Some(work)
+    }
+
+    /// Lets a stack go in which no call waits.
+    pub fn close(self)
+        requires { self.calls ≡ [] }
+    {
+        let CallStack { calls, nested: _ } = self;
+        calls.destroy_empty();
     }
 }

@@ -1,8 +1,10 @@
 //! The code of components.
 ghost use Rattle.kind_trait.specs.Meanings.{Told, Create, Bind, Updated, Unbind, Activate, Modified, Deactivate, Destroy, Asking, Move, Moves, RefusedWhere};
+ghost use Rattle.kind_trait.specs.declared.kind_fault.KindFault.{KindFault};
 ghost use Rattle.kind_trait.specs.declared.nested_reply.NestedReply.{NestedReply};
+ghost use Rattle.kind_trait.specs.declared.site.Site.{Site};
 ghost use Rattle.prop_map.specs.declared.properties.Property.{Property};
-ghost use Rattle.std.specs.Prelude.{ℕ, List, [], ◌∷◌, ◌++◌, ◌≡◌, Bool, false};
+ghost use Rattle.std.specs.Prelude.{ℕ, List, [], ◌∷◌, ◌++◌, ◌≡◌, Bool, Result, false};
 
 use crate::{KindFault, NestedReply, Next, Site};
 use std::alloc::Global;
@@ -27,6 +29,10 @@ pub trait Kinds {
     /// Whether an instance of a class with these properties refuses a callback.
     ghost refuses: { List ℕ → List Property → Told → Bool };
 
+    /// What it is that an object of an instance is told something and answers. Whoever knows nothing of the component code knows
+    /// this of an answer alone that came from a call with just that object.
+    ghost hears: { Self.Object → Site → Told → Result (Unit {0}) KindFault → Type 0 };
+
     /// What a request to an instance of a class with these properties comes to, after these replies.
     ghost next: { List ℕ → List Property → List ℕ → List NestedReply → Move };
 
@@ -46,7 +52,8 @@ pub trait Kinds {
         reference: &str,
         service: u64,
     ) -> Result<(), KindFault>
-        ensures { RefusedWhere (refuses site.now.class site.now.properties (Bind reference.now service)) result };
+        ensures refused { RefusedWhere (refuses site.now.class site.now.properties (Bind reference.now service)) result }
+        ensures heard { hears object.now site.now (Bind reference.now service) result };
 
     /// Tells an instance that the properties of a service that it has for a reference changed.
     fn updated(
@@ -57,7 +64,8 @@ pub trait Kinds {
         reference: &str,
         service: u64,
     ) -> Result<(), KindFault>
-        ensures { RefusedWhere (refuses site.now.class site.now.properties (Updated reference.now service)) result };
+        ensures refused { RefusedWhere (refuses site.now.class site.now.properties (Updated reference.now service)) result }
+        ensures heard { hears object.now site.now (Updated reference.now service) result };
 
     /// Tells an instance that it has a service for a reference no more.
     fn unbind(
@@ -68,19 +76,23 @@ pub trait Kinds {
         reference: &str,
         service: u64,
     ) -> Result<(), KindFault>
-        ensures { RefusedWhere (refuses site.now.class site.now.properties (Unbind reference.now service)) result };
+        ensures refused { RefusedWhere (refuses site.now.class site.now.properties (Unbind reference.now service)) result }
+        ensures heard { hears object.now site.now (Unbind reference.now service) result };
 
     /// Tells an instance that it is active from now on.
     fn activate(&self, alloc: Global, object: &Self::Object, site: &Site) -> Result<(), KindFault>
-        ensures { RefusedWhere (refuses site.now.class site.now.properties Activate) result };
+        ensures refused { RefusedWhere (refuses site.now.class site.now.properties Activate) result }
+        ensures heard { hears object.now site.now Activate result };
 
     /// Tells an instance that its component properties changed: those of the site are the new ones.
     fn modified(&self, alloc: Global, object: &Self::Object, site: &Site) -> Result<(), KindFault>
-        ensures { RefusedWhere (refuses site.now.class site.now.properties Modified) result };
+        ensures refused { RefusedWhere (refuses site.now.class site.now.properties Modified) result }
+        ensures heard { hears object.now site.now Modified result };
 
     /// Tells an instance that it is active no more.
     fn deactivate(&self, alloc: Global, object: &Self::Object, site: &Site) -> Result<(), KindFault>
-        ensures { RefusedWhere (refuses site.now.class site.now.properties Deactivate) result };
+        ensures refused { RefusedWhere (refuses site.now.class site.now.properties Deactivate) result }
+        ensures heard { hears object.now site.now Deactivate result };
 
     /// Takes up a request to an instance.
     fn start(

@@ -6,15 +6,11 @@ mod kind_fault;
 mod kinds;
 mod nested_reply;
 mod next;
-mod numbered_kind;
 mod site;
-#[cfg(test)]
-mod tests;
 
 pub use call_stack::{CallStack, CallTooLong, Waiting};
 pub use kind_fault::KindFault;
 pub use kinds::Kinds;
 pub use nested_reply::NestedReply;
 pub use next::Next;
-pub use numbered_kind::{Numbered, NumberedKind, Relay};
 pub use site::Site;

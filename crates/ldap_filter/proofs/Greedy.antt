@@ -28,7 +28,7 @@ drop_grows test grows (suc n) b [] e = nothing_left n e where
   nothing_left (suc n) e = e
 drop_grows test grows (suc n) b (c ∷ text) e = drop_grows test grows n c text e
 
-both : (a b : Bool) → (a && b) ≡ true → (a ≡ true) × (b ≡ true)
+pub both : (a b : Bool) → (a && b) ≡ true → (a ≡ true) × (b ≡ true)
 both true b e = (refl, e)
 both false b e = absurd (false≢true e)
 

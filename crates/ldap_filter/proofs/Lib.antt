@@ -3,9 +3,12 @@ pub mod Greedy
 pub mod Numbers
 pub mod Outermost
 pub mod Runs
+pub mod SameLists
 pub mod SoFar
 pub mod Standing
 pub mod StepsBack
 pub mod StepsOn
+pub mod Substrings
+pub mod Texts
 pub mod Values
 pub mod WideChars

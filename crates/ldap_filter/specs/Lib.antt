@@ -4,7 +4,9 @@ pub mod Nodes
 pub mod Parsing
 pub mod Places
 pub mod Reading
+pub mod Sameness
 pub mod Searching
 pub mod Spelling
+pub mod Texts
 pub mod TreeCodes
 pub mod Trees

@@ -1,11 +1,14 @@
 //! Filters, and when they match properties (OSGi Core 8, section 3.2.7 "Filter Syntax").
 ghost use Rattle.ldap_filter.specs.Matching.{matches, match_all, match_one};
 ghost use Rattle.ldap_filter.specs.Nodes.{tree_of};
+ghost use Rattle.ldap_filter.specs.Sameness.{same_tree, tree_equiv};
 ghost use Rattle.ldap_filter.specs.Trees.{trees_of};
+ghost use Rattle.std.specs.Cmp.{partial_equiv_from_equiv};
 ghost use Rattle.std.specs.Prelude.{◌≡◌, ◌+◌, map, IfOk};
 
 use crate::matching::{value_compares, value_has_parts};
 use crate::node::Node;
+use crate::sameness::same_node;
 use crate::steps::Steps;
 use prop_map::{Copies, List, OutOfMemory, Properties};
 use std::alloc::Global;
@@ -54,6 +57,20 @@ impl Filter {
         steps.tick();
         self.matches(properties)
     }
+}
+
+impl PartialEq for Filter {
+    ghost eq = { same_tree };
+
+    ghost laws = { partial_equiv_from_equiv tree_equiv };
+
+    fn eq(&self, other: &Filter) -> bool {
+        same_node(&self.node, &other.node)
+    }
+}
+
+impl Eq for Filter {
+    ghost laws = { tree_equiv };
 }
 
 impl Copies for Filter {

@@ -9,12 +9,12 @@ mod mode;
 mod node;
 mod parsing;
 mod reader;
+mod sameness;
 mod steps;
-#[cfg(test)]
-mod tests;
 
 pub use comparison::Comparison;
 pub use filter::Filter;
 pub use filter_fault::FilterFault;
 pub use matching::consists_of;
+pub use parsing::note_reading;
 pub use steps::Steps;

@@ -10,6 +10,7 @@ ghost use Rattle.std.specs.Prelude.{◌≡◌, codes, map};
 ghost use Rattle.std.specs.Str.{bytes_eq};
 
 use crate::Comparison;
+use memchr::memmem;
 use prop_map::{Str, Value};
 use std::cmp::Ordering;
 
@@ -86,16 +87,12 @@ fn flag_matches(value: &str, flag: bool) -> bool
 fn behind_first<'t>(text: &'t [u8], part: &[u8]) -> Option<&'t [u8]>
     ensures { option_copied result ≡ behind_first part.now text.now }
 {
-    let mut rest = text;
-    'places: loop {
-        if rest.starts_with(part) {
-            let (_, behind) = rest.split_at(part.len());
-            return Some(behind);
+    match memmem::find(text, part) {
+        Some(place) => {
+            let (_, behind) = text.split_at(place + part.len());
+            Some(behind)
         }
-        match rest.split_first() {
-            Some((_, tail)) => rest = tail,
-            None => return None,
-        }
+        None => None,
     }
 }
 

@@ -3,7 +3,10 @@ ghost use Rattle.ldap_filter.specs.Machine.{accepted, whole};
 ghost use Rattle.ldap_filter.specs.Nodes.{tree_of};
 ghost use Rattle.ldap_filter.specs.Parsing.{Parses};
 ghost use Rattle.ldap_filter.specs.Reading.{stack_of, mode_of};
-ghost use Rattle.std.specs.Prelude.{◌≡◌, option_map};
+ghost use Rattle.ldap_filter.specs.Texts.{IsReadingOf, Tells, reading};
+ghost use Rattle.ldap_filter.specs.Trees.{Tree};
+ghost use Rattle.ldap_filter.specs.declared.filter_fault.FilterFault.{FilterFault};
+ghost use Rattle.std.specs.Prelude.{◌≡◌, ℕ, List, Result, option_map};
 
 use crate::mode::{Frame, Mode, Stop};
 use crate::node::Node;
@@ -39,6 +42,15 @@ impl Filter {
         }
     }
 }
+
+/// For contracts alone: a text is read, by the machine, as the tree that it spells within 64 levels, or as the place where
+/// it ceases to be a filter or gets too deep. It is so in one way only, and `Filter::parse` tells it.
+#[tactic(auto, using(crate::proofs::Texts::reading_is, crate::proofs::Texts::reading_only, crate::proofs::Texts::told))]
+pub fn note_reading()
+    ensures reads { (text : List ℕ) → IsReadingOf text (reading text) }
+    ensures once { (text : List ℕ) (other : Result Tree ℕ) → IsReadingOf text other → other ≡ reading text }
+    ensures parsed { (text : List ℕ) (answer : Result Tree FilterFault) → Parses text answer → Tells answer (reading text) }
+{}
 
 // The filter that was read to its end, where no other one stands open.
 fn whole(frames: &[Frame], mode: Mode) -> Option<Node>

@@ -6,8 +6,6 @@ mod fault;
 mod least_levels;
 mod level_list;
 mod steps;
-#[cfg(test)]
-mod tests;
 mod told_cycle;
 mod uses;
 

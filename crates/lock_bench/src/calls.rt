@@ -11,7 +11,7 @@ use std::alloc::Global;
 fn settle(gate: &CallGate, keeper: &mut GateSeat, last: Option<Last>)
     requires own { keeper.old.gate ≡ gate.now }
     requires keeper { keeper.old.knows.keeps ≡ true }
-    requires slot { IfSome last (λ key. key.slot < slots_in gate.now) }
+    requires slot { IfSome last (λ key. key.gate ≡ gate.now) }
     ensures same { (keeper.new.gate ≡ keeper.old.gate) × (keeper.new.knows.keeps ≡ true) × (keeper.new.knows.inside ≡ keeper.old.knows.inside) × (keeper.new.knows.places ≡ keeper.old.knows.places) }
 {
     let Some(last) = last else {

@@ -2,6 +2,7 @@ pub mod Numbers
 pub mod RangeSteps
 pub mod Ranges
 pub mod Readings
+pub mod Same
 pub mod Steps
 pub mod VersionStart
 pub mod VersionSteps

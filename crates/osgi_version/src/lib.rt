@@ -7,8 +7,6 @@ mod qualifier;
 mod range;
 mod range_reading;
 mod reading;
-#[cfg(test)]
-mod tests;
 mod version;
 mod version_reading;
 

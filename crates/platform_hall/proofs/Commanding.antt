@@ -2,14 +2,14 @@
 use Rattle.std.proofs.Common.{◌≡◌, ℕ, List, sym, subst, Bool, true, false, Ok, Err}
 use Rattle.std.specs.Prelude.{Result}
 use Rattle.journal_core.specs.declared.entry.Entry.{Entry}
-use Rattle.scr_core.specs.declared.command.Accepted.{Accepted}
-use Rattle.scr_core.specs.declared.command.Command.{Command}
-use Rattle.scr_core.specs.declared.command.CoreFault.{CoreFault}
-use Rattle.scr_core.specs.declared.command.CoreFault.TheVariants.{NoBundle, NoComponent, Stopping, Cycle, BundlesFull, ComponentsFull, JournalFull, OutOfMemory}
-use Rattle.scr_core.specs.declared.command.Step.{Step}
-use Rattle.scr_core.specs.declared.command.Step.TheVariants.{Command as Commanded}
-use Rattle.scr_core.specs.Calls.{Commands, GrownIf, world_at}
-use Rattle.scr_core.specs.Replies.{changes}
+use Rattle.first_core.specs.declared.command.Accepted.{Accepted}
+use Rattle.first_core.specs.declared.command.Command.{Command}
+use Rattle.first_core.specs.declared.command.CoreFault.{CoreFault}
+use Rattle.first_core.specs.declared.command.CoreFault.TheVariants.{NoBundle, NoComponent, Stopping, Cycle, BundlesFull, ComponentsFull, JournalFull, OutOfMemory}
+use Rattle.first_core.specs.declared.command.Step.{Step}
+use Rattle.first_core.specs.declared.command.Step.TheVariants.{Command as Commanded}
+use Rattle.first_core.specs.Calls.{Commands, GrownIf, world_at}
+use Rattle.first_core.specs.Replies.{changes}
 use Rattle.platform_hall.proofs.Steps.{grown_after}
 use Rattle.platform_hall.proofs.Stops.{IsAlike, alike_itself, commanded_alike}
 

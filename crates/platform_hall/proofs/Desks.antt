@@ -7,20 +7,20 @@ use Rattle.std.proofs.lemmas.List.Sums.{sum_by-append}
 use Rattle.callback_orders.specs.declared.callback.Outcome.{Outcome}
 use Rattle.journal_core.specs.declared.entry.Entry.{Entry}
 use Rattle.turn_runner.specs.declared.turn_work.TurnWork.{TurnWork}
-use Rattle.turn_runner.specs.declared.memory_desk.Held.{Held}
-use Rattle.turn_runner.specs.Desktops.{is_holder}
+use Rattle.platform_hall.specs.declared.held.Held.{Held}
+use Rattle.platform_hall.specs.Desks.{is_holder}
 use Rattle.turn_runner.specs.Outcomes.{has_object_after, is_destroy as is_destroy_told, is_destroy_of, makes_object, needs_object}
-use Rattle.scr_core.specs.declared.command.Limits.{Limits}
-use Rattle.scr_core.specs.declared.command.Step.{Step}
-use Rattle.scr_core.specs.declared.command.Step.TheVariants.{End}
-use Rattle.scr_core.specs.declared.instance.Instance.{Instance}
-use Rattle.scr_core.specs.Cores.{CoreView}
-use Rattle.scr_core.specs.Instances.{has_turn}
-use Rattle.scr_core.specs.Legal.{is_under_way}
-use Rattle.scr_core.specs.Room.{one_if}
-use Rattle.scr_core.specs.Steps.{history_of}
-use Rattle.scr_core.specs.TurnSteps.{last_callback, work_for}
-use Rattle.scr_core.proofs.Legality.{sound_legal}
+use Rattle.first_core.specs.declared.command.Limits.{Limits}
+use Rattle.first_core.specs.declared.command.Step.{Step}
+use Rattle.first_core.specs.declared.command.Step.TheVariants.{End}
+use Rattle.first_core.specs.declared.instance.Instance.{Instance}
+use Rattle.first_core.specs.Cores.{CoreView}
+use Rattle.first_core.specs.Instances.{has_turn}
+use Rattle.first_core.specs.Legal.{is_under_way}
+use Rattle.first_core.specs.Room.{one_if}
+use Rattle.first_core.specs.Steps.{history_of}
+use Rattle.first_core.specs.TurnSteps.{last_callback, work_for}
+use Rattle.first_core.proofs.Legality.{sound_legal}
 use Rattle.platform_hall.specs.Desks.{IsDesk, tokens_of}
 use Rattle.platform_hall.specs.Platforms.{Begins, Ends, has_object, running, world}
 use Rattle.platform_hall.proofs.Lists.{none_found}

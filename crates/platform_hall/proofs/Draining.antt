@@ -3,14 +3,14 @@ use Rattle.std.proofs.Common.{◌≡◌, ◌<◌, ◌-◌, ap, refl, false, Opti
 use Rattle.std.specs.Prelude.{find, option_map}
 use Rattle.std.specs.List.{list_any}
 use Rattle.journal_core.specs.declared.entry.GateKey.{GateKey}
-use Rattle.scr_core.specs.declared.command.Limits.{Limits}
-use Rattle.scr_core.specs.declared.command.Step.TheVariants.{Drained as DrainedStep}
-use Rattle.scr_core.specs.declared.instance.Instance.{Instance}
-use Rattle.scr_core.specs.Calls.{Drains, next_drain}
-use Rattle.scr_core.specs.Consequences.{gate_of}
-use Rattle.scr_core.specs.Cores.{CoreView}
-use Rattle.scr_core.specs.Legal.{awaits_drain}
-use Rattle.scr_core.specs.Worlds.{World}
+use Rattle.first_core.specs.declared.command.Limits.{Limits}
+use Rattle.first_core.specs.declared.command.Step.TheVariants.{Drained as DrainedStep}
+use Rattle.first_core.specs.declared.instance.Instance.{Instance}
+use Rattle.first_core.specs.Calls.{Drains, next_drain}
+use Rattle.first_core.specs.Consequences.{gate_of}
+use Rattle.first_core.specs.Cores.{CoreView}
+use Rattle.first_core.specs.Legal.{awaits_drain}
+use Rattle.first_core.specs.Worlds.{World}
 use Rattle.platform_hall.specs.Platforms.{world}
 use Rattle.platform_hall.proofs.Lists.{any_not_found}
 use Rattle.platform_hall.proofs.Steps.{grown_after, grown_shorter}

@@ -2,9 +2,9 @@
 use Rattle.std.proofs.Common.{◌≡◌, ℕ, List, ap, sym, ◌∙◌, Bool, true, ◌&&◌}
 use Rattle.std.specs.Prelude.{◌==◌, filter, not}
 use Rattle.std.proofs.lemmas.Bool.{and_from, and_parts, both_ways, eqb-true, eq-eqb, false_from_ne_true, not-true, not_from_false}
-use Rattle.turn_runner.specs.declared.memory_desk.Held.{Held}
-use Rattle.turn_runner.specs.Desktops.{is_holder}
-use Rattle.scr_core.proofs.ListLemmas.{any_from, any_to, in_filter, in_filter_from}
+use Rattle.platform_hall.specs.declared.held.Held.{Held}
+use Rattle.platform_hall.specs.Desks.{is_holder}
+use Rattle.first_core.proofs.ListLemmas.{any_from, any_to, in_filter, in_filter_from}
 use Rattle.platform_hall.proofs.Lists.{same_test}
 
 module _ {O : Type 0} (held : List (Held O)) (k n : ℕ) where

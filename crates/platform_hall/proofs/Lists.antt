@@ -3,7 +3,7 @@ use Rattle.std.proofs.Common.{◌≡◌, List, [], ◌∷◌, ap, sym, ◌∙◌
 use Rattle.std.specs.Prelude.{find, map}
 use Rattle.std.specs.List.{Contains, list_any}
 use Rattle.std.proofs.lemmas.Bool.{both_ways}
-use Rattle.scr_core.proofs.ListLemmas.{any_from, any_to, find_to}
+use Rattle.first_core.proofs.ListLemmas.{any_from, any_to, find_to}
 
 -- two tests that pass together are the same
 pub same_test : (a b : Bool) → (a ≡ true → b ≡ true) → (b ≡ true → a ≡ true) → a ≡ b

@@ -10,21 +10,21 @@ use Rattle.kind_trait.specs.Meanings.{Told}
 use Rattle.prop_map.specs.declared.properties.Property.{Property}
 use Rattle.turn_runner.specs.declared.turn_work.TurnWork.{TurnWork}
 use Rattle.turn_runner.specs.Turns.{Turn, Turns}
-use Rattle.scr_core.specs.declared.command.Limits.{Limits}
-use Rattle.scr_core.specs.declared.command.Step.{Step}
-use Rattle.scr_core.specs.declared.command.Step.TheVariants.{End, Drained as DrainedStep}
-use Rattle.scr_core.specs.declared.instance.Instance.{Instance}
-use Rattle.scr_core.specs.Calls.{world_at}
-use Rattle.scr_core.specs.Cores.{CoreView}
-use Rattle.scr_core.specs.Dues.{due_in}
-use Rattle.scr_core.specs.Instances.{has_turn}
-use Rattle.scr_core.specs.Legal.{IsLegal}
-use Rattle.scr_core.specs.Quiet.{IsQuiet, IsRight, are_plain}
-use Rattle.scr_core.specs.Steps.{history_of}
-use Rattle.scr_core.specs.Worlds.{World}
-use Rattle.scr_core.proofs.Legality.{sound_legal}
-use Rattle.scr_core.proofs.ListLemmas.{any_from}
-use Rattle.scr_core.proofs.NoStuckState.{quiet_is_right}
+use Rattle.first_core.specs.declared.command.Limits.{Limits}
+use Rattle.first_core.specs.declared.command.Step.{Step}
+use Rattle.first_core.specs.declared.command.Step.TheVariants.{End, Drained as DrainedStep}
+use Rattle.first_core.specs.declared.instance.Instance.{Instance}
+use Rattle.first_core.specs.Calls.{world_at}
+use Rattle.first_core.specs.Cores.{CoreView}
+use Rattle.first_core.specs.Dues.{due_in}
+use Rattle.first_core.specs.Instances.{has_turn}
+use Rattle.first_core.specs.Legal.{IsLegal}
+use Rattle.first_core.specs.Quiet.{IsQuiet, IsRight, are_plain}
+use Rattle.first_core.specs.Steps.{history_of}
+use Rattle.first_core.specs.Worlds.{World}
+use Rattle.first_core.proofs.Legality.{sound_legal}
+use Rattle.first_core.proofs.ListLemmas.{any_from}
+use Rattle.first_core.proofs.NoStuckState.{quiet_is_right}
 use Rattle.platform_hall.specs.Platforms.{Begins, Drained, Ends, Posts, Settles, has_drain, none_under_way, world}
 use Rattle.platform_hall.proofs.Lists.{any_none}
 use Rattle.platform_hall.proofs.Starts.{IsBegun, runs_as, takes_begun, takes_legal}

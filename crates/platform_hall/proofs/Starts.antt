@@ -9,26 +9,26 @@ use Rattle.std.proofs.lemmas.List.Folds.{list_any-append}
 use Rattle.callback_orders.specs.declared.callback.Callback.{Callback}
 use Rattle.callback_orders.specs.declared.callback.Callback.TheVariants.{Create, Bind, Updated, Unbind, Activate, Modified, Deactivate, Destroy}
 use Rattle.callback_orders.specs.Sequences.{begun, is_outstanding}
-use Rattle.component_state.specs.declared.component.Component.{Component}
-use Rattle.component_state.specs.declared.life.Choice.{Choice}
+use Rattle.first_pass.specs.declared.component.Component.{Component}
+use Rattle.first_pass.specs.declared.life.Choice.{Choice}
 use Rattle.journal_core.specs.declared.entry.Entry.{Entry}
 use Rattle.turn_runner.specs.declared.turn_work.TurnWork.{TurnWork}
 use Rattle.turn_runner.specs.Outcomes.{is_create as is_create_told, needs_object}
-use Rattle.scr_core.specs.declared.command.Step.{Step}
-use Rattle.scr_core.specs.declared.command.Step.TheVariants.{Command as Commanded, Begin, End, Drained}
-use Rattle.scr_core.specs.declared.instance.Instance.{Instance}
-use Rattle.scr_core.specs.Calls.{Takes, world_at}
-use Rattle.scr_core.specs.Dues.{next_begin}
-use Rattle.scr_core.specs.Instances.{begun_by, created_at, has_turn, is_create, told}
-use Rattle.scr_core.specs.Legal.{IsLegal}
-use Rattle.scr_core.specs.Sound.{IsSound}
-use Rattle.scr_core.specs.Steps.{history_of}
-use Rattle.scr_core.specs.TurnSteps.{empty_site, found_in, last_callback, site_of, work_for, work_of, work_under_way}
-use Rattle.scr_core.specs.Worlds.{World}
-use Rattle.scr_core.proofs.Begins.{Tells, begin_is}
-use Rattle.scr_core.proofs.InstanceLemmas.{begun_cases}
-use Rattle.scr_core.proofs.Legality.{sound_legal}
-use Rattle.scr_core.proofs.ListLemmas.{any_from, any_to, find_to, in_first, in_map}
+use Rattle.first_core.specs.declared.command.Step.{Step}
+use Rattle.first_core.specs.declared.command.Step.TheVariants.{Command as Commanded, Begin, End, Drained}
+use Rattle.first_core.specs.declared.instance.Instance.{Instance}
+use Rattle.first_core.specs.Calls.{Takes, world_at}
+use Rattle.first_core.specs.Dues.{next_begin}
+use Rattle.first_core.specs.Instances.{begun_by, created_at, has_turn, is_create, told}
+use Rattle.first_core.specs.Legal.{IsLegal}
+use Rattle.first_core.specs.Sound.{IsSound}
+use Rattle.first_core.specs.Steps.{history_of}
+use Rattle.first_core.specs.TurnSteps.{empty_site, found_in, last_callback, site_of, work_for, work_of, work_under_way}
+use Rattle.first_core.specs.Worlds.{World}
+use Rattle.first_core.proofs.Begins.{Tells, begin_is}
+use Rattle.first_core.proofs.InstanceLemmas.{begun_cases}
+use Rattle.first_core.proofs.Legality.{sound_legal}
+use Rattle.first_core.proofs.ListLemmas.{any_from, any_to, find_to, in_first, in_map}
 use Rattle.platform_hall.specs.Platforms.{is_made}
 use Rattle.platform_hall.proofs.Lists.{any_alike, any_none, any_over, same_test}
 use Rattle.platform_hall.proofs.Steps.{IsAfter, grown_after, grown_legal}

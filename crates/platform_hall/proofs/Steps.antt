@@ -2,13 +2,13 @@
 use Rattle.std.proofs.Common.{◌≡◌, ℕ, ◌+◌, ◌≤◌, List, ap, sym, ◌∙◌, subst, true, arith}
 use Rattle.std.proofs.lemmas.Bool.{leb-true}
 use Rattle.journal_core.specs.declared.entry.Entry.{Entry}
-use Rattle.scr_core.specs.declared.command.Step.{Step}
-use Rattle.scr_core.specs.Calls.{Grown, world_at}
-use Rattle.scr_core.specs.Legal.{IsLegal, MayCome}
-use Rattle.scr_core.specs.Room.{has_room, needed_by, reserved}
-use Rattle.scr_core.specs.Steps.{History, history_of}
-use Rattle.scr_core.specs.Worlds.{World, after, components_by, instances_by, world_of}
-use Rattle.scr_core.proofs.Keeping.{history_append}
+use Rattle.first_core.specs.declared.command.Step.{Step}
+use Rattle.first_core.specs.Calls.{Grown, world_at}
+use Rattle.first_core.specs.Legal.{IsLegal, MayCome}
+use Rattle.first_core.specs.Room.{has_room, needed_by, reserved}
+use Rattle.first_core.specs.Steps.{History, history_of}
+use Rattle.first_core.specs.Worlds.{World, after, components_by, instances_by, world_of}
+use Rattle.first_core.proofs.Keeping.{history_append}
 
 -- the world after a step
 pub record IsAfter (w : World) (step : Step) (now : World) : Type 0 where

@@ -10,14 +10,14 @@ use Rattle.callback_orders.specs.declared.callback.Outcome.TheVariants.{Done, Re
 use Rattle.callback_orders.specs.Sequences.{is_outstanding}
 use Rattle.turn_runner.specs.declared.turn_work.TurnWork.{TurnWork}
 use Rattle.turn_runner.specs.Outcomes.{is_create as is_create_told, is_destroy as is_destroy_told, is_done as is_done_told, makes_object}
-use Rattle.scr_core.specs.declared.command.Command.{Command}
-use Rattle.scr_core.specs.declared.command.Step.TheVariants.{Command as Commanded, End, Drained}
-use Rattle.scr_core.specs.declared.instance.Instance.{Instance}
-use Rattle.scr_core.specs.Instances.{drained_in, ended_in, has_turn, is_create, lives_on, with_outcome}
-use Rattle.scr_core.specs.Sound.{IsSound}
-use Rattle.scr_core.specs.Worlds.{World}
-use Rattle.scr_core.proofs.ListLemmas.{any_from, any_to, in_filter, in_filter_from, in_map, in_map_from}
-use Rattle.scr_core.proofs.Words.{none_outstanding}
+use Rattle.first_core.specs.declared.command.Command.{Command}
+use Rattle.first_core.specs.declared.command.Step.TheVariants.{Command as Commanded, End, Drained}
+use Rattle.first_core.specs.declared.instance.Instance.{Instance}
+use Rattle.first_core.specs.Instances.{drained_in, ended_in, has_turn, is_create, lives_on, with_outcome}
+use Rattle.first_core.specs.Sound.{IsSound}
+use Rattle.first_core.specs.Worlds.{World}
+use Rattle.first_core.proofs.ListLemmas.{any_from, any_to, in_filter, in_filter_from, in_map, in_map_from}
+use Rattle.first_core.proofs.Words.{none_outstanding}
 use Rattle.platform_hall.specs.Platforms.{is_made}
 use Rattle.platform_hall.proofs.Lists.{any_alike, any_none, any_over, same_test}
 use Rattle.platform_hall.proofs.Starts.{Runs, made_for, runs_made, runs_positive}

@@ -10,20 +10,20 @@ use Rattle.callback_orders.specs.declared.callback.Outcome.{Outcome}
 use Rattle.callback_orders.specs.declared.due.DueRef.{DueRef}
 use Rattle.callback_orders.specs.declared.due.DueRef.TheVariants.{Create as CreateDue, Bind, Updated, Unbind, Activate, Modified, Deactivate, Destroy}
 use Rattle.callback_orders.specs.Sequences.{begun, is_outstanding}
-use Rattle.component_state.specs.declared.life.Choice.{Choice}
-use Rattle.scr_core.specs.declared.command.Step.{Step}
-use Rattle.scr_core.specs.declared.command.Step.TheVariants.{Command as Commanded, Begin, End, Drained}
-use Rattle.scr_core.specs.declared.instance.Instance.{Instance}
-use Rattle.scr_core.specs.Dues.{begin_for, begin_of, choices, due_in, next_begin}
-use Rattle.scr_core.specs.Instances.{begun_by, created_at, drained_in, ended_in, has_turn, is_create, lives_on, told, with_outcome}
-use Rattle.scr_core.specs.Legal.{IsLegal, MayCome}
-use Rattle.scr_core.specs.Sound.{IsSound, are_told_apart}
-use Rattle.scr_core.specs.Steps.{History}
-use Rattle.scr_core.specs.Worlds.{World, begins_by, instances_by, instances_told, world_of}
-use Rattle.scr_core.proofs.Begins.{begin_is}
-use Rattle.scr_core.proofs.InstanceLemmas.{begun_cases, numbers_apart}
-use Rattle.scr_core.proofs.Legality.{sound_legal}
-use Rattle.scr_core.proofs.ListLemmas.{apart_same, find_to, in_filter_from, in_map_from, in_none}
+use Rattle.first_pass.specs.declared.life.Choice.{Choice}
+use Rattle.first_core.specs.declared.command.Step.{Step}
+use Rattle.first_core.specs.declared.command.Step.TheVariants.{Command as Commanded, Begin, End, Drained}
+use Rattle.first_core.specs.declared.instance.Instance.{Instance}
+use Rattle.first_core.specs.Dues.{begin_for, begin_of, choices, due_in, next_begin}
+use Rattle.first_core.specs.Instances.{begun_by, created_at, drained_in, ended_in, has_turn, is_create, lives_on, told, with_outcome}
+use Rattle.first_core.specs.Legal.{IsLegal, MayCome}
+use Rattle.first_core.specs.Sound.{IsSound, are_told_apart}
+use Rattle.first_core.specs.Steps.{History}
+use Rattle.first_core.specs.Worlds.{World, begins_by, instances_by, instances_told, world_of}
+use Rattle.first_core.proofs.Begins.{begin_is}
+use Rattle.first_core.proofs.InstanceLemmas.{begun_cases, numbers_apart}
+use Rattle.first_core.proofs.Legality.{sound_legal}
+use Rattle.first_core.proofs.ListLemmas.{apart_same, find_to, in_filter_from, in_map_from, in_none}
 use Rattle.platform_hall.proofs.Lists.{find_only}
 
 -- instances are told in turns of their own, none of which is to come, and have numbers from 1 on

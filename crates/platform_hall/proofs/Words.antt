@@ -9,8 +9,8 @@ use Rattle.callback_orders.specs.declared.callback.Outcome.{Outcome}
 use Rattle.callback_orders.specs.declared.callback.Outcome.TheVariants.{Done, Refused, NoMemory}
 use Rattle.callback_orders.specs.declared.word.Called.{Called}
 use Rattle.callback_orders.specs.Sequences.{active, active_by, alternate, begun, created, created_by, done_with, ended, have_ended, is_done, is_outstanding, is_over, is_sequence, leaving, leaving_by, making, making_by, one_at_a_time}
-use Rattle.scr_core.specs.Instances.{ends_life, is_create, is_destroy}
-use Rattle.scr_core.specs.TurnSteps.{last_callback}
+use Rattle.first_core.specs.Instances.{ends_life, is_create, is_destroy}
+use Rattle.first_core.specs.TurnSteps.{last_callback}
 use Rattle.platform_hall.specs.Platforms.{is_made}
 
 -- ---- only the first callback is a Create

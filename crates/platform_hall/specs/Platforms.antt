@@ -10,22 +10,22 @@ use Rattle.journal_core.specs.declared.entry.Entry.{Entry}
 use Rattle.journal_core.specs.declared.entry.GateKey.{GateKey}
 use Rattle.kind_trait.specs.Meanings.{Told}
 use Rattle.prop_map.specs.declared.properties.Property.{Property}
-use Rattle.scr_core.specs.declared.command.Accepted.{Accepted}
-use Rattle.scr_core.specs.declared.command.Command.{Command}
-use Rattle.scr_core.specs.declared.command.CoreFault.{CoreFault}
-use Rattle.scr_core.specs.declared.command.CoreFault.TheVariants.{JournalFull, OutOfMemory}
-use Rattle.scr_core.specs.declared.command.Reply.{Reply}
-use Rattle.scr_core.specs.declared.command.Step.{Step}
-use Rattle.scr_core.specs.declared.command.Step.TheVariants.{End}
-use Rattle.scr_core.specs.declared.instance.Instance.{Instance}
-use Rattle.scr_core.specs.Calls.{Commands, Drains, Grown, Takes, world_at}
-use Rattle.scr_core.specs.Cores.{CoreView}
-use Rattle.scr_core.specs.Dues.{due_in, next_begin}
-use Rattle.scr_core.specs.Instances.{is_create}
-use Rattle.scr_core.specs.Legal.{awaits_drain}
-use Rattle.scr_core.specs.Room.{has_room as has_room_for, needed_by}
-use Rattle.scr_core.specs.TurnSteps.{work_under_way}
-use Rattle.scr_core.specs.Worlds.{World}
+use Rattle.first_core.specs.declared.command.Accepted.{Accepted}
+use Rattle.first_core.specs.declared.command.Command.{Command}
+use Rattle.first_core.specs.declared.command.CoreFault.{CoreFault}
+use Rattle.first_core.specs.declared.command.CoreFault.TheVariants.{JournalFull, OutOfMemory}
+use Rattle.first_core.specs.declared.command.Reply.{Reply}
+use Rattle.first_core.specs.declared.command.Step.{Step}
+use Rattle.first_core.specs.declared.command.Step.TheVariants.{End}
+use Rattle.first_core.specs.declared.instance.Instance.{Instance}
+use Rattle.first_core.specs.Calls.{Commands, Drains, Grown, Takes, world_at}
+use Rattle.first_core.specs.Cores.{CoreView}
+use Rattle.first_core.specs.Dues.{due_in, next_begin}
+use Rattle.first_core.specs.Instances.{is_create}
+use Rattle.first_core.specs.Legal.{awaits_drain}
+use Rattle.first_core.specs.Room.{has_room as has_room_for, needed_by}
+use Rattle.first_core.specs.TurnSteps.{work_under_way}
+use Rattle.first_core.specs.Worlds.{World}
 use Rattle.turn_runner.specs.declared.settle_fault.SettleFault.{SettleFault}
 use Rattle.turn_runner.specs.declared.turn_work.TurnWork.{TurnWork}
 use Rattle.turn_runner.specs.Outcomes.{IsOutcome, is_refused}

@@ -1,19 +1,20 @@
 //! The desk of a platform: turns come from its core and go back to it.
 ghost use Rattle.platform_hall.specs.Platforms.{Begins, CoreTakes, Ends, Posts, has_drain, has_due, has_object, has_room, running, world};
-ghost use Rattle.scr_core.specs.declared.command.CoreFault.TheVariants.{OutOfMemory as NoMemory};
-ghost use Rattle.scr_core.specs.Legal.{IsLegal};
-ghost use Rattle.scr_core.specs.Steps.{history_of};
+ghost use Rattle.first_core.specs.declared.command.CoreFault.TheVariants.{OutOfMemory as NoMemory};
+ghost use Rattle.first_core.specs.Legal.{IsLegal};
+ghost use Rattle.first_core.specs.Steps.{history_of};
 ghost use Rattle.std.specs.Prelude.{◌≡◌, ℕ, [], Some, None, false, is_some, IfOk, IfErr, OnErr, OnOk};
 ghost use Rattle.turn_runner.specs.Outcomes.{IsRunOf, has_object_after, is_destroy_of, needs_object};
 
 use crate::drains::post_drains;
+use crate::held::Held;
 use crate::tokens::{held_object, is_destroy, keep, take_out};
+use first_core::{Accepted, Command, Core, CoreFault, Limits, Taken, Turn};
 use prop_map::OutOfMemory;
-use scr_core::{Accepted, Command, Core, CoreFault, Limits, Taken, Turn};
 use std::alloc::{AllocError, Global};
 use std::marker::Model;
 use std::sync::Arc;
-use turn_runner::{Desk, DeskFault, Held, Ran, TurnWork};
+use turn_runner::{Desk, DeskFault, Ran, TurnWork};
 
 /// A desk over the core. Contracts see what they see of the core.
 #[derive(Drop)]
@@ -25,7 +26,7 @@ pub(crate) struct CoreDesk<O> {
 
 impl<O> Model for CoreDesk<O> {
     ghost use Rattle.platform_hall.specs.Desks.{IsDesk};
-    ghost use Rattle.scr_core.specs.Cores.{CoreView};
+    ghost use Rattle.first_core.specs.Cores.{CoreView};
 
     ghost Value = { CoreView };
 

@@ -7,15 +7,10 @@
 mod core_desk;
 mod drains;
 mod finish_fault;
+mod held;
 mod notes;
 mod platform;
-#[cfg(test)]
-mod tests;
 mod tokens;
-#[cfg(test)]
-mod watched_tests;
-#[cfg(test)]
-mod watching;
 
 pub use finish_fault::FinishFault;
 pub use notes::{note_rest, note_turns_end};

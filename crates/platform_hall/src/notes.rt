@@ -2,10 +2,10 @@
 ghost use Rattle.kind_trait.specs.Meanings.{Told};
 ghost use Rattle.platform_hall.specs.Platforms.{Settles, none_under_way, world};
 ghost use Rattle.prop_map.specs.declared.properties.Property.{Property};
-ghost use Rattle.scr_core.specs.Cores.{CoreView};
-ghost use Rattle.scr_core.specs.Legal.{IsLegal};
-ghost use Rattle.scr_core.specs.Quiet.{IsQuiet, IsRight, are_plain};
-ghost use Rattle.scr_core.specs.Steps.{history_of};
+ghost use Rattle.first_core.specs.Cores.{CoreView};
+ghost use Rattle.first_core.specs.Legal.{IsLegal};
+ghost use Rattle.first_core.specs.Quiet.{IsQuiet, IsRight, are_plain};
+ghost use Rattle.first_core.specs.Steps.{history_of};
 ghost use Rattle.std.specs.Prelude.{◌≡◌, ℕ, Bool, List, Ok, true};
 
 /// For contracts alone: a settling that is over ends each turn that it begins, so where no turn was under way before, none is

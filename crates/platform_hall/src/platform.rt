@@ -1,15 +1,15 @@
 //! The platform.
 ghost use Rattle.std.specs.Prelude.{◌≡◌, [], IfOk, IfErr};
-ghost use Rattle.scr_core.specs.declared.command.CoreFault.TheVariants.{OutOfMemory};
-ghost use Rattle.scr_core.specs.Legal.{IsLegal};
-ghost use Rattle.scr_core.specs.Steps.{history_of};
+ghost use Rattle.first_core.specs.declared.command.CoreFault.TheVariants.{OutOfMemory};
+ghost use Rattle.first_core.specs.Legal.{IsLegal};
+ghost use Rattle.first_core.specs.Steps.{history_of};
 ghost use Rattle.platform_hall.specs.Platforms.{BeginsTurn, FinishesTurn, Settles, TakesCommand};
 
 use crate::FinishFault;
 use crate::core_desk::CoreDesk;
 use callback_orders::Outcome;
+use first_core::{Command, Core, CoreFault, Limits, Reply};
 use kind_trait::Kinds;
-use scr_core::{Command, Core, CoreFault, Limits, Reply};
 use std::alloc::Global;
 use std::marker::Model;
 use turn_runner::{Desk, DeskFault, SettleFault, run_shared, settle};
@@ -24,7 +24,7 @@ pub struct Platform<K: Kinds> {
 }
 
 impl<K: Kinds> Model for Platform<K> {
-    ghost use Rattle.scr_core.specs.Cores.{CoreView};
+    ghost use Rattle.first_core.specs.Cores.{CoreView};
 
     ghost Value = { CoreView };
 
@@ -49,7 +49,7 @@ impl<K: Kinds + Drop> Platform<K> {
     /// Takes a command, answers as the core does, and posts the drains of the gates that are shut.
     ///
     /// # Errors
-    /// Those of [`scr_core::Core::command`]. A refused command leaves all as it was, but for want of memory, which may also leave the
+    /// Those of [`first_core::Core::command`]. A refused command leaves all as it was, but for want of memory, which may also leave the
     /// command's entry and some of the drains.
     pub fn command(&mut self, alloc: Global, command: Command) -> Result<Reply, CoreFault>
         ensures { TakesCommand self.old command result self.new }

@@ -1,14 +1,13 @@
 //! What a desk keeps: the tokens of turns, and the objects of instances.
-ghost use Rattle.platform_hall.specs.Desks.{tokens_of};
-ghost use Rattle.scr_core.specs.Room.{one_if};
+ghost use Rattle.platform_hall.specs.Desks.{is_holder, tokens_of};
+ghost use Rattle.first_core.specs.Room.{one_if};
 ghost use Rattle.std.specs.Prelude.{◌≡◌, ◌==◌, ◌<◌, ◌+◌, ◌&&◌, ◌||◌, ℕ, not, is_some, MatchOption, vec_len, vec_capacity, filter, length, slice_index};
-ghost use Rattle.turn_runner.specs.Desktops.{is_holder};
 ghost use Rattle.turn_runner.specs.Outcomes.{is_destroy};
 
+use crate::held::Held;
 use callback_orders::Callback;
-use scr_core::Turn;
+use first_core::Turn;
 use std::sync::Arc;
-use turn_runner::Held;
 
 // The place of a token of this turn, of which there is one.
 fn place_of(turns: &[Turn], number: u64) -> usize

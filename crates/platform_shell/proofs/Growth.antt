@@ -9,21 +9,21 @@ use Rattle.callback_orders.specs.declared.callback.Outcome.{Outcome}
 use Rattle.journal_core.specs.declared.entry.Entry.{Entry}
 use Rattle.kind_trait.specs.Meanings.{Told}
 use Rattle.prop_map.specs.declared.properties.Property.{Property}
-use Rattle.scr_core.specs.declared.command.Command.{Command}
-use Rattle.scr_core.specs.declared.command.CoreFault.{CoreFault}
-use Rattle.scr_core.specs.declared.command.CoreFault.TheVariants.{NoBundle, NoComponent, Stopping, Cycle, BundlesFull, ComponentsFull, JournalFull as InCore, OutOfMemory as NoMemory}
-use Rattle.scr_core.specs.declared.command.Limits.{Limits}
-use Rattle.scr_core.specs.declared.command.Reply.{Reply}
-use Rattle.scr_core.specs.declared.command.Step.{Step}
-use Rattle.scr_core.specs.declared.command.Step.TheVariants.{Command as Stepped, Begin, End, Drained as DrainStep}
-use Rattle.scr_core.specs.Calls.{Grown, GrownIf}
-use Rattle.scr_core.specs.Cores.{CoreView}
-use Rattle.scr_core.specs.Legal.{IsLegal}
-use Rattle.scr_core.specs.Replies.{answer, changes, has_effect, refusal, refuse_if, reply}
-use Rattle.scr_core.specs.Room.{has_room}
-use Rattle.scr_core.specs.Steps.{history_of}
-use Rattle.scr_core.specs.TurnSteps.{work_of}
-use Rattle.scr_core.specs.Worlds.{World}
+use Rattle.first_core.specs.declared.command.Command.{Command}
+use Rattle.first_core.specs.declared.command.CoreFault.{CoreFault}
+use Rattle.first_core.specs.declared.command.CoreFault.TheVariants.{NoBundle, NoComponent, Stopping, Cycle, BundlesFull, ComponentsFull, JournalFull as InCore, OutOfMemory as NoMemory}
+use Rattle.first_core.specs.declared.command.Limits.{Limits}
+use Rattle.first_core.specs.declared.command.Reply.{Reply}
+use Rattle.first_core.specs.declared.command.Step.{Step}
+use Rattle.first_core.specs.declared.command.Step.TheVariants.{Command as Stepped, Begin, End, Drained as DrainStep}
+use Rattle.first_core.specs.Calls.{Grown, GrownIf}
+use Rattle.first_core.specs.Cores.{CoreView}
+use Rattle.first_core.specs.Legal.{IsLegal}
+use Rattle.first_core.specs.Replies.{answer, changes, has_effect, refusal, refuse_if, reply}
+use Rattle.first_core.specs.Room.{has_room}
+use Rattle.first_core.specs.Steps.{history_of}
+use Rattle.first_core.specs.TurnSteps.{work_of}
+use Rattle.first_core.specs.Worlds.{World}
 use Rattle.turn_runner.specs.declared.settle_fault.SettleFault.{SettleFault}
 use Rattle.turn_runner.specs.declared.settle_fault.SettleFault.TheVariants.{Unsettled, JournalFull, OutOfMemory}
 use Rattle.turn_runner.specs.declared.turn_work.TurnWork.{TurnWork}

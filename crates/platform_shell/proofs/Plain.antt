@@ -12,18 +12,18 @@ use Rattle.bundle_doc.specs.declared.fault.DocFault.{DocFault}
 use Rattle.bundle_doc.specs.Built.{is_built}
 use Rattle.bundle_doc.specs.Documents.{bundle_of}
 use Rattle.journal_core.specs.declared.entry.Entry.{Entry}
-use Rattle.scr_core.specs.declared.bundles.BundleState.TheVariants.{Active, Stopping, Installed}
-use Rattle.scr_core.specs.declared.command.Command.{Command}
-use Rattle.scr_core.specs.declared.command.Command.TheVariants.{Install, Start, Stop}
-use Rattle.scr_core.specs.declared.command.Step.{Step}
-use Rattle.scr_core.specs.declared.command.Step.TheVariants.{Command as Stepped, Begin, End, Drained}
-use Rattle.scr_core.specs.Bundles.{bundles_by, descriptions_of}
-use Rattle.scr_core.specs.Calls.{world_at}
-use Rattle.scr_core.specs.Cores.{CoreView}
-use Rattle.scr_core.specs.Quiet.{are_plain, is_plain}
-use Rattle.scr_core.specs.Replies.{changes}
-use Rattle.scr_core.specs.Worlds.{World, after, world_of}
-use Rattle.scr_core.proofs.Descriptions.{installed_descriptions, rested_descriptions, state_descriptions}
+use Rattle.first_core.specs.declared.bundles.BundleState.TheVariants.{Active, Stopping, Installed}
+use Rattle.first_core.specs.declared.command.Command.{Command}
+use Rattle.first_core.specs.declared.command.Command.TheVariants.{Install, Start, Stop}
+use Rattle.first_core.specs.declared.command.Step.{Step}
+use Rattle.first_core.specs.declared.command.Step.TheVariants.{Command as Stepped, Begin, End, Drained}
+use Rattle.first_core.specs.Bundles.{bundles_by, descriptions_of}
+use Rattle.first_core.specs.Calls.{world_at}
+use Rattle.first_core.specs.Cores.{CoreView}
+use Rattle.first_core.specs.Quiet.{are_plain, is_plain}
+use Rattle.first_core.specs.Replies.{changes}
+use Rattle.first_core.specs.Worlds.{World, after, world_of}
+use Rattle.first_core.proofs.Descriptions.{installed_descriptions, rested_descriptions, state_descriptions}
 use Rattle.platform_hall.specs.Platforms.{world}
 use Rattle.shell_lang.specs.declared.shell_line.LineFault.{LineFault}
 use Rattle.shell_lang.specs.declared.shell_line.ShellLine.{ShellLine}

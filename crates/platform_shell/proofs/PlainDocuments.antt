@@ -31,8 +31,8 @@ use Rattle.bundle_doc.specs.declared.fault.DocFault.TheVariants.{MissingEntry, N
 use Rattle.bundle_doc.specs.Documents.{bundle_of, described, document_of, each_of, entries_of, in_entry, json_of, needed_text_at, object_or_none, of_object as is_document, text_at, told_apart}
 use Rattle.bundle_doc.specs.Entries.{chosen}
 use Rattle.bundle_doc.specs.Headers.{headers_of}
-use Rattle.component_state.specs.Targets.{is_greedy, is_multiple, is_optional, is_static as stays_static}
-use Rattle.scr_core.specs.Quiet.{differ_in_name, is_plain, is_plain_reference}
+use Rattle.first_pass.specs.Targets.{is_greedy, is_multiple, is_optional, is_static as stays_static}
+use Rattle.first_core.specs.Quiet.{differ_in_name, is_plain, is_plain_reference}
 
 -- what came before, where what follows went well
 after_ok : {A B F : Type 0} (r : Result A F) (next : A → Result B F) (y : B) → after r next ≡ Ok y → (x : A) × (r ≡ Ok x) × (next x ≡ Ok y)

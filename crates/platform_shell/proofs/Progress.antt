@@ -6,9 +6,9 @@ use Rattle.std.specs.declared.option.Option.{Option}
 use Rattle.std.specs.Io.KnownBytes.{Appends}
 use Rattle.std.proofs.KnownBytes.{Appends-trans, Appends-nil}
 use Rattle.fault_count.specs.Steps.{next_count}
-use Rattle.scr_core.specs.declared.command.Command.{Command}
-use Rattle.scr_core.specs.Cores.{CoreView}
-use Rattle.scr_core.specs.Quiet.{are_plain}
+use Rattle.first_core.specs.declared.command.Command.{Command}
+use Rattle.first_core.specs.Cores.{CoreView}
+use Rattle.first_core.specs.Quiet.{are_plain}
 use Rattle.turn_runner.specs.declared.settle_fault.SettleFault.{SettleFault}
 use Rattle.turn_runner.specs.declared.settle_fault.SettleFault.TheVariants.{Unsettled as StillDue, JournalFull as NoRoom, OutOfMemory}
 use Rattle.platform_hall.specs.Platforms.{none_under_way, world}

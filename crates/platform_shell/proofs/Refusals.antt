@@ -1,10 +1,10 @@
 -- Refusals of commands.
 use Rattle.std.proofs.Common.{List, [], refl, subst, Ok, Err, inl, inr}
 use Rattle.std.specs.Prelude.{Result}
-use Rattle.scr_core.specs.declared.command.Command.{Command}
-use Rattle.scr_core.specs.declared.command.CoreFault.{CoreFault}
-use Rattle.scr_core.specs.declared.command.CoreFault.TheVariants.{OutOfMemory as NoMemory}
-use Rattle.scr_core.specs.Cores.{CoreView}
+use Rattle.first_core.specs.declared.command.Command.{Command}
+use Rattle.first_core.specs.declared.command.CoreFault.{CoreFault}
+use Rattle.first_core.specs.declared.command.CoreFault.TheVariants.{OutOfMemory as NoMemory}
+use Rattle.first_core.specs.Cores.{CoreView}
 use Rattle.turn_runner.specs.declared.settle_fault.SettleFault.{SettleFault}
 use Rattle.turn_runner.specs.declared.settle_fault.SettleFault.TheVariants.{Unsettled, JournalFull, OutOfMemory}
 use Rattle.platform_hall.specs.Platforms.{TakesCommand}

@@ -7,22 +7,22 @@ use Rattle.callback_orders.specs.Sequences.{is_outstanding}
 use Rattle.journal_core.specs.declared.entry.Entry.{Entry}
 use Rattle.kind_trait.specs.Meanings.{Told}
 use Rattle.prop_map.specs.declared.properties.Property.{Property}
-use Rattle.scr_core.specs.declared.command.Command.{Command}
-use Rattle.scr_core.specs.declared.command.CoreFault.{CoreFault}
-use Rattle.scr_core.specs.declared.command.CoreFault.TheVariants.{NoBundle, NoComponent, Stopping, Cycle, BundlesFull, ComponentsFull, JournalFull as InCore, OutOfMemory as NoMemory}
-use Rattle.scr_core.specs.declared.command.Reply.{Reply}
-use Rattle.scr_core.specs.declared.command.Step.{Step}
-use Rattle.scr_core.specs.declared.command.Step.TheVariants.{Command as Stepped, Drained as DrainStep}
-use Rattle.scr_core.specs.declared.instance.Instance.{Instance}
-use Rattle.scr_core.specs.Calls.{Grown, GrownIf, world_at}
-use Rattle.scr_core.specs.Cores.{CoreView}
-use Rattle.scr_core.specs.Dues.{due_in}
-use Rattle.scr_core.specs.Instances.{drained_in}
-use Rattle.scr_core.specs.Legal.{IsLegal}
-use Rattle.scr_core.specs.Quiet.{IsQuiet, IsRight, are_plain}
-use Rattle.scr_core.specs.Replies.{changes}
-use Rattle.scr_core.specs.Steps.{History, history_of}
-use Rattle.scr_core.specs.Worlds.{instances_by, world_of}
+use Rattle.first_core.specs.declared.command.Command.{Command}
+use Rattle.first_core.specs.declared.command.CoreFault.{CoreFault}
+use Rattle.first_core.specs.declared.command.CoreFault.TheVariants.{NoBundle, NoComponent, Stopping, Cycle, BundlesFull, ComponentsFull, JournalFull as InCore, OutOfMemory as NoMemory}
+use Rattle.first_core.specs.declared.command.Reply.{Reply}
+use Rattle.first_core.specs.declared.command.Step.{Step}
+use Rattle.first_core.specs.declared.command.Step.TheVariants.{Command as Stepped, Drained as DrainStep}
+use Rattle.first_core.specs.declared.instance.Instance.{Instance}
+use Rattle.first_core.specs.Calls.{Grown, GrownIf, world_at}
+use Rattle.first_core.specs.Cores.{CoreView}
+use Rattle.first_core.specs.Dues.{due_in}
+use Rattle.first_core.specs.Instances.{drained_in}
+use Rattle.first_core.specs.Legal.{IsLegal}
+use Rattle.first_core.specs.Quiet.{IsQuiet, IsRight, are_plain}
+use Rattle.first_core.specs.Replies.{changes}
+use Rattle.first_core.specs.Steps.{History, history_of}
+use Rattle.first_core.specs.Worlds.{instances_by, world_of}
 use Rattle.platform_hall.specs.Platforms.{Accepts, Drained, Settles, TakesCommand, none_under_way, world}
 use Rattle.shell_lang.specs.declared.shell_line.ShellLine.TheVariants.{Silent, Quit, Command as Commanded, Components, Held, Trace, Settle, Begin, Finish}
 use Rattle.shell_lang.specs.declared.shell_reply.ShellReply.{ShellReply}

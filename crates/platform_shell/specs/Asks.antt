@@ -4,18 +4,18 @@ use Rattle.callback_orders.specs.declared.callback.Outcome.{Outcome}
 use Rattle.callback_orders.specs.declared.callback.Outcome.TheVariants.{Done as IsDone, Refused as IsRefused, NoMemory}
 use Rattle.kind_trait.specs.Meanings.{Told}
 use Rattle.prop_map.specs.declared.properties.Property.{Property}
-use Rattle.scr_core.specs.declared.command.Command.{Command}
-use Rattle.scr_core.specs.declared.command.CoreFault.{CoreFault}
-use Rattle.scr_core.specs.declared.command.CoreFault.TheVariants.{JournalFull, OutOfMemory}
-use Rattle.scr_core.specs.declared.command.Reply.{Reply}
-use Rattle.scr_core.specs.declared.command.Reply.TheVariants.{Done as InCore, Bundle as OfBundle}
-use Rattle.scr_core.specs.declared.held_rows.HeldLine.{HeldLine}
-use Rattle.scr_core.specs.Cores.{CoreView}
-use Rattle.scr_core.specs.HeldRows.{TellsHeld}
-use Rattle.scr_core.specs.Readers.{component_lines}
-use Rattle.scr_core.specs.Replies.{changes}
-use Rattle.scr_core.specs.Steps.{history_of}
-use Rattle.scr_core.specs.TurnLines.{line_for, turns_above}
+use Rattle.first_core.specs.declared.command.Command.{Command}
+use Rattle.first_core.specs.declared.command.CoreFault.{CoreFault}
+use Rattle.first_core.specs.declared.command.CoreFault.TheVariants.{JournalFull, OutOfMemory}
+use Rattle.first_core.specs.declared.command.Reply.{Reply}
+use Rattle.first_core.specs.declared.command.Reply.TheVariants.{Done as InCore, Bundle as OfBundle}
+use Rattle.first_core.specs.declared.held_rows.HeldLine.{HeldLine}
+use Rattle.first_core.specs.Cores.{CoreView}
+use Rattle.first_core.specs.HeldRows.{TellsHeld}
+use Rattle.first_core.specs.Readers.{component_lines}
+use Rattle.first_core.specs.Replies.{changes}
+use Rattle.first_core.specs.Steps.{history_of}
+use Rattle.first_core.specs.TurnLines.{line_for, turns_above}
 use Rattle.turn_runner.specs.declared.turn_work.TurnWork.{TurnWork}
 use Rattle.platform_hall.specs.declared.finish_fault.FinishFault.{FinishFault}
 use Rattle.platform_hall.specs.declared.finish_fault.FinishFault.TheVariants.{NoTurn as NoSuchTurn, OutOfMemory as NoMemoryLeft}

@@ -2,13 +2,13 @@
 use Rattle.std.specs.Prelude.{◌≡◌, ℕ, List, Option, Result, Ok, Err, true, false, Bool}
 use Rattle.kind_trait.specs.Meanings.{Told}
 use Rattle.prop_map.specs.declared.properties.Property.{Property}
-use Rattle.scr_core.specs.declared.command.Command.{Command}
-use Rattle.scr_core.specs.declared.command.CoreFault.{CoreFault}
-use Rattle.scr_core.specs.declared.command.CoreFault.TheVariants.{JournalFull as InCore, OutOfMemory as NoMemory}
-use Rattle.scr_core.specs.Cores.{CoreView}
+use Rattle.first_core.specs.declared.command.Command.{Command}
+use Rattle.first_core.specs.declared.command.CoreFault.{CoreFault}
+use Rattle.first_core.specs.declared.command.CoreFault.TheVariants.{JournalFull as InCore, OutOfMemory as NoMemory}
+use Rattle.first_core.specs.Cores.{CoreView}
 use Rattle.turn_runner.specs.declared.settle_fault.SettleFault.{SettleFault}
 use Rattle.turn_runner.specs.declared.settle_fault.SettleFault.TheVariants.{Unsettled, JournalFull, OutOfMemory}
-use Rattle.scr_core.specs.Quiet.{IsQuiet, IsRight, are_plain}
+use Rattle.first_core.specs.Quiet.{IsQuiet, IsRight, are_plain}
 use Rattle.platform_hall.specs.Platforms.{none_under_way, world}
 use Rattle.shell_lang.specs.declared.shell_reply.Refusal.TheVariants.{Core as OfCore}
 use Rattle.shell_lang.specs.declared.shell_reply.ShellReply.{ShellReply}

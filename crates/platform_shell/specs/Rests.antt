@@ -1,7 +1,7 @@
 -- A platform at rest behind a line. Our own form.
 use Rattle.std.specs.Prelude.{◌≡◌, ℕ, Bool, true, false, Ok}
-use Rattle.scr_core.specs.Cores.{CoreView}
-use Rattle.scr_core.specs.Quiet.{IsQuiet, IsRight, are_plain}
+use Rattle.first_core.specs.Cores.{CoreView}
+use Rattle.first_core.specs.Quiet.{IsQuiet, IsRight, are_plain}
 use Rattle.platform_hall.specs.Platforms.{Settles, none_under_way, world}
 use Rattle.platform_shell.specs.Asks.{Setting}
 

@@ -1,12 +1,12 @@
 //! What a line asks, carried out.
 ghost use Rattle.std.specs.Prelude.{◌≡◌};
-ghost use Rattle.scr_core.specs.TurnLines.{line_for};
+ghost use Rattle.first_core.specs.TurnLines.{line_for};
 ghost use Rattle.platform_shell.specs.Carries.{CarriesBegin, CarriesCommand, CarriesFinish, CarriesHeld, CarriesOut, TellsRefusal};
 
 use callback_orders::Outcome;
+use first_core::{Command, CoreFault, Reply, TurnLine};
 use kind_trait::Kinds;
 use platform_hall::{FinishFault, Platform};
-use scr_core::{Command, CoreFault, Reply, TurnLine};
 use shell_lang::{LineFault, Refusal, ShellLine, ShellReply};
 use std::alloc::Global;
 use turn_runner::{SettleFault, TurnWork};

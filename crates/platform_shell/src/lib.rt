@@ -10,8 +10,6 @@ mod line_run;
 mod reply_output;
 mod script_run;
 mod status;
-#[cfg(test)]
-mod tests;
 
 pub use platform_hall::Platform;
 pub use script_run::run_script;

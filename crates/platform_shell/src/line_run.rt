@@ -2,9 +2,9 @@
 ghost use Rattle.platform_shell.specs.Carries.{RestsOr, RunsAsked};
 
 use crate::asked::carry_out;
+use first_core::note_no_stuck_state;
 use kind_trait::Kinds;
 use platform_hall::{Platform, note_turns_end};
-use scr_core::note_no_stuck_state;
 use shell_lang::{LineFault, ShellLine, ShellReply};
 use std::alloc::Global;
 use turn_runner::SettleFault;

@@ -2,8 +2,8 @@
 ghost use Rattle.std.specs.Prelude.{◌≡◌, ◌≢◌, Ok, IsOk, MatchResult, map};
 ghost use Rattle.std.specs.Io.KnownBytes.{Keeps};
 ghost use Rattle.fault_count.specs.Steps.{Rose};
-ghost use Rattle.scr_core.specs.Legal.{IsLegal};
-ghost use Rattle.scr_core.specs.Steps.{history_of};
+ghost use Rattle.first_core.specs.Legal.{IsLegal};
+ghost use Rattle.first_core.specs.Steps.{history_of};
 ghost use Rattle.platform_shell.specs.Runs.{EndsScript, HasRunOver};
 ghost use Rattle.platform_shell.specs.Statuses.{HasCause, form_of};
 

@@ -1,4 +1,7 @@
+pub mod ByKeyLemmas
 pub mod Each
+pub mod InPlace
 pub mod Laws
-pub mod Members
+pub mod MemberSteps
 pub mod PlaceLemmas
+pub mod SpellingLemmas

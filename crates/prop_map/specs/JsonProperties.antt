@@ -1,5 +1,5 @@
 -- Properties read from JSON: texts, whole numbers, flags, and lists of one of these. The rules are this project's own.
-use Rattle.std.specs.Prelude.{ℕ, ℤ, List, [], ◌∷◌, Bool, not, ◌&&◌, Option, Some, None, option_map, option_and_then, if◌then◌else◌, Result, Ok, Err}
+use Rattle.std.specs.Prelude.{ℕ, ℤ, List, [], ◌∷◌, Bool, true, false, not, ◌&&◌, Option, Some, None, option_map, option_and_then, if◌then◌else◌, Result, Ok, Err}
 use Rattle.std.specs.List.{list_any}
 use Rattle.std.specs.Str.{bytes_eq}
 use Rattle.serde_json.specs.Data.{Data, null, boolean, number, string, array, object, Items, no_items, item, Members, no_members, member}
@@ -85,6 +85,19 @@ abbrev pub keys_of : Members → List (List ℕ)
 keys_of no_members = []
 keys_of (member key d ms) = key ∷ keys_of ms
 
+abbrev pub is_null : Data → Bool
+is_null null = true
+is_null (boolean b) = false
+is_null (number n) = false
+is_null (string s) = false
+is_null (array ds) = false
+is_null (object ms) = false
+
+-- the keys that an object gives; a null is as if its key weren't there
+abbrev pub given_keys : Members → List (List ℕ)
+given_keys no_members = []
+given_keys (member key d ms) = if is_null d then given_keys ms else key ∷ given_keys ms
+
 -- another spelling of a key
 abbrev pub is_another : List ℕ → List ℕ → Bool
 is_another other key = same_key other key && not (bytes_eq other key)
@@ -93,23 +106,24 @@ is_another other key = same_key other key && not (bytes_eq other key)
 abbrev pub is_repeated : List (List ℕ) → List ℕ → Bool
 is_repeated keys key = list_any (λ other. is_another other key) keys
 
+-- a value, if there is one, at a key that an object gives among others
+abbrev pub alone : List (List ℕ) → List ℕ → Option Value → Result (Option Value) PropFault
+alone keys key None = Ok None
+alone keys key (Some value) = if is_repeated keys key then Err (SameKey key) else Ok (Some value)
+
+-- the value that a member gives; what is wrong with the value comes before what is wrong with the key
+abbrev pub given_value : List (List ℕ) → List ℕ → Data → Result (Option Value) PropFault
+given_value keys key d = after (alone keys key) (value_of key d)
+
 -- a map with a value put, if there is one
 abbrev pub put_given : List Property → List ℕ → Option Value → List Property
 put_given before key None = before
 put_given before key (Some value) = put before key value
 
--- a map with a value put, in an object that has these keys
-abbrev pub with_value : List (List ℕ) → List Property → List ℕ → Option Value → Result (List Property) PropFault
-with_value keys before key value = if is_repeated keys key then Err (SameKey key) else Ok (put_given before key value)
-
--- a map with a member of an object that has these keys: what is wrong with its value comes before its key
-abbrev pub with_member : List (List ℕ) → List Property → List ℕ → Data → Result (List Property) PropFault
-with_member keys before key d = after (with_value keys before key) (value_of key d)
-
--- the members in byte order of their keys, up to the first that is at fault
+-- the members in byte order of their keys, up to the first that is at fault, in an object that gives these keys
 abbrev pub with_members : List (List ℕ) → List Property → Members → Result (List Property) PropFault
 with_members keys before no_members = Ok before
-with_members keys before (member key d ms) = after (λ now. with_members keys now ms) (with_member keys before key d)
+with_members keys before (member key d ms) = after (λ value. with_members keys (put_given before key value) ms) (given_value keys key d)
 
 -- the properties that an object gives, or its first fault
 abbrev pub properties_of : Data → Result (List Property) PropFault
@@ -118,4 +132,4 @@ properties_of (boolean b) = Err NotObject
 properties_of (number n) = Err NotObject
 properties_of (string s) = Err NotObject
 properties_of (array ds) = Err NotObject
-properties_of (object ms) = with_members (keys_of ms) [] ms
+properties_of (object ms) = with_members (given_keys ms) [] ms

@@ -1,6 +1,12 @@
+pub mod ByKey
 pub mod JsonProperties
 pub mod Keys
+pub mod Lends
 pub mod Maps
 pub mod Places
 pub mod Readings
 pub mod Sameness
+pub mod Spellings
+pub mod Tables
+pub mod Texts
+pub mod Words

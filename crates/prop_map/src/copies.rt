@@ -1,23 +1,17 @@
-//! Equal values in memory of their own.
+//! Equal values beside those that stand.
 ghost use Rattle.std.specs.Prelude.{◌≡◌, ◌++◌, ◌∷◌, [], IfOk, map, take};
 
-use crate::{List, OutOfMemory, Str};
+use crate::{List, OutOfMemory};
 use std::alloc::Global;
 
 /// A value of which an equal one can be made.
 pub trait Copies: Sized + Drop {
-    /// An equal value in memory of its own.
+    /// An equal value. What is shared in it stays shared and takes no memory; the rest has memory of its own.
     ///
     /// # Errors
     /// Only want of memory.
     fn copy(&self, alloc: Global) -> Result<Self, OutOfMemory>
         ensures { IfOk result (λ other. other ≡ self.now) };
-}
-
-impl Copies for Str {
-    fn copy(&self, alloc: Global) -> Result<Str, OutOfMemory> {
-        Ok(Str::of(String::from_str(alloc, self.as_str())?))
-    }
 }
 
 impl<T: Copies> Copies for List<T> {

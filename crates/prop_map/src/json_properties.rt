@@ -1,16 +1,21 @@
 //! Properties read from JSON.
-ghost use Rattle.prop_map.specs.JsonProperties.{whole, each, sound_item, sound_items, sound_list, list_value, value_of, keys_of, is_another, is_repeated, put_given, with_value, with_member, with_members, properties_of};
+ghost use Rattle.prop_map.specs.ByKey.{IsByKey};
+ghost use Rattle.prop_map.specs.JsonProperties.{whole, each, sound_item, sound_items, sound_list, list_value, value_of, alone, given_value, put_given, with_members, properties_of};
+ghost use Rattle.prop_map.specs.Keys.{folded};
+ghost use Rattle.prop_map.specs.Maps.{IsInOrder, put};
 ghost use Rattle.prop_map.specs.Readings.{Reads};
+ghost use Rattle.prop_map.specs.Spellings.{AreOf};
 ghost use Rattle.serde_json.specs.Find.{as_str, as_bool};
 ghost use Rattle.serde_json.specs.View.{view, items_view, members_view};
-ghost use Rattle.std.specs.BTreeMap.{keys};
-ghost use Rattle.std.specs.List.{list_any};
-ghost use Rattle.std.specs.Prelude.{◌≡◌, [], IfOk, map, string_bytes};
+ghost use Rattle.std.specs.BTreeMap.{values};
+ghost use Rattle.std.specs.Prelude.{◌≡◌, ℕ, List, [], IfOk, OnOk, map, string_bytes};
 
-use crate::key::is_same_key;
+use crate::properties::Property;
+use crate::spellings::{Spelling, folded, has_another, spellings_of};
 use crate::{List, OutOfMemory, PropFault, Properties, Str, Value};
 use serde_json::{Map, Value as Json};
-use std::alloc::Global;
+use std::alloc::{AllocError, Global};
+use std::collections::BTreeMap;
 
 fn texts(alloc: Global, items: &[Json]) -> Result<Option<List<Str>>, OutOfMemory>
     ensures { IfOk result (λ found. found ≡ each as_str (items_view items.now)) }
@@ -127,25 +132,6 @@ fn value_of(alloc: Global, key: &str, json: &Json) -> Result<Option<Value>, Prop
     }
 }
 
-fn has_another(members: &Map<String, Json>, key: &str) -> bool
-    ensures { result ≡ list_any (λ other. is_another (string_bytes other) key.now) (keys members.now) }
-{
-    members.keys().any(|other| is_another(other.as_str(), key))
-}
-
-#[tactic(auto, using(crate::proofs::Members::any_key))]
-fn is_repeated(members: &Map<String, Json>, key: &str) -> bool
-    ensures { result ≡ is_repeated (keys_of (members_view members.now.entries)) key.now }
-{
-    has_another(members, key)
-}
-
-fn is_another(other: &str, key: &str) -> bool
-    ensures { result ≡ is_another other.now key.now }
-{
-    is_same_key(other, key) && other != key
-}
-
 fn entries_of<'v>(
     alloc: Global,
     members: &'v Map<String, Json>,
@@ -155,66 +141,107 @@ fn entries_of<'v>(
     members.iter().collect(alloc)
 }
 
-fn with_given(
+// The value that a member gives, where no other spelling of its key gives one.
+fn alone(
     alloc: Global,
-    mut before: Properties,
+    spellings: &BTreeMap<String, Spelling<'_>>,
     key: &str,
     value: Option<Value>,
-) -> Result<Properties, OutOfMemory>
-    ensures { IfOk result (λ now. now ≡ put_given before key.now value) }
+) -> Result<Option<Value>, PropFault>
+    ensures { (keys : List (List ℕ)) → AreOf keys spellings.now → Reads result (alone keys key.now value) }
 {
-    match value {
-        Some(value) => {
-            before.set(alloc, key, value)?;
-            Ok(before)
-        }
-        None => Ok(before),
-    }
-}
-
-fn with_value(
-    alloc: Global,
-    members: &Map<String, Json>,
-    before: Properties,
-    key: &str,
-    value: Option<Value>,
-) -> Result<Properties, PropFault>
-    ensures { Reads result (with_value (keys_of (members_view members.now.entries)) before key.now value) }
-{
-    if is_repeated(members, key) {
-        Err(PropFault::SameKey {
+    if value.is_some() && has_another(alloc, spellings, key)? {
+        return Err(PropFault::SameKey {
             key: spelled(alloc, key)?,
-        })
-    } else {
-        Ok(with_given(alloc, before, key, value)?)
+        });
     }
+    Ok(value)
 }
 
-fn with_member(
+fn given_value(
     alloc: Global,
-    members: &Map<String, Json>,
-    before: Properties,
+    spellings: &BTreeMap<String, Spelling<'_>>,
     key: &str,
     json: &Json,
-) -> Result<Properties, PropFault>
-    ensures { Reads result (with_member (keys_of (members_view members.now.entries)) before key.now (view json.now)) }
+) -> Result<Option<Value>, PropFault>
+    ensures { (keys : List (List ℕ)) → AreOf keys spellings.now → Reads result (given_value keys key.now (view json.now)) }
 {
     let value = value_of(alloc, key, json)?;
-    with_value(alloc, members, before, key, value)
+    alone(alloc, spellings, key, value)
+}
+
+fn put_property(
+    found: &mut BTreeMap<String, Property>,
+    fold: String,
+    property: Property,
+) -> Result<(), OutOfMemory>
+    requires by_key { IsByKey found.old.entries }
+    requires fold { string_bytes fold ≡ folded property.key }
+    ensures value { OnOk result (values found.new ≡ put (values found.old) property.key property.value) }
+    ensures by_key { OnOk result (IsByKey found.new.entries) }
+{
+    match found.insert(fold, property) {
+        Ok(_) => Ok(()),
+        Err(_) => Err(AllocError),
+    }
+}
+
+fn put_value(
+    alloc: Global,
+    found: &mut BTreeMap<String, Property>,
+    key: &str,
+    value: Value,
+) -> Result<(), OutOfMemory>
+    requires { IsByKey found.old.entries }
+    ensures value { OnOk result (values found.new ≡ put (values found.old) key.now value) }
+    ensures by_key { OnOk result (IsByKey found.new.entries) }
+{
+    let fold = folded(alloc, key)?;
+    let key = spelled(alloc, key)?;
+    put_property(found, fold, Property { key, value })
+}
+
+// Puts a value, if one is given, under its key among those so far.
+fn put_given(
+    alloc: Global,
+    found: &mut BTreeMap<String, Property>,
+    key: &str,
+    value: Option<Value>,
+) -> Result<(), OutOfMemory>
+    requires { IsByKey found.old.entries }
+    ensures value { OnOk result (values found.new ≡ put_given (values found.old) key.now value) }
+    ensures by_key { OnOk result (IsByKey found.new.entries) }
+{
+    match value {
+        Some(value) => put_value(alloc, found, key, value),
+        None => Ok(()),
+    }
 }
 
 fn with_members(
     alloc: Global,
-    members: &Map<String, Json>,
+    spellings: &BTreeMap<String, Spelling<'_>>,
     entries: &[(&String, &Json)],
 ) -> Result<Properties, PropFault>
-    ensures { Reads result (with_members (keys_of (members_view members.now.entries)) [] (members_view (map (λ e. (e.0.now, e.1.now)) entries.now))) }
+    ensures { (keys : List (List ℕ)) → AreOf keys spellings.now →
+        Reads result (with_members keys [] (members_view (map (λ e. (e.0.now, e.1.now)) entries.now))) }
 {
-    let mut properties = Properties::new(alloc);
+    let mut found = BTreeMap::new(alloc);
     for (key, json) in entries {
-        properties = with_member(alloc, members, properties, key.as_str(), json)?;
+        match given_value(alloc, spellings, key.as_str(), json) {
+            Ok(value) => put_given(alloc, &mut found, key.as_str(), value)?,
+            Err(fault) => return Err(fault),
+        }
     }
-    Ok(properties)
+    Ok(in_order(alloc, found)?)
+}
+
+fn in_order(alloc: Global, found: BTreeMap<String, Property>) -> Result<Properties, OutOfMemory>
+    requires { IsInOrder (values found) }
+    ensures { IfOk result (λ map. map ≡ values found) }
+{
+    let list = found.into_values().collect(alloc)?;
+    Ok(Properties::in_order(list))
 }
 
 impl Properties {
@@ -224,15 +251,16 @@ impl Properties {
     /// # Errors
     /// NotObject exactly where the value is no object. Else the first key in byte order that is at fault tells how:
     /// FloatValue for any other number, NestedValue for an object and for a list with a list, an object or a null in
-    /// it, MixedList for a list of sound items of two kinds, and then SameKey where another key of the object differs
-    /// in ASCII case alone. OutOfMemory may come at any place.
+    /// it, MixedList for a list of sound items of two kinds, and then SameKey where another key of the object, with a
+    /// value that is no null, differs in ASCII case alone. OutOfMemory may come at any place.
     pub fn from_json(alloc: Global, json: &Json) -> Result<Properties, PropFault>
         ensures { Reads result (properties_of (view json.now)) }
     {
         match json.as_object() {
             Some(members) => {
                 let entries = entries_of(alloc, members)?;
-                with_members(alloc, members, entries.as_slice())
+                let spellings = spellings_of(alloc, entries.as_slice())?;
+                with_members(alloc, &spellings, entries.as_slice())
             }
             None => Err(PropFault::NotObject),
         }

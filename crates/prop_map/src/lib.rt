@@ -10,8 +10,9 @@ mod memory;
 mod prop_fault;
 mod properties;
 mod reference_words;
-#[cfg(test)]
-mod tests;
+mod shared;
+mod spellings;
+mod tables;
 mod text;
 mod value;
 
@@ -21,5 +22,7 @@ pub use memory::OutOfMemory;
 pub use prop_fault::PropFault;
 pub use properties::{Properties, Property};
 pub use reference_words::{Cardinality, Policy, PolicyOption};
+pub use shared::Shared;
+pub use tables::note_changed_in_place;
 pub use text::Str;
 pub use value::Value;

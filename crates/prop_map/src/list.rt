@@ -1,4 +1,5 @@
 //! A list that contracts see as its items.
+ghost use Rattle.std.specs.Borrow.{sem};
 ghost use Rattle.std.specs.Cmp.Lexicographic.{lists_equiv, lists_per, pointwise};
 ghost use Rattle.std.specs.Prelude.{◌≡◌, ◌++◌, ◌∷◌, [], OnOk, OnErr, IfErr};
 
@@ -22,6 +23,8 @@ impl<T> Model for List<T> {
 }
 
 impl<T> List<T> {
+    ghost use Rattle.prop_map.specs.Lends.{lends_items};
+
     /// The items as they are. It takes no memory.
     pub fn of(items: Vec<T>) -> List<T>
         ensures { result ≡ items.items }
@@ -34,6 +37,14 @@ impl<T> List<T> {
         ensures { result.now ≡ self.now }
     {
         self.vec.as_slice()
+    }
+
+    /// The items, to be changed in place.
+    pub fn as_mut_slice(&mut self) -> &mut [T]
+        ensures* writes_back { sem 𝓛 (lends_items T.row self.entry result) }
+        ensures value { result.now ≡ self.old }
+    {
+        self.vec.as_mut_slice()
     }
 
     /// The items, taken out. It takes no memory.

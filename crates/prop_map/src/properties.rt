@@ -53,6 +53,14 @@ impl Properties {
         }
     }
 
+    /// A map of properties that stand in the order of their keys without ASCII case.
+    pub(crate) fn in_order(list: Vec<Property>) -> Properties
+        requires { IsInOrder list.items }
+        ensures { result ≡ list.items }
+    {
+        Properties { list }
+    }
+
     /// The properties, in the order of their keys without ASCII case.
     pub fn as_slice(&self) -> &[Property]
         ensures all { result.now ≡ self.now }

@@ -1,24 +1,44 @@
 //! A text that contracts see as its bytes.
 ghost use Rattle.std.specs.Cmp.{partial_equiv_from_equiv};
 ghost use Rattle.std.specs.Cmp.Lexicographic.{nat_list_eq_equiv};
-ghost use Rattle.std.specs.Prelude.{◌≡◌, string_bytes};
+ghost use Rattle.std.specs.Prelude.{◌≡◌, IfOk, string_bytes};
 ghost use Rattle.std.specs.Str.{bytes_eq};
 
+use crate::{Copies, OutOfMemory};
+use std::alloc::{AllocError, Global};
 use std::fmt;
 use std::marker::Model;
+use std::sync::Arc;
+
+// Where the bytes of a text are kept.
+#[derive(Drop)]
+enum Kept {
+    // In memory of the text's own.
+    Own(String),
+    // In memory that several texts share.
+    Together(Arc<String>),
+}
 
 /// A text, in UTF-8. Contracts see its bytes.
-#[derive(Drop)]
 pub struct Str {
-    text: String,
+    text: Kept,
 }
 
 impl Model for Str {
-    ghost use Rattle.std.specs.Prelude.{List, ℕ, string_bytes};
+    ghost use Rattle.prop_map.specs.Texts.{bytes_of};
+    ghost use Rattle.std.specs.Prelude.{List, ℕ};
 
     ghost Value = { List ℕ };
 
-    ghost view = { λ s. string_bytes s.text };
+    ghost view = { λ s. bytes_of s.text };
+}
+
+// One call, so that whoever drops a text doesn't ask how its bytes are kept.
+impl Drop for Str {
+    fn drop(self) {
+        let Str { text } = self;
+        drop(text);
+    }
 }
 
 impl Str {
@@ -26,14 +46,57 @@ impl Str {
     pub fn of(text: String) -> Str
         ensures { result ≡ string_bytes text }
     {
-        Str { text }
+        Str {
+            text: Kept::Own(text),
+        }
+    }
+
+    /// The text, to be shared: its copies take no memory.
+    ///
+    /// # Errors
+    /// Only want of memory. The text is dropped then.
+    pub fn shared(self, alloc: Global) -> Result<Str, OutOfMemory>
+        ensures { IfOk result (λ text. text ≡ self) }
+    {
+        let Str { text } = self;
+        match text {
+            Kept::Own(text) => shared_of(alloc, text),
+            Kept::Together(text) => Ok(Str {
+                text: Kept::Together(text),
+            }),
+        }
     }
 
     /// The text.
     pub fn as_str(&self) -> &str
         ensures { result.now ≡ self.now }
     {
-        self.text.as_str()
+        match &self.text {
+            Kept::Own(text) => text.as_str(),
+            Kept::Together(text) => text.as_str(),
+        }
+    }
+}
+
+fn shared_of(alloc: Global, text: String) -> Result<Str, OutOfMemory>
+    ensures { IfOk result (λ shared. shared ≡ string_bytes text) }
+{
+    match Arc::new(alloc, text) {
+        Ok(text) => Ok(Str {
+            text: Kept::Together(text),
+        }),
+        Err(_) => Err(AllocError),
+    }
+}
+
+impl Copies for Str {
+    fn copy(&self, alloc: Global) -> Result<Str, OutOfMemory> {
+        match &self.text {
+            Kept::Own(text) => Ok(Str::of(String::from_str(alloc, text.as_str())?)),
+            Kept::Together(text) => Ok(Str {
+                text: Kept::Together(Arc::try_clone(text)?),
+            }),
+        }
     }
 }
 
@@ -43,7 +106,7 @@ impl PartialEq for Str {
     ghost laws = { partial_equiv_from_equiv nat_list_eq_equiv };
 
     fn eq(&self, other: &Str) -> bool {
-        self.text.as_str() == other.text.as_str()
+        self.as_str() == other.as_str()
     }
 }
 

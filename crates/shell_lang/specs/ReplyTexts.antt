@@ -5,11 +5,11 @@ use Rattle.callback_orders.specs.declared.callback.Callback.{Callback}
 use Rattle.callback_orders.specs.declared.callback.Callback.TheVariants.{Create, Bind, Updated, Unbind, Activate, Modified, Deactivate, Destroy}
 use Rattle.callback_orders.specs.declared.callback.Outcome.{Outcome}
 use Rattle.callback_orders.specs.declared.callback.Outcome.TheVariants.{Done as IsDone, Refused as IsRefused, NoMemory}
-use Rattle.scr_core.specs.declared.component_rows.ComponentLine.{ComponentLine}
-use Rattle.scr_core.specs.declared.held_rows.HeldLine.{HeldLine}
-use Rattle.scr_core.specs.declared.turn_lines.TurnLine.{TurnLine}
-use Rattle.scr_core.specs.declared.command.CoreFault.{CoreFault}
-use Rattle.scr_core.specs.declared.command.CoreFault.TheVariants.{NoBundle, NoComponent, Stopping, Cycle, BundlesFull, ComponentsFull, JournalFull, OutOfMemory}
+use Rattle.first_core.specs.declared.component_rows.ComponentLine.{ComponentLine}
+use Rattle.first_core.specs.declared.held_rows.HeldLine.{HeldLine}
+use Rattle.first_core.specs.declared.turn_lines.TurnLine.{TurnLine}
+use Rattle.first_core.specs.declared.command.CoreFault.{CoreFault}
+use Rattle.first_core.specs.declared.command.CoreFault.TheVariants.{NoBundle, NoComponent, Stopping, Cycle, BundlesFull, ComponentsFull, JournalFull, OutOfMemory}
 use Rattle.shell_lang.specs.FaultTexts.{document_fault_text, spaced}
 use Rattle.shell_lang.specs.declared.shell_line.LineFault.{LineFault}
 use Rattle.shell_lang.specs.declared.shell_line.LineFault.TheVariants.{NotBuilt, Document, OutOfMemory as NoMemoryLeft}

@@ -7,7 +7,7 @@ use Rattle.bundle_doc.specs.declared.document.BundleDoc.{BundleDoc}
 use Rattle.bundle_doc.specs.declared.fault.DocFault.{DocFault}
 use Rattle.bundle_doc.specs.Built.{is_built}
 use Rattle.bundle_doc.specs.Documents.{bundle_of}
-use Rattle.scr_core.specs.declared.command.Command.TheVariants.{Install, Start, Stop}
+use Rattle.first_core.specs.declared.command.Command.TheVariants.{Install, Start, Stop}
 use Rattle.shell_lang.specs.declared.shell_line.LineFault.{LineFault}
 use Rattle.shell_lang.specs.declared.shell_line.LineFault.TheVariants.{NotBuilt, Document, OutOfMemory}
 use Rattle.shell_lang.specs.declared.shell_line.ShellLine.{ShellLine}

@@ -7,8 +7,6 @@ mod reply_text;
 mod row_text;
 mod shell_line;
 mod shell_reply;
-#[cfg(test)]
-mod tests;
 
 pub use reply_text::write_reply;
 pub use shell_line::{LineFault, ShellLine, read_line};

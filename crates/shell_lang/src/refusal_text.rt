@@ -4,8 +4,8 @@ ghost use Rattle.shell_lang.specs.ReplyTexts.{core_fault_text, line_fault_text, 
 
 use crate::fault_text::document_fault_text;
 use crate::{LineFault, Refusal};
+use first_core::CoreFault;
 use prop_map::{OutOfMemory, Str};
-use scr_core::CoreFault;
 use std::alloc::Global;
 
 // The text of a refusal: its name and its fields.

@@ -6,8 +6,8 @@ use crate::ShellReply;
 use crate::refusal_text::refusal_text;
 use crate::row_text::{rows_text, turn_text};
 use callback_orders::Outcome;
+use first_core::TurnLine;
 use prop_map::OutOfMemory;
-use scr_core::TurnLine;
 use std::alloc::Global;
 
 /// The text of a reply: one or more lines, each with its end.

@@ -3,8 +3,8 @@ ghost use Rattle.std.specs.Prelude.{◌≡◌, IfOk, codes, string_bytes};
 ghost use Rattle.shell_lang.specs.ReplyTexts.{bound_text, callback_word, component_text, held_text, outcome_text, rows_text, service_text, trace_text, turn_text};
 
 use callback_orders::{Callback, Outcome};
+use first_core::{ComponentLine, HeldLine, TurnLine};
 use prop_map::OutOfMemory;
-use scr_core::{ComponentLine, HeldLine, TurnLine};
 use std::alloc::Global;
 
 // What is told on a line of its own.

@@ -7,7 +7,7 @@ ghost use Rattle.shell_lang.specs.ShellLines.{Reads, ReadsLine, bare_line, insta
 
 use bundle_doc::{DocFault, is_built, read_bundle};
 use fault_count::decimal;
-use scr_core::Command;
+use first_core::Command;
 use std::alloc::{AllocError, AllocFailed, Global};
 use std::str;
 use thiserror::Error;

@@ -2,8 +2,8 @@
 
 use crate::LineFault;
 use callback_orders::Outcome;
+use first_core::{ComponentLine, CoreFault, HeldLine, TurnLine};
 use prop_map::List;
-use scr_core::{ComponentLine, CoreFault, HeldLine, TurnLine};
 
 /// Why a line isn't carried out.
 #[derive(Debug, PartialEq, Eq, Drop)]

@@ -1,4 +1,3 @@
 pub mod Faults
 pub mod Outcomes
 pub mod Turns
-pub mod Desktops

@@ -3,17 +3,13 @@
 
 mod desk;
 mod desk_fault;
-mod memory_desk;
 mod settle_fault;
 mod settling;
-#[cfg(test)]
-mod tests;
 mod turn;
 mod turn_work;
 
 pub use desk::Desk;
 pub use desk_fault::DeskFault;
-pub use memory_desk::{Ended, Held, MemoryDesk};
 pub use settle_fault::SettleFault;
 pub use settling::settle;
 pub use turn::{Ran, run_shared, run_turn};

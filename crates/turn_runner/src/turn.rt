@@ -1,8 +1,9 @@
 //! How one turn runs.
 ghost use Rattle.callback_orders.specs.declared.callback.Outcome.TheVariants.{Done};
 ghost use Rattle.kind_trait.specs.Meanings.{RefusedWhere, Create};
-ghost use Rattle.std.specs.Prelude.{◌≡◌, IsTrue, is_some, IsOk, true, false};
-ghost use Rattle.turn_runner.specs.Outcomes.{is_create, is_destroy, is_done, needs_object, asks_nobody, is_refused, told_by, IsOutcome, makes_object};
+ghost use Rattle.std.specs.Arc.{arc_value};
+ghost use Rattle.std.specs.Prelude.{◌≡◌, IsTrue, is_some, IsOk, MatchOption, true, false};
+ghost use Rattle.turn_runner.specs.Outcomes.{IsAnswerOf, is_create, is_destroy, is_done, needs_object, asks_nobody, is_refused, told_by, IsOutcome, makes_object};
 
 use crate::TurnWork;
 use callback_orders::{Callback, Outcome};
@@ -29,6 +30,7 @@ fn tell<K: Kinds>(
 ) -> Result<(), KindFault>
     requires { is_create callback.now ≡ false }
     ensures refused { RefusedWhere (K.refuses site.now.class site.now.properties (told_by callback.now)) result }
+    ensures heard { is_destroy callback.now ≡ false → K.hears object.now site.now (told_by callback.now) result }
     ensures destroy { IsTrue (is_destroy callback.now) → IsOk result }
 {
     match callback {
@@ -52,6 +54,7 @@ fn tell<K: Kinds>(
 fn told<K: Kinds>(alloc: Global, kinds: &K, object: &K::Object, work: &TurnWork) -> Outcome
     requires { is_create work.now.callback ≡ false }
     ensures refused { IsOutcome (K.refuses work.now.site.class work.now.site.properties (told_by work.now.callback)) result }
+    ensures heard { IsAnswerOf K.hears object.now work.now result }
     ensures destroy { IsTrue (is_destroy work.now.callback) → result ≡ Done }
 {
     match tell(alloc, kinds, object, &work.callback, &work.site) {
@@ -96,6 +99,7 @@ fn run_told<K: Kinds>(
 ) -> Ran<K::Object>
     requires { needs_object work.now ≡ true }
     ensures refused { IsOutcome (is_refused K.refuses work.now) result.outcome }
+    ensures heard { IsAnswerOf K.hears object.now work.now result.outcome }
     ensures nobody { IsTrue (asks_nobody work.now) → result.outcome ≡ Done }
     ensures made { is_some result.made ≡ makes_object work.now result.outcome }
 {
@@ -121,7 +125,7 @@ fn run_alone<K: Kinds>(alloc: Global, kinds: &K, work: &TurnWork) -> Ran<K::Obje
 ///
 /// The outcome is Refused exactly where the component code's meaning refuses the callback, which is never at a Destroy, and
 /// NoMemory only where the component code, or at a Create what shares its object, found no memory. An object is made exactly at
-/// a Create that is Done.
+/// a Create that is Done. Where an object is given, the outcome is what that object answered when it was told of the callback.
 pub fn run_turn<K: Kinds>(
     alloc: Global,
     kinds: &K,
@@ -130,6 +134,7 @@ pub fn run_turn<K: Kinds>(
 ) -> Ran<K::Object>
     requires { is_some object ≡ needs_object work.now }
     ensures refused { IsOutcome (is_refused K.refuses work.now) result.outcome }
+    ensures heard { MatchOption object.entry (Unit {0}) (λ o. IsAnswerOf K.hears o.now work.now result.outcome) }
     ensures nobody { IsTrue (asks_nobody work.now) → result.outcome ≡ Done }
     ensures made { is_some result.made ≡ makes_object work.now result.outcome }
 {
@@ -148,6 +153,7 @@ pub fn run_shared<K: Kinds>(
 ) -> Ran<K::Object>
     requires { is_some object ≡ needs_object work.now }
     ensures refused { IsOutcome (is_refused K.refuses work.now) result.outcome }
+    ensures heard { MatchOption object (Unit {0}) (λ o. IsAnswerOf K.hears (arc_value o) work.now result.outcome) }
     ensures nobody { IsTrue (asks_nobody work.now) → result.outcome ≡ Done }
     ensures made { is_some result.made ≡ makes_object work.now result.outcome }
 {

@@ -1,5 +1,5 @@
 use Rattle.std.specs.Prelude.{◌≡◌, drop}
-use Rattle.turn_runner.specs.Desktops.{is_holder}
+use Rattle.platform_hall.specs.Desks.{is_holder}
 use Rattle.platform_hall.proofs.tokens.held_object.Given as goal
 
 -- whether the instance has an object is decided by the rest of them

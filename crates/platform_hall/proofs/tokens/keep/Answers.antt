@@ -1,6 +1,6 @@
 use Rattle.std.proofs.Common.{ap, ◌∙◌, ◌&&◌}
 use Rattle.std.specs.Prelude.{◌==◌, not}
-use Rattle.turn_runner.specs.Desktops.{is_holder}
+use Rattle.platform_hall.specs.Desks.{is_holder}
 use Rattle.platform_hall.proofs.Holders.{holder_less, let_go_where}
 use Rattle.platform_hall.proofs.tokens.keep.Goals as goal
 

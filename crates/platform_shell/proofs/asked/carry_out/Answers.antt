@@ -1,7 +1,7 @@
 use Rattle.std.proofs.Common.{◌∙◌, ap, refl, subst, sym, Some, Ok}
-use Rattle.scr_core.specs.Calls.{world_at}
-use Rattle.scr_core.specs.Cores.{CoreView}
-use Rattle.scr_core.specs.Readers.{component_lines}
+use Rattle.first_core.specs.Calls.{world_at}
+use Rattle.first_core.specs.Cores.{CoreView}
+use Rattle.first_core.specs.Readers.{component_lines}
 use Rattle.shell_lang.specs.declared.shell_reply.ShellReply.TheVariants.{Components}
 use Rattle.shell_lang.specs.ShellLines.{Asked}
 use Rattle.platform_shell.specs.Asks.{Asks, Setting}

@@ -4,4 +4,4 @@ use Rattle.bundle_headers.proofs.manifest.Manifest.parse.Given as goal
 
 -- the headers so far, and then those of the lines that are left
 abbrev pub invariant-loop-lines : goal.invariant-loop-lines
-invariant-loop-lines l = headers_after l.bytes l.headers.items (drop l.lines-index l.lines-items) ≡ manifest_of l.bytes
+invariant-loop-lines l = headers_after l.bytes l.headers (drop l.lines-index l.lines-items) ≡ manifest_of l.bytes

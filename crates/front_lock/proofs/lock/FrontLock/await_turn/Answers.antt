@@ -40,6 +40,11 @@ returns-then-serving-ticket-clause-later g c =
     let i = c.loop.invariant in let q = c.requires in let e = c.exchange.ensures in
     (taken g.T.Grows.entries g.T.Grows.tie _ _ _ _ _ _ _ _ i.3 q.3 c.if-serving-ticket.true ((c.load-serving.ensures.2 c.args.ticket (ap (λ m. m.0.stage) i.3 ∙ q.1)).0 c.if-serving-ticket.true) e.2 e.3 c.unwrap.ensures).3
 
+pub returns-then-serving-ticket-clause-owned : goal.returns-then-serving-ticket-clause-owned
+returns-then-serving-ticket-clause-owned g c =
+    let i = c.loop.invariant in let q = c.requires in let e = c.exchange.ensures in
+    (taken g.T.Grows.entries g.T.Grows.tie _ _ _ _ _ _ _ _ i.3 q.3 c.if-serving-ticket.true ((c.load-serving.ensures.2 c.args.ticket (ap (λ m. m.0.stage) i.3 ∙ q.1)).0 c.if-serving-ticket.true) e.2 e.3 c.unwrap.ensures).5
+
 pub loop-preserved : goal.loop-preserved
 loop-preserved g c =
     let i = c.loop.invariant in let q = c.requires in let d = c.load-serving.ensures in

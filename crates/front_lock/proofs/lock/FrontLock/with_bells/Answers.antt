@@ -10,5 +10,5 @@ pub new-requires : goal.new-requires
 new-requires g c =
     let e : c.push_reserved.new.self.items ≡ Some c.args.value ∷ [] = cc in
     let t : c.of-about.result.value ≡ c.args.value = c.of-about.ensures in
-    subst (λ xs. Kept g.T.Grows.entries g.T.Grows.tie (opening (1 ∷ 1 ∷ []) xs (known (g.T.Grows.tie c.of-about.result.value) 64 (Some 0) [] [] Idle))) (sym e)
-    (subst (λ v. Kept g.T.Grows.entries g.T.Grows.tie (opening (1 ∷ 1 ∷ []) (Some c.args.value ∷ []) (known (g.T.Grows.tie v) 64 (Some 0) [] [] Idle))) (sym t) (begins g.T.Grows.entries g.T.Grows.tie c.args.value c.requires))
+    subst (λ xs. Kept g.T.Grows.entries g.T.Grows.tie (opening (1 ∷ 1 ∷ []) xs (known (g.T.Grows.tie c.of-about.result.value) 64 0 (Some 0) [] [] Idle))) (sym e)
+    (subst (λ v. Kept g.T.Grows.entries g.T.Grows.tie (opening (1 ∷ 1 ∷ []) (Some c.args.value ∷ []) (known (g.T.Grows.tie v) 64 0 (Some 0) [] [] Idle))) (sym t) (begins g.T.Grows.entries g.T.Grows.tie c.args.value c.requires))

@@ -1,0 +1,4 @@
+pub mod EventLists
+pub mod Lives
+pub mod Numbers
+pub mod Refusals

@@ -1,0 +1,5 @@
+pub mod Misled
+pub mod Ranked
+pub mod Ready
+pub mod Runs
+pub mod ByNeeds

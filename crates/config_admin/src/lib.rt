@@ -1,0 +1,11 @@
+//! Configurations (OSGi Compendium 8, chapter 104 "Configuration Admin Service Specification"): the last word on each PID,
+//! with those of factories.
+#![tactic(auto)]
+
+mod config_fault;
+mod configuration;
+mod table;
+
+pub use config_fault::ConfigFault;
+pub use configuration::Configuration;
+pub use table::Configurations;

@@ -1,0 +1,142 @@
+-- A component, and then the one whose service it references.
+use Rattle.std.specs.Prelude.{◌≡◌, refl, [], ◌∷◌, codes, true, false, Some, None, Ok, Err, map}
+use Rattle.bundle_doc.specs.declared.document.BundleDoc.{BundleDoc}
+use Rattle.callback_orders.specs.declared.callback.Callback.TheVariants.{Create, Bind, Activate}
+use Rattle.callback_orders.specs.declared.callback.Outcome.TheVariants.{Done}
+use Rattle.prop_map.specs.declared.reference_words.Cardinality.TheVariants.{One}
+use Rattle.prop_map.specs.declared.reference_words.Policy.TheVariants.{Static}
+use Rattle.prop_map.specs.declared.reference_words.PolicyOption.TheVariants.{Reluctant}
+use Rattle.first_core.specs.declared.bundles.BundleState.TheVariants.{Installed, Active}
+use Rattle.first_core.specs.declared.command.Command.TheVariants.{Install, Start, Stop}
+use Rattle.first_core.specs.declared.command.CoreFault.{CoreFault as F}
+use Rattle.first_core.specs.declared.command.Reply.{Reply as R}
+use Rattle.first_core.specs.declared.command.Step.TheVariants.{Command as Commanded, Begin, End}
+use Rattle.first_core.specs.Dues.{next_begin}
+use Rattle.first_core.specs.Readers.{component_lines}
+use Rattle.first_core.specs.Replies.{reply}
+use Rattle.first_core.specs.Steps.{History}
+use Rattle.first_core.specs.Worlds.{world_of, satisfied_in}
+use Rattle.first_examples.proofs.Words.{reference, component, document, entry, plain, opens, chose, worlds, each, always, some_of}
+use Rattle.first_examples.proofs.Views.{told_lines, line, marks, keys, gates, held_services, bundle_states, right_lists, lists_of, entries_reserved, shuts, reopens, all_scratch, all_in_order, all_have_room, are_passes_ready, ends_of_pass, ends_in_world, quiet, right, run_ends, lists_and_satisfied}
+use Rattle.first_examples.proofs.Tests.{follows}
+
+abbrev pub doc1 : BundleDoc
+doc1 = document (codes "c") (component (codes "c") true [] (reference (codes "p") (codes "P") One Static Reluctant ∷ []) ∷ [])
+
+abbrev pub doc2 : BundleDoc
+doc2 = document (codes "p") (component (codes "p") false ((codes "P") ∷ []) [] ∷ [])
+
+-- the journal, the last entry first
+abbrev pub past0 : History
+past0 = []
+
+abbrev pub past1 : History
+past1 = plain (Commanded (Install doc1)) ∷ past0
+
+abbrev pub past2 : History
+past2 = plain (Commanded (Start 1)) ∷ past1
+
+abbrev pub past3 : History
+past3 = plain (Commanded (Install doc2)) ∷ past2
+
+abbrev pub past4 : History
+past4 = entry (Commanded (Start 2)) [] (opens 2 1 ∷ opens 1 0 ∷ []) [] ∷ past3
+
+abbrev pub past5 : History
+past5 = plain (Begin 1 1 1 0 Create (chose 0 (1 ∷ []) ∷ [])) ∷ past4
+
+abbrev pub past6 : History
+past6 = plain (End 1 Done) ∷ past5
+
+abbrev pub past7 : History
+past7 = plain (Begin 2 2 2 0 Create []) ∷ past6
+
+abbrev pub past8 : History
+past8 = plain (End 2 Done) ∷ past7
+
+abbrev pub past9 : History
+past9 = plain (Begin 3 2 2 0 Activate []) ∷ past8
+
+abbrev pub past10 : History
+past10 = plain (End 3 Done) ∷ past9
+
+abbrev pub past11 : History
+past11 = plain (Begin 4 1 1 0 (Bind (codes "p") 1) []) ∷ past10
+
+abbrev pub past12 : History
+past12 = plain (End 4 Done) ∷ past11
+
+abbrev pub past13 : History
+past13 = plain (Begin 5 1 1 0 Activate []) ∷ past12
+
+abbrev pub past14 : History
+past14 = plain (End 5 Done) ∷ past13
+
+begins : map next_begin (worlds past14) ≡ (None ∷ None ∷ Some (Begin 5 1 1 0 Activate []) ∷ None ∷ Some (Begin 4 1 1 0 (Bind (codes "p") 1) []) ∷ None ∷ Some (Begin 3 2 2 0 Activate []) ∷ None ∷ Some (Begin 2 2 2 0 Create []) ∷ Some (Begin 2 2 2 0 Create []) ∷ Some (Begin 1 1 1 0 Create (chose 0 (1 ∷ []) ∷ [])) ∷ None ∷ None ∷ None ∷ None ∷ [])
+begins = refl
+
+missing_keys : map keys (worlds past14) ≡ ([] ∷ [] ∷ [] ∷ [] ∷ [] ∷ [] ∷ [] ∷ [] ∷ (2 ∷ []) ∷ (2 ∷ []) ∷ (1 ∷ []) ∷ [] ∷ [] ∷ [] ∷ [] ∷ [])
+missing_keys = refl
+
+failed_ones : map marks (worlds past14) ≡ ([] ∷ [] ∷ [] ∷ [] ∷ [] ∷ [] ∷ [] ∷ [] ∷ [] ∷ [] ∷ [] ∷ [] ∷ [] ∷ [] ∷ [] ∷ [])
+failed_ones = refl
+
+satisfied_ones : map satisfied_in (worlds past14) ≡ ((2 ∷ 1 ∷ []) ∷ (2 ∷ 1 ∷ []) ∷ (2 ∷ 1 ∷ []) ∷ (2 ∷ 1 ∷ []) ∷ (2 ∷ 1 ∷ []) ∷ (2 ∷ 1 ∷ []) ∷ (2 ∷ 1 ∷ []) ∷ (2 ∷ 1 ∷ []) ∷ (2 ∷ 1 ∷ []) ∷ (2 ∷ 1 ∷ []) ∷ (2 ∷ 1 ∷ []) ∷ [] ∷ [] ∷ [] ∷ [] ∷ [])
+satisfied_ones = refl
+
+states : map told_lines (worlds past14) ≡ (((1, 8) ∷ (2, 8) ∷ []) ∷ ((1, 4) ∷ (2, 8) ∷ []) ∷ ((1, 4) ∷ (2, 8) ∷ []) ∷ ((1, 4) ∷ (2, 8) ∷ []) ∷ ((1, 4) ∷ (2, 8) ∷ []) ∷ ((1, 4) ∷ (2, 4) ∷ []) ∷ ((1, 4) ∷ (2, 4) ∷ []) ∷ ((1, 4) ∷ (2, 4) ∷ []) ∷ ((1, 4) ∷ (2, 4) ∷ []) ∷ ((1, 4) ∷ (2, 4) ∷ []) ∷ ((1, 4) ∷ (2, 4) ∷ []) ∷ ((1, 2) ∷ []) ∷ ((1, 2) ∷ []) ∷ [] ∷ [] ∷ [])
+states = refl
+
+bundles : map bundle_states (worlds past14) ≡ ((Active ∷ Active ∷ []) ∷ (Active ∷ Active ∷ []) ∷ (Active ∷ Active ∷ []) ∷ (Active ∷ Active ∷ []) ∷ (Active ∷ Active ∷ []) ∷ (Active ∷ Active ∷ []) ∷ (Active ∷ Active ∷ []) ∷ (Active ∷ Active ∷ []) ∷ (Active ∷ Active ∷ []) ∷ (Active ∷ Active ∷ []) ∷ (Active ∷ Active ∷ []) ∷ (Active ∷ Installed ∷ []) ∷ (Active ∷ []) ∷ (Installed ∷ []) ∷ [] ∷ [])
+bundles = refl
+
+gate_keys : map gates (worlds past14) ≡ (((1, 0, 1) ∷ (2, 1, 1) ∷ []) ∷ ((1, 0, 0) ∷ (2, 1, 1) ∷ []) ∷ ((1, 0, 0) ∷ (2, 1, 1) ∷ []) ∷ ((1, 0, 0) ∷ (2, 1, 1) ∷ []) ∷ ((1, 0, 0) ∷ (2, 1, 1) ∷ []) ∷ ((1, 0, 0) ∷ (2, 1, 0) ∷ []) ∷ ((1, 0, 0) ∷ (2, 1, 0) ∷ []) ∷ ((1, 0, 0) ∷ (2, 1, 0) ∷ []) ∷ ((1, 0, 0) ∷ []) ∷ ((1, 0, 0) ∷ []) ∷ [] ∷ [] ∷ [] ∷ [] ∷ [] ∷ [])
+gate_keys = refl
+
+held : map held_services (worlds past14) ≡ (((1, ((1 ∷ []) ∷ [])) ∷ (2, []) ∷ []) ∷ ((1, ((1 ∷ []) ∷ [])) ∷ (2, []) ∷ []) ∷ ((1, ((1 ∷ []) ∷ [])) ∷ (2, []) ∷ []) ∷ ((1, ((1 ∷ []) ∷ [])) ∷ (2, []) ∷ []) ∷ ((1, ([] ∷ [])) ∷ (2, []) ∷ []) ∷ ((1, ([] ∷ [])) ∷ (2, []) ∷ []) ∷ ((1, ([] ∷ [])) ∷ (2, []) ∷ []) ∷ ((1, ([] ∷ [])) ∷ (2, []) ∷ []) ∷ ((1, ([] ∷ [])) ∷ []) ∷ ((1, ([] ∷ [])) ∷ []) ∷ [] ∷ [] ∷ [] ∷ [] ∷ [] ∷ [])
+held = refl
+
+room : map entries_reserved (worlds past14) ≡ (2 ∷ 3 ∷ 1 ∷ 2 ∷ 1 ∷ 2 ∷ 0 ∷ 1 ∷ 0 ∷ 1 ∷ 0 ∷ 0 ∷ 0 ∷ 0 ∷ 0 ∷ [])
+room = refl
+
+quiet_ones : map quiet (worlds past14) ≡ (true ∷ false ∷ false ∷ false ∷ false ∷ false ∷ false ∷ false ∷ false ∷ false ∷ false ∷ true ∷ true ∷ true ∷ true ∷ [])
+quiet_ones = refl
+
+right_ones : map (right 4) (worlds past14) ≡ (true ∷ false ∷ false ∷ false ∷ false ∷ false ∷ false ∷ false ∷ false ∷ false ∷ false ∷ true ∷ true ∷ true ∷ true ∷ [])
+right_ones = refl
+
+lists : each right_lists past14 (worlds past14) ≡ map lists_of past14
+lists = refl
+
+shut_gates : some_of (each shuts past14 (worlds past14)) ≡ []
+shut_gates = refl
+
+reopened_gates : some_of (each reopens past14 (worlds past14)) ≡ ((13, ((0, 1) ∷ [])) ∷ (9, ((1, 1) ∷ [])) ∷ [])
+reopened_gates = refl
+
+scratch : always (all_scratch 4) past14 (worlds past14) ≡ true
+scratch = refl
+
+order : always all_in_order past14 (worlds past14) ≡ true
+order = refl
+
+fits : always (all_have_room 4194304) past14 (worlds past14) ≡ true
+fits = refl
+
+followed : always (follows 4194304) past14 (worlds past14) ≡ true
+followed = refl
+
+ready : always are_passes_ready past14 (worlds past14) ≡ true
+ready = refl
+
+runs : each run_ends past14 (worlds past14) ≡ each lists_and_satisfied past14 (worlds past14)
+runs = refl
+
+ends : each ends_of_pass past14 (worlds past14) ≡ each ends_in_world past14 (worlds past14)
+ends = refl
+
+answers : (reply 4194304 (world_of past0) (Install doc1) ∷ reply 4194304 (world_of past1) (Start 1) ∷ reply 4194304 (world_of past2) (Install doc2) ∷ reply 4194304 (world_of past3) (Start 2) ∷ reply 4194304 (world_of past14) (Install doc1) ∷ reply 4194304 (world_of past14) (Start 1) ∷ reply 4194304 (world_of past14) (Start 3) ∷ reply 4194304 (world_of past14) (Stop 0) ∷ []) ≡ (Ok (R.Bundle 1) ∷ Ok R.Done ∷ Ok (R.Bundle 2) ∷ Ok R.Done ∷ Ok (R.Bundle 1) ∷ Ok R.Done ∷ Err (F.NoBundle 3) ∷ Err (F.NoBundle 0) ∷ [])
+answers = refl
+
+lines : component_lines (world_of past14) ≡ (line 1 (codes "c") 8 ∷ line 2 (codes "p") 8 ∷ [])
+lines = refl

@@ -1,0 +1,199 @@
+-- A bundle stops while a Bind of its service is outstanding.
+use Rattle.std.specs.Prelude.{◌≡◌, refl, [], ◌∷◌, codes, true, false, Some, None, Ok, Err, map}
+use Rattle.bundle_doc.specs.declared.document.BundleDoc.{BundleDoc}
+use Rattle.callback_orders.specs.declared.callback.Callback.TheVariants.{Create, Bind, Unbind, Activate, Deactivate, Destroy}
+use Rattle.callback_orders.specs.declared.callback.Outcome.TheVariants.{Done}
+use Rattle.prop_map.specs.declared.reference_words.Cardinality.TheVariants.{One}
+use Rattle.prop_map.specs.declared.reference_words.Policy.TheVariants.{Static}
+use Rattle.prop_map.specs.declared.reference_words.PolicyOption.TheVariants.{Reluctant}
+use Rattle.first_core.specs.declared.bundles.BundleState.TheVariants.{Installed, Resolved, Stopping, Active}
+use Rattle.first_core.specs.declared.command.Command.TheVariants.{Install, Start, Stop}
+use Rattle.first_core.specs.declared.command.CoreFault.{CoreFault as F}
+use Rattle.first_core.specs.declared.command.Reply.{Reply as R}
+use Rattle.first_core.specs.declared.command.Step.TheVariants.{Command as Commanded, Begin, End, Drained}
+use Rattle.first_core.specs.Dues.{next_begin}
+use Rattle.first_core.specs.Readers.{component_lines}
+use Rattle.first_core.specs.Replies.{reply}
+use Rattle.first_core.specs.Steps.{History}
+use Rattle.first_core.specs.Worlds.{world_of, satisfied_in}
+use Rattle.first_examples.proofs.Words.{reference, component, document, entry, plain, opens, chose, worlds, each, always, some_of}
+use Rattle.first_examples.proofs.Views.{told_lines, line, marks, keys, gates, held_services, bundle_states, right_lists, lists_of, entries_reserved, shuts, reopens, all_scratch, all_in_order, all_have_room, are_passes_ready, ends_of_pass, ends_in_world, quiet, right, run_ends, lists_and_satisfied}
+use Rattle.first_examples.proofs.Tests.{follows}
+
+abbrev pub doc1 : BundleDoc
+doc1 = document (codes "p") (component (codes "p") false ((codes "P") ∷ []) [] ∷ [])
+
+abbrev pub doc2 : BundleDoc
+doc2 = document (codes "c") (component (codes "c") true [] (reference (codes "p") (codes "P") One Static Reluctant ∷ []) ∷ [])
+
+-- the journal, the last entry first
+abbrev pub past0 : History
+past0 = []
+
+abbrev pub past1 : History
+past1 = plain (Commanded (Install doc1)) ∷ past0
+
+abbrev pub past2 : History
+past2 = plain (Commanded (Install doc2)) ∷ past1
+
+abbrev pub past3 : History
+past3 = entry (Commanded (Start 1)) [] (opens 1 1 ∷ []) [] ∷ past2
+
+abbrev pub past4 : History
+past4 = entry (Commanded (Start 2)) [] (opens 2 0 ∷ []) [] ∷ past3
+
+abbrev pub past5 : History
+past5 = plain (Begin 1 1 2 0 Create (chose 0 (1 ∷ []) ∷ [])) ∷ past4
+
+abbrev pub past6 : History
+past6 = plain (End 1 Done) ∷ past5
+
+abbrev pub past7 : History
+past7 = plain (Begin 2 2 1 0 Create []) ∷ past6
+
+abbrev pub past8 : History
+past8 = plain (End 2 Done) ∷ past7
+
+abbrev pub past9 : History
+past9 = plain (Begin 3 2 1 0 Activate []) ∷ past8
+
+abbrev pub past10 : History
+past10 = plain (End 3 Done) ∷ past9
+
+abbrev pub past11 : History
+past11 = plain (Begin 4 1 2 0 (Bind (codes "p") 1) []) ∷ past10
+
+abbrev pub past12 : History
+past12 = entry (Commanded (Stop 1)) (1 ∷ 2 ∷ []) [] [] ∷ past11
+
+abbrev pub past13 : History
+past13 = plain (Drained 2) ∷ past12
+
+abbrev pub past14 : History
+past14 = plain (End 4 Done) ∷ past13
+
+abbrev pub past15 : History
+past15 = plain (Begin 5 1 2 0 (Unbind (codes "p") 1) []) ∷ past14
+
+abbrev pub past16 : History
+past16 = plain (End 5 Done) ∷ past15
+
+abbrev pub past17 : History
+past17 = plain (Begin 6 1 2 0 Destroy []) ∷ past16
+
+abbrev pub past18 : History
+past18 = plain (End 6 Done) ∷ past17
+
+abbrev pub past19 : History
+past19 = plain (Begin 7 2 1 0 Deactivate []) ∷ past18
+
+abbrev pub past20 : History
+past20 = plain (End 7 Done) ∷ past19
+
+abbrev pub past21 : History
+past21 = plain (Begin 8 2 1 0 Destroy []) ∷ past20
+
+abbrev pub past22 : History
+past22 = entry (End 8 Done) [] [] (1 ∷ []) ∷ past21
+
+abbrev pub past23 : History
+past23 = entry (Commanded (Start 1)) [] (opens 3 2 ∷ opens 2 0 ∷ []) [] ∷ past22
+
+abbrev pub past24 : History
+past24 = plain (Begin 9 3 2 0 Create (chose 0 (2 ∷ []) ∷ [])) ∷ past23
+
+abbrev pub past25 : History
+past25 = plain (End 9 Done) ∷ past24
+
+abbrev pub past26 : History
+past26 = plain (Begin 10 4 3 0 Create []) ∷ past25
+
+abbrev pub past27 : History
+past27 = plain (End 10 Done) ∷ past26
+
+abbrev pub past28 : History
+past28 = plain (Begin 11 4 3 0 Activate []) ∷ past27
+
+abbrev pub past29 : History
+past29 = plain (End 11 Done) ∷ past28
+
+abbrev pub past30 : History
+past30 = plain (Begin 12 3 2 0 (Bind (codes "p") 2) []) ∷ past29
+
+abbrev pub past31 : History
+past31 = plain (End 12 Done) ∷ past30
+
+abbrev pub past32 : History
+past32 = plain (Begin 13 3 2 0 Activate []) ∷ past31
+
+abbrev pub past33 : History
+past33 = plain (End 13 Done) ∷ past32
+
+begins : map next_begin (worlds past33) ≡ (None ∷ None ∷ Some (Begin 13 3 2 0 Activate []) ∷ None ∷ Some (Begin 12 3 2 0 (Bind (codes "p") 2) []) ∷ None ∷ Some (Begin 11 4 3 0 Activate []) ∷ None ∷ Some (Begin 10 4 3 0 Create []) ∷ Some (Begin 10 4 3 0 Create []) ∷ Some (Begin 9 3 2 0 Create (chose 0 (2 ∷ []) ∷ [])) ∷ None ∷ None ∷ Some (Begin 8 2 1 0 Destroy []) ∷ None ∷ Some (Begin 7 2 1 0 Deactivate []) ∷ Some (Begin 7 2 1 0 Deactivate []) ∷ Some (Begin 6 1 2 0 Destroy []) ∷ None ∷ Some (Begin 5 1 2 0 (Unbind (codes "p") 1) []) ∷ None ∷ None ∷ None ∷ Some (Begin 4 1 2 0 (Bind (codes "p") 1) []) ∷ None ∷ Some (Begin 3 2 1 0 Activate []) ∷ None ∷ Some (Begin 2 2 1 0 Create []) ∷ Some (Begin 2 2 1 0 Create []) ∷ Some (Begin 1 1 2 0 Create (chose 0 (1 ∷ []) ∷ [])) ∷ None ∷ None ∷ None ∷ None ∷ [])
+begins = refl
+
+missing_keys : map keys (worlds past33) ≡ ([] ∷ [] ∷ [] ∷ [] ∷ [] ∷ [] ∷ [] ∷ [] ∷ (3 ∷ []) ∷ (3 ∷ []) ∷ (2 ∷ []) ∷ [] ∷ [] ∷ [] ∷ [] ∷ [] ∷ [] ∷ [] ∷ [] ∷ [] ∷ [] ∷ [] ∷ [] ∷ [] ∷ [] ∷ [] ∷ [] ∷ (1 ∷ []) ∷ (1 ∷ []) ∷ (2 ∷ []) ∷ [] ∷ [] ∷ [] ∷ [] ∷ [])
+missing_keys = refl
+
+failed_ones : map marks (worlds past33) ≡ ([] ∷ [] ∷ [] ∷ [] ∷ [] ∷ [] ∷ [] ∷ [] ∷ [] ∷ [] ∷ [] ∷ [] ∷ [] ∷ [] ∷ [] ∷ [] ∷ [] ∷ [] ∷ [] ∷ [] ∷ [] ∷ [] ∷ [] ∷ [] ∷ [] ∷ [] ∷ [] ∷ [] ∷ [] ∷ [] ∷ [] ∷ [] ∷ [] ∷ [] ∷ [])
+failed_ones = refl
+
+satisfied_ones : map satisfied_in (worlds past33) ≡ ((3 ∷ 2 ∷ []) ∷ (3 ∷ 2 ∷ []) ∷ (3 ∷ 2 ∷ []) ∷ (3 ∷ 2 ∷ []) ∷ (3 ∷ 2 ∷ []) ∷ (3 ∷ 2 ∷ []) ∷ (3 ∷ 2 ∷ []) ∷ (3 ∷ 2 ∷ []) ∷ (3 ∷ 2 ∷ []) ∷ (3 ∷ 2 ∷ []) ∷ (3 ∷ 2 ∷ []) ∷ [] ∷ [] ∷ [] ∷ [] ∷ [] ∷ [] ∷ [] ∷ [] ∷ [] ∷ [] ∷ [] ∷ (1 ∷ 2 ∷ []) ∷ (1 ∷ 2 ∷ []) ∷ (1 ∷ 2 ∷ []) ∷ (1 ∷ 2 ∷ []) ∷ (1 ∷ 2 ∷ []) ∷ (1 ∷ 2 ∷ []) ∷ (1 ∷ 2 ∷ []) ∷ (1 ∷ 2 ∷ []) ∷ (1 ∷ []) ∷ [] ∷ [] ∷ [] ∷ [])
+satisfied_ones = refl
+
+states : map told_lines (worlds past33) ≡ (((2, 8) ∷ (3, 8) ∷ []) ∷ ((2, 4) ∷ (3, 8) ∷ []) ∷ ((2, 4) ∷ (3, 8) ∷ []) ∷ ((2, 4) ∷ (3, 8) ∷ []) ∷ ((2, 4) ∷ (3, 8) ∷ []) ∷ ((2, 4) ∷ (3, 4) ∷ []) ∷ ((2, 4) ∷ (3, 4) ∷ []) ∷ ((2, 4) ∷ (3, 4) ∷ []) ∷ ((2, 4) ∷ (3, 4) ∷ []) ∷ ((2, 4) ∷ (3, 4) ∷ []) ∷ ((2, 4) ∷ (3, 4) ∷ []) ∷ ((2, 2) ∷ []) ∷ ((2, 2) ∷ []) ∷ ((2, 2) ∷ []) ∷ ((2, 2) ∷ []) ∷ ((2, 2) ∷ []) ∷ ((2, 2) ∷ []) ∷ ((2, 2) ∷ []) ∷ ((2, 2) ∷ []) ∷ ((2, 2) ∷ []) ∷ ((2, 2) ∷ []) ∷ ((2, 2) ∷ []) ∷ ((1, 8) ∷ (2, 4) ∷ []) ∷ ((1, 8) ∷ (2, 4) ∷ []) ∷ ((1, 4) ∷ (2, 4) ∷ []) ∷ ((1, 4) ∷ (2, 4) ∷ []) ∷ ((1, 4) ∷ (2, 4) ∷ []) ∷ ((1, 4) ∷ (2, 4) ∷ []) ∷ ((1, 4) ∷ (2, 4) ∷ []) ∷ ((1, 4) ∷ (2, 4) ∷ []) ∷ ((1, 4) ∷ []) ∷ [] ∷ [] ∷ [] ∷ [])
+states = refl
+
+bundles : map bundle_states (worlds past33) ≡ ((Active ∷ Active ∷ []) ∷ (Active ∷ Active ∷ []) ∷ (Active ∷ Active ∷ []) ∷ (Active ∷ Active ∷ []) ∷ (Active ∷ Active ∷ []) ∷ (Active ∷ Active ∷ []) ∷ (Active ∷ Active ∷ []) ∷ (Active ∷ Active ∷ []) ∷ (Active ∷ Active ∷ []) ∷ (Active ∷ Active ∷ []) ∷ (Active ∷ Active ∷ []) ∷ (Resolved ∷ Active ∷ []) ∷ (Stopping ∷ Active ∷ []) ∷ (Stopping ∷ Active ∷ []) ∷ (Stopping ∷ Active ∷ []) ∷ (Stopping ∷ Active ∷ []) ∷ (Stopping ∷ Active ∷ []) ∷ (Stopping ∷ Active ∷ []) ∷ (Stopping ∷ Active ∷ []) ∷ (Stopping ∷ Active ∷ []) ∷ (Stopping ∷ Active ∷ []) ∷ (Stopping ∷ Active ∷ []) ∷ (Active ∷ Active ∷ []) ∷ (Active ∷ Active ∷ []) ∷ (Active ∷ Active ∷ []) ∷ (Active ∷ Active ∷ []) ∷ (Active ∷ Active ∷ []) ∷ (Active ∷ Active ∷ []) ∷ (Active ∷ Active ∷ []) ∷ (Active ∷ Active ∷ []) ∷ (Active ∷ Installed ∷ []) ∷ (Installed ∷ Installed ∷ []) ∷ (Installed ∷ []) ∷ [] ∷ [])
+bundles = refl
+
+gate_keys : map gates (worlds past33) ≡ (((3, 0, 1) ∷ (4, 1, 2) ∷ []) ∷ ((3, 0, 0) ∷ (4, 1, 2) ∷ []) ∷ ((3, 0, 0) ∷ (4, 1, 2) ∷ []) ∷ ((3, 0, 0) ∷ (4, 1, 2) ∷ []) ∷ ((3, 0, 0) ∷ (4, 1, 2) ∷ []) ∷ ((3, 0, 0) ∷ (4, 1, 0) ∷ []) ∷ ((3, 0, 0) ∷ (4, 1, 0) ∷ []) ∷ ((3, 0, 0) ∷ (4, 1, 0) ∷ []) ∷ ((3, 0, 0) ∷ []) ∷ ((3, 0, 0) ∷ []) ∷ [] ∷ [] ∷ ((2, 1, 1) ∷ []) ∷ ((2, 1, 1) ∷ []) ∷ ((2, 1, 1) ∷ []) ∷ ((2, 1, 1) ∷ []) ∷ ((1, 0, 0) ∷ (2, 1, 1) ∷ []) ∷ ((1, 0, 0) ∷ (2, 1, 1) ∷ []) ∷ ((1, 0, 0) ∷ (2, 1, 1) ∷ []) ∷ ((1, 0, 0) ∷ (2, 1, 1) ∷ []) ∷ ((1, 0, 0) ∷ (2, 1, 1) ∷ []) ∷ ((1, 0, 0) ∷ (2, 1, 1) ∷ []) ∷ ((1, 0, 0) ∷ (2, 1, 1) ∷ []) ∷ ((1, 0, 0) ∷ (2, 1, 1) ∷ []) ∷ ((1, 0, 0) ∷ (2, 1, 0) ∷ []) ∷ ((1, 0, 0) ∷ (2, 1, 0) ∷ []) ∷ ((1, 0, 0) ∷ (2, 1, 0) ∷ []) ∷ ((1, 0, 0) ∷ []) ∷ ((1, 0, 0) ∷ []) ∷ [] ∷ [] ∷ [] ∷ [] ∷ [] ∷ [])
+gate_keys = refl
+
+held : map held_services (worlds past33) ≡ (((3, ((2 ∷ []) ∷ [])) ∷ (4, []) ∷ []) ∷ ((3, ((2 ∷ []) ∷ [])) ∷ (4, []) ∷ []) ∷ ((3, ((2 ∷ []) ∷ [])) ∷ (4, []) ∷ []) ∷ ((3, ((2 ∷ []) ∷ [])) ∷ (4, []) ∷ []) ∷ ((3, ([] ∷ [])) ∷ (4, []) ∷ []) ∷ ((3, ([] ∷ [])) ∷ (4, []) ∷ []) ∷ ((3, ([] ∷ [])) ∷ (4, []) ∷ []) ∷ ((3, ([] ∷ [])) ∷ (4, []) ∷ []) ∷ ((3, ([] ∷ [])) ∷ []) ∷ ((3, ([] ∷ [])) ∷ []) ∷ [] ∷ [] ∷ ((2, []) ∷ []) ∷ ((2, []) ∷ []) ∷ ((2, []) ∷ []) ∷ ((2, []) ∷ []) ∷ ((1, ([] ∷ [])) ∷ (2, []) ∷ []) ∷ ((1, ([] ∷ [])) ∷ (2, []) ∷ []) ∷ ((1, ((1 ∷ []) ∷ [])) ∷ (2, []) ∷ []) ∷ ((1, ((1 ∷ []) ∷ [])) ∷ (2, []) ∷ []) ∷ ((1, ((1 ∷ []) ∷ [])) ∷ (2, []) ∷ []) ∷ ((1, ((1 ∷ []) ∷ [])) ∷ (2, []) ∷ []) ∷ ((1, ((1 ∷ []) ∷ [])) ∷ (2, []) ∷ []) ∷ ((1, ([] ∷ [])) ∷ (2, []) ∷ []) ∷ ((1, ([] ∷ [])) ∷ (2, []) ∷ []) ∷ ((1, ([] ∷ [])) ∷ (2, []) ∷ []) ∷ ((1, ([] ∷ [])) ∷ (2, []) ∷ []) ∷ ((1, ([] ∷ [])) ∷ []) ∷ ((1, ([] ∷ [])) ∷ []) ∷ [] ∷ [] ∷ [] ∷ [] ∷ [] ∷ [])
+held = refl
+
+room : map entries_reserved (worlds past33) ≡ (2 ∷ 3 ∷ 1 ∷ 2 ∷ 1 ∷ 2 ∷ 0 ∷ 1 ∷ 0 ∷ 1 ∷ 0 ∷ 0 ∷ 1 ∷ 0 ∷ 1 ∷ 0 ∷ 1 ∷ 0 ∷ 1 ∷ 0 ∷ 1 ∷ 2 ∷ 2 ∷ 1 ∷ 2 ∷ 0 ∷ 1 ∷ 0 ∷ 1 ∷ 0 ∷ 0 ∷ 0 ∷ 0 ∷ 0 ∷ [])
+room = refl
+
+quiet_ones : map quiet (worlds past33) ≡ (true ∷ false ∷ false ∷ false ∷ false ∷ false ∷ false ∷ false ∷ false ∷ false ∷ false ∷ true ∷ false ∷ false ∷ false ∷ false ∷ false ∷ false ∷ false ∷ false ∷ false ∷ false ∷ false ∷ false ∷ false ∷ false ∷ false ∷ false ∷ false ∷ false ∷ true ∷ true ∷ true ∷ true ∷ [])
+quiet_ones = refl
+
+right_ones : map (right 5) (worlds past33) ≡ (true ∷ false ∷ false ∷ false ∷ false ∷ false ∷ false ∷ false ∷ false ∷ false ∷ false ∷ true ∷ false ∷ false ∷ false ∷ false ∷ false ∷ false ∷ false ∷ false ∷ false ∷ false ∷ false ∷ false ∷ false ∷ false ∷ false ∷ false ∷ false ∷ false ∷ true ∷ true ∷ true ∷ true ∷ [])
+right_ones = refl
+
+lists : each right_lists past33 (worlds past33) ≡ map lists_of past33
+lists = refl
+
+shut_gates : some_of (each shuts past33 (worlds past33)) ≡ ((11, ((1, 1) ∷ [])) ∷ [])
+shut_gates = refl
+
+reopened_gates : some_of (each reopens past33 (worlds past33)) ≡ ((32, ((0, 1) ∷ [])) ∷ (28, ((1, 2) ∷ [])) ∷ (9, ((1, 1) ∷ [])) ∷ [])
+reopened_gates = refl
+
+scratch : always (all_scratch 5) past33 (worlds past33) ≡ true
+scratch = refl
+
+order : always all_in_order past33 (worlds past33) ≡ true
+order = refl
+
+fits : always (all_have_room 4194304) past33 (worlds past33) ≡ true
+fits = refl
+
+followed : always (follows 4194304) past33 (worlds past33) ≡ true
+followed = refl
+
+ready : always are_passes_ready past33 (worlds past33) ≡ true
+ready = refl
+
+runs : each run_ends past33 (worlds past33) ≡ each lists_and_satisfied past33 (worlds past33)
+runs = refl
+
+ends : each ends_of_pass past33 (worlds past33) ≡ each ends_in_world past33 (worlds past33)
+ends = refl
+
+answers : (reply 4194304 (world_of past0) (Install doc1) ∷ reply 4194304 (world_of past1) (Install doc2) ∷ reply 4194304 (world_of past2) (Start 1) ∷ reply 4194304 (world_of past3) (Start 2) ∷ reply 4194304 (world_of past11) (Stop 1) ∷ reply 4194304 (world_of past12) (Start 1) ∷ reply 4194304 (world_of past20) (Start 1) ∷ reply 4194304 (world_of past22) (Start 1) ∷ []) ≡ (Ok (R.Bundle 1) ∷ Ok (R.Bundle 2) ∷ Ok R.Done ∷ Ok R.Done ∷ Ok R.Done ∷ Err (F.Stopping 2) ∷ Err (F.Stopping 2) ∷ Ok R.Done ∷ [])
+answers = refl
+
+lines : component_lines (world_of past33) ≡ (line 2 (codes "c") 8 ∷ line 3 (codes "p") 8 ∷ [])
+lines = refl

@@ -1,0 +1,85 @@
+-- Wrong entries: none of them may follow.
+use Rattle.std.specs.Prelude.{◌≡◌, refl, [], ◌∷◌, codes, false, map}
+use Rattle.callback_orders.specs.declared.callback.Callback.TheVariants.{Create, Bind, Unbind, Activate, Deactivate, Destroy}
+use Rattle.callback_orders.specs.declared.callback.Outcome.TheVariants.{Done, Refused}
+use Rattle.first_core.specs.declared.command.Command.TheVariants.{Install, Start, Stop}
+use Rattle.first_core.specs.declared.command.Step.TheVariants.{Command as Commanded, Begin, End, Drained}
+use Rattle.first_core.specs.Worlds.{world_of}
+use Rattle.first_examples.proofs.Words.{entry, plain, opens, chose}
+use Rattle.first_examples.proofs.Tests.{may_follow}
+use Rattle.first_examples.proofs.FailedActivation.{doc1, doc2, past1, past2, past3, past4, past5, past6, past7, past8, past9, past10, past11, past12, past13, past14, past15, past16, past17, past18, past19, past20, past21, past22, past23, past24, past25}
+
+wrong2 : map (may_follow 4194304 (world_of past1)) (plain (Commanded (Stop 1)) ∷ entry (Commanded (Install doc2)) [] [] (1 ∷ []) ∷ []) ≡ (false ∷ false ∷ [])
+wrong2 = refl
+
+wrong3 : map (may_follow 4194304 (world_of past2)) (entry (Commanded (Start 1)) [] (opens 1 2 ∷ []) [] ∷ entry (Commanded (Start 1)) [] (opens 1 1 ∷ []) (2 ∷ []) ∷ entry (Commanded (Start 1)) [] (opens 1 0 ∷ []) [] ∷ plain (Commanded (Stop 1)) ∷ []) ≡ (false ∷ false ∷ false ∷ false ∷ [])
+wrong3 = refl
+
+wrong4 : map (may_follow 4194304 (world_of past3)) (entry (Commanded (Start 2)) [] (opens 2 0 ∷ opens 1 0 ∷ []) [] ∷ entry (Commanded (Start 2)) [] (opens 2 7 ∷ []) [] ∷ plain (Commanded (Start 1)) ∷ plain (Commanded (Start 2)) ∷ []) ≡ (false ∷ false ∷ false ∷ false ∷ [])
+wrong4 = refl
+
+wrong5 : map (may_follow 4194304 (world_of past4)) (plain (Commanded (Start 1)) ∷ plain (Begin 1 1 3 0 Create (chose 0 (1 ∷ []) ∷ [])) ∷ entry (Begin 1 1 2 0 Create (chose 0 (1 ∷ []) ∷ [])) [] [] (2 ∷ []) ∷ plain (Begin 1 1 2 0 Create (chose 0 [] ∷ [])) ∷ []) ≡ (false ∷ false ∷ false ∷ false ∷ [])
+wrong5 = refl
+
+wrong6 : map (may_follow 4194304 (world_of past5)) (plain (Drained 1) ∷ entry (End 1 Done) [] [] (2 ∷ []) ∷ plain (End 2 Done) ∷ plain (Commanded (Start 1)) ∷ []) ≡ (false ∷ false ∷ false ∷ false ∷ [])
+wrong6 = refl
+
+wrong7 : map (may_follow 4194304 (world_of past6)) (plain (Begin 2 2 1 0 Destroy []) ∷ plain (Begin 2 2 1 1 Create []) ∷ plain (Begin 3 2 1 0 Create []) ∷ plain (Commanded (Install doc1)) ∷ []) ≡ (false ∷ false ∷ false ∷ false ∷ [])
+wrong7 = refl
+
+wrong8 : map (may_follow 4194304 (world_of past7)) (plain (Commanded (Install doc1)) ∷ entry (End 2 Done) [] [] (1 ∷ []) ∷ plain (Drained 1) ∷ plain (Commanded (Start 1)) ∷ []) ≡ (false ∷ false ∷ false ∷ false ∷ [])
+wrong8 = refl
+
+wrong9 : map (may_follow 4194304 (world_of past8)) (entry (Begin 3 2 1 0 Activate []) (1 ∷ []) [] [] ∷ plain (Begin 3 2 2 0 Activate []) ∷ plain (Begin 3 2 1 0 Deactivate []) ∷ plain (Begin 3 2 1 0 Activate (chose 0 [] ∷ [])) ∷ []) ≡ (false ∷ false ∷ false ∷ false ∷ [])
+wrong9 = refl
+
+wrong10 : map (may_follow 4194304 (world_of past9)) (entry (End 3 Refused) (1 ∷ 2 ∷ []) [] (2 ∷ []) ∷ entry (End 3 Refused) (2 ∷ []) [] [] ∷ entry (End 3 Refused) (1 ∷ 2 ∷ []) (opens 2 0 ∷ []) [] ∷ entry (End 3 Refused) (1 ∷ 2 ∷ []) (opens 1 0 ∷ []) [] ∷ []) ≡ (false ∷ false ∷ false ∷ false ∷ [])
+wrong10 = refl
+
+wrong11 : map (may_follow 4194304 (world_of past10)) (plain (Begin 4 2 1 0 Destroy []) ∷ plain (Begin 5 1 2 0 Destroy []) ∷ entry (Begin 4 1 2 0 Destroy []) [] [] (1 ∷ []) ∷ plain (Begin 4 1 2 0 Deactivate []) ∷ []) ≡ (false ∷ false ∷ false ∷ false ∷ [])
+wrong11 = refl
+
+wrong12 : map (may_follow 4194304 (world_of past11)) (plain (Commanded (Install doc1)) ∷ plain (Drained 1) ∷ entry (End 4 Done) [] [] (1 ∷ []) ∷ plain (End 3 Done) ∷ []) ≡ (false ∷ false ∷ false ∷ false ∷ [])
+wrong12 = refl
+
+wrong13 : map (may_follow 4194304 (world_of past12)) (plain (Begin 5 2 2 0 Destroy []) ∷ plain (Begin 5 2 1 0 Create []) ∷ plain (Commanded (Start 1)) ∷ plain (Drained 2) ∷ []) ≡ (false ∷ false ∷ false ∷ false ∷ [])
+wrong13 = refl
+
+wrong14 : map (may_follow 4194304 (world_of past13)) (plain (Drained 2) ∷ plain (End 6 Done) ∷ plain (Commanded (Start 1)) ∷ entry (End 5 Done) [] [] (2 ∷ []) ∷ []) ≡ (false ∷ false ∷ false ∷ false ∷ [])
+wrong14 = refl
+
+wrong15 : map (may_follow 4194304 (world_of past14)) (plain (Commanded (Install doc1)) ∷ plain (Commanded (Stop 1)) ∷ entry (Commanded (Stop 1)) [] (opens 2 0 ∷ []) (1 ∷ []) ∷ plain (Commanded (Start 1)) ∷ []) ≡ (false ∷ false ∷ false ∷ false ∷ [])
+wrong15 = refl
+
+wrong16 : map (may_follow 4194304 (world_of past15)) (entry (Commanded (Start 1)) [] (opens 3 0 ∷ opens 2 0 ∷ []) [] ∷ plain (Commanded (Install doc1)) ∷ entry (Commanded (Start 1)) [] (opens 2 0 ∷ []) [] ∷ entry (Commanded (Start 1)) [] (opens 3 2 ∷ []) [] ∷ []) ≡ (false ∷ false ∷ false ∷ false ∷ [])
+wrong16 = refl
+
+wrong17 : map (may_follow 4194304 (world_of past16)) (plain (Begin 6 4 2 0 Create (chose 0 (2 ∷ []) ∷ [])) ∷ plain (Begin 6 3 3 0 Create (chose 0 (2 ∷ []) ∷ [])) ∷ plain (Commanded (Start 1)) ∷ entry (Begin 6 3 2 0 Create (chose 0 (2 ∷ []) ∷ [])) [] (opens 3 0 ∷ []) [] ∷ []) ≡ (false ∷ false ∷ false ∷ false ∷ [])
+wrong17 = refl
+
+wrong18 : map (may_follow 4194304 (world_of past17)) (plain (End 7 Done) ∷ plain (Commanded (Install doc1)) ∷ entry (End 6 Done) [] (opens 3 0 ∷ []) [] ∷ entry (End 6 Done) (2 ∷ []) [] [] ∷ []) ≡ (false ∷ false ∷ false ∷ false ∷ [])
+wrong18 = refl
+
+wrong19 : map (may_follow 4194304 (world_of past18)) (plain (Begin 7 5 3 0 Create []) ∷ entry (Begin 7 4 3 0 Create []) [] [] (2 ∷ []) ∷ plain (Begin 7 4 4 0 Create []) ∷ plain (Begin 8 4 3 0 Create []) ∷ []) ≡ (false ∷ false ∷ false ∷ false ∷ [])
+wrong19 = refl
+
+wrong20 : map (may_follow 4194304 (world_of past19)) (plain (End 8 Done) ∷ plain (Drained 3) ∷ entry (End 7 Done) [] [] (2 ∷ []) ∷ entry (End 7 Done) [] (opens 3 0 ∷ []) [] ∷ []) ≡ (false ∷ false ∷ false ∷ false ∷ [])
+wrong20 = refl
+
+wrong21 : map (may_follow 4194304 (world_of past20)) (plain (Drained 3) ∷ plain (Commanded (Install doc1)) ∷ plain (Commanded (Start 1)) ∷ plain (Begin 8 5 3 0 Activate []) ∷ []) ≡ (false ∷ false ∷ false ∷ false ∷ [])
+wrong21 = refl
+
+wrong22 : map (may_follow 4194304 (world_of past21)) (entry (End 8 Done) [] (opens 3 0 ∷ []) [] ∷ plain (End 7 Done) ∷ entry (End 8 Done) (2 ∷ []) [] [] ∷ entry (End 8 Done) [] [] (1 ∷ []) ∷ []) ≡ (false ∷ false ∷ false ∷ false ∷ [])
+wrong22 = refl
+
+wrong23 : map (may_follow 4194304 (world_of past22)) (plain (Commanded (Install doc1)) ∷ plain (Begin 9 3 2 1 (Bind (codes "p") 2) []) ∷ plain (Begin 9 3 3 0 (Bind (codes "p") 2) []) ∷ plain (Begin 9 3 2 0 (Unbind (codes "p") 2) []) ∷ []) ≡ (false ∷ false ∷ false ∷ false ∷ [])
+wrong23 = refl
+
+wrong24 : map (may_follow 4194304 (world_of past23)) (plain (End 10 Done) ∷ plain (Commanded (Start 1)) ∷ entry (End 9 Done) (2 ∷ []) [] [] ∷ plain (Drained 3) ∷ []) ≡ (false ∷ false ∷ false ∷ false ∷ [])
+wrong24 = refl
+
+wrong25 : map (may_follow 4194304 (world_of past24)) (plain (Drained 3) ∷ entry (Begin 10 3 2 0 Activate []) [] (opens 3 0 ∷ []) [] ∷ plain (Begin 10 3 3 0 Activate []) ∷ entry (Begin 10 3 2 0 Activate []) (2 ∷ []) [] [] ∷ []) ≡ (false ∷ false ∷ false ∷ false ∷ [])
+wrong25 = refl
+
+wrong26 : map (may_follow 4194304 (world_of past25)) (entry (End 10 Done) (2 ∷ []) [] [] ∷ plain (End 11 Done) ∷ plain (Commanded (Start 1)) ∷ entry (End 10 Done) [] [] (2 ∷ []) ∷ []) ≡ (false ∷ false ∷ false ∷ false ∷ [])
+wrong26 = refl

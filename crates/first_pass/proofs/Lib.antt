@@ -1,0 +1,14 @@
+pub mod Among
+pub mod PlaceLemmas
+pub mod Numbers
+pub mod Order
+pub mod RankLemmas
+pub mod Decisions
+pub mod Stability
+pub mod Reading
+pub mod OpenAfter
+pub mod FinallyOpen
+pub mod FromScratch
+pub mod Passing
+pub mod AfterPass
+pub mod OnePass

@@ -1,0 +1,10 @@
+pub mod Words
+pub mod Components
+pub mod Periods
+pub mod Targets
+pub mod Scratch
+pub mod Marks
+pub mod Reasons
+pub mod Passes
+pub mod Runs
+pub mod Ranked

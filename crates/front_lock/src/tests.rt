@@ -1,3 +1,0 @@
-mod notes;
-mod passes;
-mod threads;

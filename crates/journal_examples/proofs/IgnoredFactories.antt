@@ -1,0 +1,80 @@
+-- Two configurations of a factory whose PID a component has that ignores configurations: it stays one, with no property of theirs.
+use Rattle.std.specs.Prelude.{◌≡◌, refl, ℕ, List, [], ◌∷◌, codes, true, false, Some, None, Ok, Err, pos, negsuc}
+use Rattle.prop_map.specs.declared.value.Value.TheVariants.{Text, Whole, Flag, Texts, Wholes, Flags}
+use Rattle.prop_map.specs.declared.reference_words.Cardinality.TheVariants.{ZeroOrOne, One, ZeroOrMore, OneOrMore}
+use Rattle.prop_map.specs.declared.reference_words.Policy.TheVariants.{Static, Dynamic}
+use Rattle.prop_map.specs.declared.reference_words.PolicyOption.TheVariants.{Reluctant, Greedy}
+use Rattle.component_dto.specs.declared.description.Scope.TheVariants.{Singleton, Bundle as InBundleScope, Prototype}
+use Rattle.component_dto.specs.declared.description.ConfigurationPolicy.TheVariants.{Optional, Require, Ignore}
+use Rattle.bundle_doc.specs.declared.document.BundleDoc.{BundleDoc}
+use Rattle.bundle_life.specs.declared.bundle.BundleEvent.{BundleEvent}
+use Rattle.journal_examples.proofs.Trees.{tree_or_none}
+use Rattle.callback_orders.specs.declared.callback.Callback.TheVariants.{Create, Bind, Updated, Unbind, Activate, Modified, Deactivate, Destroy}
+use Rattle.callback_orders.specs.declared.callback.Outcome.TheVariants.{Done, Refused, NoMemory}
+use Rattle.service_listeners.specs.declared.listener.ServiceEvent.{ServiceEvent}
+use Rattle.scr_world.specs.declared.step.Step.TheVariants.{Command as Commanded, Begin, End, Drained, Got, Released}
+use Rattle.scr_world.specs.declared.command.Command.TheVariants.{Install, Update, Start, Stop, Uninstall, Enable, Disable, Register, Unregister, SetProperties, Get, Unget, Listen, Unlisten, Configure, ConfigureFactory, Unconfigure}
+use Rattle.scr_world.specs.declared.reply.CoreFault.TheVariants.{NoBundle, NoComponent, WrongState, Stopping, SameName, Cycle, BundlesFull, ComponentsFull, ServicesFull, ConfigurationsFull, ListenersFull, NoService, NotOwner, NotUsing, NoListener, NoConfiguration, BadPid, FactoryClash, ActivationFailed, ActivationNoMemory, JournalFull}
+use Rattle.scr_world.specs.declared.reply.Reply.TheVariants.{Done as IsDone, Bundle as InBundle, Service as AsService, Uses as WithUses, Listener as AsListener}
+use Rattle.scr_world.specs.Steps.{History}
+use Rattle.scr_world.specs.declared.world.World.{World}
+use Rattle.journal_examples.proofs.Meanings.{legal_means}
+use Rattle.scr_world.specs.Legal.{IsLegal}
+use Rattle.journal_examples.proofs.Tests.{worlds, legal, begins, states, quiet_ones, right_ones, asked, replies, bundle_events_at_end, events_at_end, held_at_end, found_at_end, wanted_at, bound_at_end, calm_at_end}
+use Rattle.scr_world.specs.Worlds.{satisfied_in}
+use Rattle.scr_world.specs.Room.{has_room}
+use Rattle.scr_world.specs.Consequences.{stage_in, stage_of, stopped_in, stopped_by, shut_between}
+use Rattle.scr_world.specs.Stepping.{world_after_step}
+use Rattle.scr_world.specs.Lists.{world_after_entry, world_of}
+use Rattle.component_state.specs.Components.{component_of, properties_of}
+use Rattle.prop_map.specs.declared.value.Value.{Value}
+use Rattle.prop_map.specs.Maps.{get}
+use Rattle.scr_world.specs.Stepping.{counted_components}
+use Rattle.journal_examples.proofs.Tests.{newest}
+use Rattle.std.specs.Prelude.{Option, length}
+
+abbrev doc1 : BundleDoc
+doc1 = record { location = codes "b"; name = codes "b"; version = record { major = 0; minor = 0; micro = 0; qualifier = [] }; manifest = None; activator = None; descriptions = (record { name = codes "c"; scope = Singleton; implementation_class = codes "K"; default_enabled = true; immediate = true; service_interfaces = []; properties = []; references = []; modified = None; configuration_policy = Ignore; configuration_pids = (codes "m" ∷ []); implicit = false } ∷ []) }
+
+abbrev past0 : History
+past0 = []
+
+abbrev past1 : History
+past1 = record { step = Commanded (Install doc1); closed = []; opened = []; stopped = [] } ∷ past0
+
+abbrev past2 : History
+past2 = record { step = Commanded (Start 1); closed = []; opened = (record { configuration = 1; service = 0 } ∷ []); stopped = [] } ∷ past1
+
+abbrev past3 : History
+past3 = record { step = Commanded (ConfigureFactory (codes "m") (codes "one") (record { key = codes "v"; value = Whole (pos 1) } ∷ [])); closed = []; opened = []; stopped = [] } ∷ past2
+
+abbrev past4 : History
+past4 = record { step = Commanded (ConfigureFactory (codes "m") (codes "two") (record { key = codes "v"; value = Whole (pos 1) } ∷ [])); closed = []; opened = []; stopped = [] } ∷ past3
+
+abbrev all : List World
+all = worlds past4
+
+is_legal : legal 4194304 past4 all ≡ true
+unfolding world_after_entry world_of world_after_step stage_in stage_of stopped_in stopped_by shut_between has_room satisfied_in
+is_legal = refl
+
+stands_legal : IsLegal 4194304 past4
+stands_legal = legal_means 4194304 past4 is_legal
+
+-- it is one component configuration in each world, satisfied
+which_states : states all ≡ (((1, 4) ∷ []) ∷ ((1, 4) ∷ []) ∷ ((1, 4) ∷ []) ∷ [] ∷ [] ∷ [])
+unfolding world_after_entry world_of world_after_step stage_in stage_of stopped_in stopped_by shut_between has_room satisfied_in
+which_states = refl
+
+how_many : length (counted_components (newest all)) ≡ 1
+unfolding world_after_entry world_of world_after_step stage_in stage_of stopped_in stopped_by shut_between has_room satisfied_in
+how_many = refl
+
+-- it has neither their property nor a PID
+no_value : get (properties_of (newest all).components 1) (codes "v") ≡ None
+unfolding world_after_entry world_of world_after_step stage_in stage_of stopped_in stopped_by shut_between has_room satisfied_in
+no_value = refl
+
+no_pid : get (properties_of (newest all).components 1) (codes "service.pid") ≡ None
+unfolding world_after_entry world_of world_after_step stage_in stage_of stopped_in stopped_by shut_between has_room satisfied_in
+no_pid = refl

@@ -1,0 +1,147 @@
+-- A worked example, as an independent model of the platform has it.
+use Rattle.std.specs.Prelude.{◌≡◌, refl, ℕ, List, [], ◌∷◌, codes, true, false, Some, None, Ok, Err, pos, negsuc}
+use Rattle.prop_map.specs.declared.value.Value.TheVariants.{Text, Whole, Flag, Texts, Wholes, Flags}
+use Rattle.prop_map.specs.declared.reference_words.Cardinality.TheVariants.{ZeroOrOne, One, ZeroOrMore, OneOrMore}
+use Rattle.prop_map.specs.declared.reference_words.Policy.TheVariants.{Static, Dynamic}
+use Rattle.prop_map.specs.declared.reference_words.PolicyOption.TheVariants.{Reluctant, Greedy}
+use Rattle.component_dto.specs.declared.description.Scope.TheVariants.{Singleton, Bundle as InBundleScope, Prototype}
+use Rattle.component_dto.specs.declared.description.ConfigurationPolicy.TheVariants.{Optional, Require, Ignore}
+use Rattle.bundle_doc.specs.declared.document.BundleDoc.{BundleDoc}
+use Rattle.bundle_life.specs.declared.bundle.BundleEvent.{BundleEvent}
+use Rattle.journal_examples.proofs.Trees.{tree_or_none}
+use Rattle.callback_orders.specs.declared.callback.Callback.TheVariants.{Create, Bind, Updated, Unbind, Activate, Modified, Deactivate, Destroy}
+use Rattle.callback_orders.specs.declared.callback.Outcome.TheVariants.{Done, Refused, NoMemory}
+use Rattle.service_listeners.specs.declared.listener.ServiceEvent.{ServiceEvent}
+use Rattle.scr_world.specs.declared.step.Step.TheVariants.{Command as Commanded, Begin, End, Drained, Got, Released}
+use Rattle.scr_world.specs.declared.command.Command.TheVariants.{Install, Update, Start, Stop, Uninstall, Enable, Disable, Register, Unregister, SetProperties, Get, Unget, Listen, Unlisten, Configure, ConfigureFactory, Unconfigure}
+use Rattle.scr_world.specs.declared.reply.CoreFault.TheVariants.{NoBundle, NoComponent, WrongState, Stopping, SameName, Cycle, BundlesFull, ComponentsFull, ServicesFull, ConfigurationsFull, ListenersFull, NoService, NotOwner, NotUsing, NoListener, NoConfiguration, BadPid, FactoryClash, ActivationFailed, ActivationNoMemory, JournalFull}
+use Rattle.scr_world.specs.declared.reply.Reply.TheVariants.{Done as IsDone, Bundle as InBundle, Service as AsService, Uses as WithUses, Listener as AsListener}
+use Rattle.scr_world.specs.Steps.{History}
+use Rattle.scr_world.specs.declared.world.World.{World}
+use Rattle.journal_examples.proofs.Meanings.{legal_means}
+use Rattle.scr_world.specs.Legal.{IsLegal}
+use Rattle.journal_examples.proofs.Tests.{worlds, legal, begins, states, quiet_ones, right_ones, asked, replies, bundle_events_at_end, events_at_end, held_at_end, found_at_end, wanted_at, bound_at_end, calm_at_end}
+use Rattle.scr_world.specs.Worlds.{satisfied_in}
+use Rattle.scr_world.specs.Room.{has_room}
+use Rattle.scr_world.specs.Consequences.{stage_in, stage_of, stopped_in, stopped_by, shut_between}
+use Rattle.scr_world.specs.Stepping.{world_after_step}
+use Rattle.scr_world.specs.Lists.{world_after_entry, world_of}
+
+abbrev doc1 : BundleDoc
+doc1 = record { location = (codes "b0"); name = (codes "b0"); version = record { major = 0; minor = 0; micro = 0; qualifier = [] }; manifest = None; activator = None; descriptions = (record { name = (codes "c3"); scope = Singleton; implementation_class = (codes "K"); default_enabled = true; immediate = false; service_interfaces = ((codes "I1") ∷ (codes "J1") ∷ []); properties = (record { key = (codes "v"); value = (Whole (pos 2)) } ∷ []); references = []; modified = (Some (codes "m")); configuration_policy = Optional; configuration_pids = ((codes "q") ∷ (codes "p") ∷ []); implicit = true } ∷ record { name = (codes "c2"); scope = Singleton; implementation_class = (codes "demo.Echo"); default_enabled = true; immediate = false; service_interfaces = ((codes "I1") ∷ (codes "J1") ∷ []); properties = (record { key = (codes "v"); value = (Whole (pos 1)) } ∷ []); references = []; modified = None; configuration_policy = Optional; configuration_pids = ((codes "p") ∷ (codes "c2") ∷ []); implicit = true } ∷ record { name = (codes "c0"); scope = Singleton; implementation_class = (codes "demo.Relay"); default_enabled = false; immediate = true; service_interfaces = ((codes "J0") ∷ []); properties = (record { key = (codes "service.ranking"); value = (Whole (pos 2)) } ∷ record { key = (codes "v"); value = (Whole (pos 0)) } ∷ []); references = (record { name = (codes "next"); interface_name = (codes "X"); cardinality = One; policy = Dynamic; policy_option = Greedy; target = None; updated = None } ∷ []); modified = (Some (codes "m")); configuration_policy = Optional; configuration_pids = ((codes "c0") ∷ []); implicit = true } ∷ []) }
+
+abbrev doc2 : BundleDoc
+doc2 = record { location = (codes "b1"); name = (codes "b1"); version = record { major = 0; minor = 0; micro = 0; qualifier = [] }; manifest = None; activator = None; descriptions = (record { name = (codes "c4"); scope = Singleton; implementation_class = (codes "demo.Echo"); default_enabled = true; immediate = false; service_interfaces = ((codes "I2") ∷ []); properties = (record { key = (codes "v"); value = (Whole (pos 1)) } ∷ []); references = (record { name = (codes "r0"); interface_name = (codes "Y"); cardinality = OneOrMore; policy = Static; policy_option = Greedy; target = None; updated = None } ∷ []); modified = None; configuration_policy = Optional; configuration_pids = ((codes "c4") ∷ []); implicit = true } ∷ record { name = (codes "c5"); scope = Prototype; implementation_class = (codes "demo.Echo"); default_enabled = true; immediate = false; service_interfaces = ((codes "I2") ∷ (codes "J2") ∷ []); properties = (record { key = (codes ".p"); value = (Whole (pos 1)) } ∷ record { key = (codes "service.ranking"); value = (Whole (pos 2)) } ∷ []); references = []; modified = None; configuration_policy = Ignore; configuration_pids = ((codes "c5") ∷ []); implicit = true } ∷ record { name = (codes "c1"); scope = Singleton; implementation_class = (codes "demo.Relay"); default_enabled = true; immediate = true; service_interfaces = ((codes "I0") ∷ (codes "J0") ∷ []); properties = (record { key = (codes "refuse"); value = (Text (codes "unbind")) } ∷ record { key = (codes "service.ranking"); value = (Whole (negsuc 0)) } ∷ record { key = (codes "v"); value = (Whole (pos 2)) } ∷ []); references = (record { name = (codes "next"); interface_name = (codes "Y"); cardinality = OneOrMore; policy = Static; policy_option = Greedy; target = (Some (codes "(v=*)")); updated = None } ∷ []); modified = (Some (codes "m")); configuration_policy = Optional; configuration_pids = ((codes "c1") ∷ []); implicit = true } ∷ record { name = (codes "c7"); scope = Singleton; implementation_class = (codes "demo.Relay"); default_enabled = true; immediate = true; service_interfaces = ((codes "I2") ∷ []); properties = []; references = (record { name = (codes "next"); interface_name = (codes "I0"); cardinality = ZeroOrOne; policy = Static; policy_option = Greedy; target = (Some (codes "(!(v=1))")); updated = None } ∷ []); modified = None; configuration_policy = Optional; configuration_pids = ((codes "p") ∷ (codes "q") ∷ []); implicit = true } ∷ record { name = (codes "c6"); scope = Singleton; implementation_class = (codes "K"); default_enabled = true; immediate = false; service_interfaces = ((codes "I2") ∷ (codes "J2") ∷ []); properties = (record { key = (codes "text"); value = (Text (codes "Tc6")) } ∷ record { key = (codes "v"); value = (Whole (pos 2)) } ∷ []); references = (record { name = (codes "r0"); interface_name = (codes "I1"); cardinality = ZeroOrOne; policy = Dynamic; policy_option = Greedy; target = None; updated = None } ∷ []); modified = (Some (codes "m")); configuration_policy = Require; configuration_pids = ((codes "c6") ∷ []); implicit = true } ∷ []) }
+
+abbrev past0 : History
+past0 = []
+
+abbrev past1 : History
+past1 = record { step = (Commanded (Install doc1)); closed = []; opened = []; stopped = [] } ∷ past0
+
+abbrev past2 : History
+past2 = record { step = (Commanded (Install doc2)); closed = []; opened = []; stopped = [] } ∷ past1
+
+abbrev past3 : History
+past3 = record { step = (Commanded (Start 1)); closed = []; opened = (record { configuration = 1; service = 1 } ∷ record { configuration = 2; service = 2 } ∷ []); stopped = [] } ∷ past2
+
+abbrev past4 : History
+past4 = record { step = (Commanded (Register 1 ((codes "X") ∷ []) (record { key = (codes "service.ranking"); value = (Whole (negsuc 0)) } ∷ []))); closed = []; opened = []; stopped = [] } ∷ past3
+
+abbrev past5 : History
+past5 = record { step = (Commanded (Start 2)); closed = []; opened = (record { configuration = 4; service = 4 } ∷ record { configuration = 6; service = 5 } ∷ []); stopped = [] } ∷ past4
+
+abbrev past6 : History
+past6 = record { step = (Commanded (Register 2 ((codes "Y") ∷ []) (record { key = (codes "service.ranking"); value = (Whole (negsuc 0)) } ∷ []))); closed = []; opened = (record { configuration = 3; service = 7 } ∷ []); stopped = [] } ∷ past5
+
+abbrev past7 : History
+past7 = record { step = (Commanded (Configure (codes "p") (record { key = (codes "r1.cardinality.minimum"); value = (Whole (pos 1)) } ∷ record { key = (codes "service.ranking"); value = (Whole (pos 3)) } ∷ record { key = (codes "v"); value = (Whole (pos 0)) } ∷ []))); closed = []; opened = []; stopped = [] } ∷ past6
+
+abbrev past8 : History
+past8 = record { step = (Commanded (Unconfigure (codes "p"))); closed = []; opened = []; stopped = [] } ∷ past7
+
+abbrev past9 : History
+past9 = record { step = (Begin 1 1 6 0 Create (record { reference = 0; services = [] } ∷ [])); closed = []; opened = []; stopped = [] } ∷ past8
+
+abbrev past10 : History
+past10 = record { step = (End 1 Done); closed = []; opened = []; stopped = [] } ∷ past9
+
+abbrev past11 : History
+past11 = record { step = (Begin 2 1 6 0 Activate []); closed = []; opened = []; stopped = [] } ∷ past10
+
+abbrev past12 : History
+past12 = record { step = (End 2 Done); closed = []; opened = []; stopped = [] } ∷ past11
+
+abbrev all : List World
+all = worlds past12
+
+is_legal : legal 4194304 past12 all ≡ true
+unfolding world_after_entry world_of world_after_step stage_in stage_of stopped_in stopped_by shut_between has_room satisfied_in
+is_legal = refl
+
+stands_legal : IsLegal 4194304 past12
+stands_legal = legal_means 4194304 past12 is_legal
+
+which_begin : begins all ≡ (None ∷ None ∷ (Some (Begin 2 1 6 0 Activate [])) ∷ None ∷ (Some (Begin 1 1 6 0 Create (record { reference = 0; services = [] } ∷ []))) ∷ (Some (Begin 1 1 6 0 Create (record { reference = 0; services = [] } ∷ []))) ∷ (Some (Begin 1 1 6 0 Create (record { reference = 0; services = [] } ∷ []))) ∷ (Some (Begin 1 1 6 0 Create (record { reference = 0; services = [] } ∷ []))) ∷ None ∷ None ∷ None ∷ None ∷ None ∷ [])
+unfolding world_after_entry world_of world_after_step stage_in stage_of stopped_in stopped_by shut_between has_room satisfied_in
+which_begin = refl
+
+which_states : states all ≡ (((1, 4) ∷ (2, 4) ∷ (3, 4) ∷ (4, 4) ∷ (5, 2) ∷ (6, 8) ∷ (7, 1) ∷ []) ∷ ((1, 4) ∷ (2, 4) ∷ (3, 4) ∷ (4, 4) ∷ (5, 2) ∷ (6, 4) ∷ (7, 1) ∷ []) ∷ ((1, 4) ∷ (2, 4) ∷ (3, 4) ∷ (4, 4) ∷ (5, 2) ∷ (6, 4) ∷ (7, 1) ∷ []) ∷ ((1, 4) ∷ (2, 4) ∷ (3, 4) ∷ (4, 4) ∷ (5, 2) ∷ (6, 4) ∷ (7, 1) ∷ []) ∷ ((1, 4) ∷ (2, 4) ∷ (3, 4) ∷ (4, 4) ∷ (5, 2) ∷ (6, 4) ∷ (7, 1) ∷ []) ∷ ((1, 4) ∷ (2, 4) ∷ (3, 4) ∷ (4, 4) ∷ (5, 2) ∷ (6, 4) ∷ (7, 1) ∷ []) ∷ ((1, 4) ∷ (2, 4) ∷ (3, 4) ∷ (4, 4) ∷ (5, 2) ∷ (6, 4) ∷ (7, 1) ∷ []) ∷ ((1, 4) ∷ (2, 4) ∷ (3, 2) ∷ (4, 4) ∷ (5, 2) ∷ (6, 4) ∷ (7, 1) ∷ []) ∷ ((1, 4) ∷ (2, 4) ∷ []) ∷ ((1, 4) ∷ (2, 4) ∷ []) ∷ [] ∷ [] ∷ [] ∷ [])
+unfolding world_after_entry world_of world_after_step stage_in stage_of stopped_in stopped_by shut_between has_room satisfied_in
+which_states = refl
+
+which_quiet : quiet_ones all ≡ (true ∷ false ∷ false ∷ false ∷ false ∷ false ∷ false ∷ false ∷ true ∷ true ∷ true ∷ true ∷ true ∷ [])
+unfolding world_after_entry world_of world_after_step stage_in stage_of stopped_in stopped_by shut_between has_room satisfied_in
+which_quiet = refl
+
+which_right : right_ones all ≡ (true ∷ false ∷ false ∷ false ∷ false ∷ false ∷ false ∷ false ∷ true ∷ true ∷ true ∷ true ∷ true ∷ [])
+unfolding world_after_entry world_of world_after_step stage_in stage_of stopped_in stopped_by shut_between has_room satisfied_in
+which_right = refl
+
+which_wanted : wanted_at all ≡ ((record { configuration = 6; consumer = 0 } ∷ []) ∷ (record { configuration = 6; consumer = 0 } ∷ []) ∷ (record { configuration = 6; consumer = 0 } ∷ []) ∷ (record { configuration = 6; consumer = 0 } ∷ []) ∷ (record { configuration = 6; consumer = 0 } ∷ []) ∷ (record { configuration = 6; consumer = 0 } ∷ []) ∷ (record { configuration = 6; consumer = 0 } ∷ []) ∷ (record { configuration = 6; consumer = 0 } ∷ []) ∷ [] ∷ [] ∷ [] ∷ [] ∷ [] ∷ [])
+unfolding world_after_entry world_of world_after_step stage_in stage_of stopped_in stopped_by shut_between has_room satisfied_in
+which_wanted = refl
+
+which_replies : replies 4194304 all (asked 0 (Install doc1) ∷ asked 1 (Install doc2) ∷ asked 2 (Start 1) ∷ asked 3 (Register 1 ((codes "X") ∷ []) (record { key = (codes "service.ranking"); value = (Whole (negsuc 0)) } ∷ [])) ∷ asked 4 (Start 2) ∷ asked 5 (Register 2 ((codes "Y") ∷ []) (record { key = (codes "service.ranking"); value = (Whole (negsuc 0)) } ∷ [])) ∷ asked 6 (Configure (codes "p") (record { key = (codes "r1.cardinality.minimum"); value = (Whole (pos 1)) } ∷ record { key = (codes "service.ranking"); value = (Whole (pos 3)) } ∷ record { key = (codes "v"); value = (Whole (pos 0)) } ∷ [])) ∷ asked 7 (Unconfigure (codes "p")) ∷ []) ≡ ((Ok (InBundle 1)) ∷ (Ok (InBundle 2)) ∷ (Ok IsDone) ∷ (Ok (AsService 3)) ∷ (Ok IsDone) ∷ (Ok (AsService 6)) ∷ (Ok IsDone) ∷ (Ok IsDone) ∷ [])
+unfolding world_after_entry world_of world_after_step stage_in stage_of stopped_in stopped_by shut_between has_room satisfied_in
+which_replies = refl
+
+bundle_events : bundle_events_at_end all ≡ (record { value = 1; bundle = 1 } ∷ record { value = 1; bundle = 2 } ∷ record { value = 32; bundle = 1 } ∷ record { value = 128; bundle = 1 } ∷ record { value = 2; bundle = 1 } ∷ record { value = 32; bundle = 2 } ∷ record { value = 128; bundle = 2 } ∷ record { value = 2; bundle = 2 } ∷ [])
+unfolding world_after_entry world_of world_after_step stage_in stage_of stopped_in stopped_by shut_between has_room satisfied_in
+bundle_events = refl
+
+held_1 : held_at_end 1 all ≡ []
+unfolding world_after_entry world_of world_after_step stage_in stage_of stopped_in stopped_by shut_between has_room satisfied_in
+held_1 = refl
+
+held_2 : held_at_end 2 all ≡ []
+unfolding world_after_entry world_of world_after_step stage_in stage_of stopped_in stopped_by shut_between has_room satisfied_in
+held_2 = refl
+
+held_3 : held_at_end 3 all ≡ []
+unfolding world_after_entry world_of world_after_step stage_in stage_of stopped_in stopped_by shut_between has_room satisfied_in
+held_3 = refl
+
+held_4 : held_at_end 4 all ≡ []
+unfolding world_after_entry world_of world_after_step stage_in stage_of stopped_in stopped_by shut_between has_room satisfied_in
+held_4 = refl
+
+held_5 : held_at_end 5 all ≡ []
+unfolding world_after_entry world_of world_after_step stage_in stage_of stopped_in stopped_by shut_between has_room satisfied_in
+held_5 = refl
+
+held_6 : held_at_end 6 all ≡ []
+unfolding world_after_entry world_of world_after_step stage_in stage_of stopped_in stopped_by shut_between has_room satisfied_in
+held_6 = refl
+
+held_7 : held_at_end 7 all ≡ []
+unfolding world_after_entry world_of world_after_step stage_in stage_of stopped_in stopped_by shut_between has_room satisfied_in
+held_7 = refl
+
+bound_is : bound_at_end all ≡ 162
+unfolding world_after_entry world_of world_after_step stage_in stage_of stopped_in stopped_by shut_between has_room satisfied_in
+bound_is = refl
+
+calm_is : calm_at_end all ≡ false
+unfolding world_after_entry world_of world_after_step stage_in stage_of stopped_in stopped_by shut_between has_room satisfied_in
+calm_is = refl

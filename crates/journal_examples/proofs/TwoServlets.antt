@@ -1,0 +1,104 @@
+-- Two servlets without components. As an independent model of the platform has it.
+use Rattle.std.specs.Prelude.{◌≡◌, refl, ℕ, List, [], ◌∷◌, codes, true, false, Some, None, Ok, Err, pos, negsuc}
+use Rattle.prop_map.specs.declared.value.Value.TheVariants.{Text, Whole, Flag, Texts, Wholes, Flags}
+use Rattle.prop_map.specs.declared.reference_words.Cardinality.TheVariants.{ZeroOrOne, One, ZeroOrMore, OneOrMore}
+use Rattle.prop_map.specs.declared.reference_words.Policy.TheVariants.{Static, Dynamic}
+use Rattle.prop_map.specs.declared.reference_words.PolicyOption.TheVariants.{Reluctant, Greedy}
+use Rattle.component_dto.specs.declared.description.Scope.TheVariants.{Singleton, Bundle as InBundleScope, Prototype}
+use Rattle.component_dto.specs.declared.description.ConfigurationPolicy.TheVariants.{Optional, Require, Ignore}
+use Rattle.bundle_doc.specs.declared.document.BundleDoc.{BundleDoc}
+use Rattle.bundle_life.specs.declared.bundle.BundleEvent.{BundleEvent}
+use Rattle.journal_examples.proofs.Trees.{tree_or_none}
+use Rattle.callback_orders.specs.declared.callback.Callback.TheVariants.{Create, Bind, Updated, Unbind, Activate, Modified, Deactivate, Destroy}
+use Rattle.callback_orders.specs.declared.callback.Outcome.TheVariants.{Done, Refused, NoMemory}
+use Rattle.service_listeners.specs.declared.listener.ServiceEvent.{ServiceEvent}
+use Rattle.scr_world.specs.declared.step.Step.TheVariants.{Command as Commanded, Begin, End, Drained, Got, Released}
+use Rattle.scr_world.specs.declared.command.Command.TheVariants.{Install, Update, Start, Stop, Uninstall, Enable, Disable, Register, Unregister, SetProperties, Get, Unget, Listen, Unlisten, Configure, ConfigureFactory, Unconfigure}
+use Rattle.scr_world.specs.declared.reply.CoreFault.TheVariants.{NoBundle, NoComponent, WrongState, Stopping, SameName, Cycle, BundlesFull, ComponentsFull, ServicesFull, ConfigurationsFull, ListenersFull, NoService, NotOwner, NotUsing, NoListener, NoConfiguration, BadPid, FactoryClash, ActivationFailed, ActivationNoMemory, JournalFull}
+use Rattle.scr_world.specs.declared.reply.Reply.TheVariants.{Done as IsDone, Bundle as InBundle, Service as AsService, Uses as WithUses, Listener as AsListener}
+use Rattle.scr_world.specs.Steps.{History}
+use Rattle.scr_world.specs.declared.world.World.{World}
+use Rattle.journal_examples.proofs.Meanings.{legal_means}
+use Rattle.scr_world.specs.Legal.{IsLegal}
+use Rattle.journal_examples.proofs.Tests.{worlds, legal, begins, states, quiet_ones, right_ones, asked, replies, bundle_events_at_end, events_at_end, held_at_end, found_at_end, wanted_at, bound_at_end, calm_at_end}
+use Rattle.scr_world.specs.Worlds.{satisfied_in}
+use Rattle.scr_world.specs.Room.{has_room}
+use Rattle.scr_world.specs.Consequences.{stage_in, stage_of, stopped_in, stopped_by, shut_between}
+use Rattle.scr_world.specs.Stepping.{world_after_step}
+use Rattle.scr_world.specs.Lists.{world_after_entry, world_of}
+
+abbrev doc1 : BundleDoc
+doc1 = record { location = (codes "d"); name = (codes "d"); version = record { major = 0; minor = 0; micro = 0; qualifier = [] }; manifest = None; activator = None; descriptions = [] }
+
+abbrev past0 : History
+past0 = []
+
+abbrev past1 : History
+past1 = record { step = (Commanded (Install doc1)); closed = []; opened = []; stopped = [] } ∷ past0
+
+abbrev past2 : History
+past2 = record { step = (Commanded (Start 1)); closed = []; opened = []; stopped = [] } ∷ past1
+
+abbrev past3 : History
+past3 = record { step = (Commanded (Register 1 ((codes "javax.servlet.Servlet") ∷ []) (record { key = (codes "osgi.http.whiteboard.servlet.pattern"); value = (Text (codes "/d")) } ∷ []))); closed = []; opened = []; stopped = [] } ∷ past2
+
+abbrev past4 : History
+past4 = record { step = (Begin 1 0 0 0 (Bind (codes "servlets") 1) []); closed = []; opened = []; stopped = [] } ∷ past3
+
+abbrev past5 : History
+past5 = record { step = (End 1 Done); closed = []; opened = []; stopped = [] } ∷ past4
+
+abbrev past6 : History
+past6 = record { step = (Commanded (Register 1 ((codes "javax.servlet.Servlet") ∷ []) (record { key = (codes "osgi.http.whiteboard.servlet.pattern"); value = (Texts ((codes "/d") ∷ (codes "x") ∷ [])) } ∷ []))); closed = []; opened = []; stopped = [] } ∷ past5
+
+abbrev past7 : History
+past7 = record { step = (Begin 2 0 0 0 (Bind (codes "servlets") 2) []); closed = []; opened = []; stopped = [] } ∷ past6
+
+abbrev past8 : History
+past8 = record { step = (End 2 Done); closed = []; opened = []; stopped = [] } ∷ past7
+
+abbrev all : List World
+all = worlds past8
+
+is_legal : legal 4194304 past8 all ≡ true
+unfolding world_after_entry world_of world_after_step stage_in stage_of stopped_in stopped_by shut_between has_room satisfied_in
+is_legal = refl
+
+stands_legal : IsLegal 4194304 past8
+stands_legal = legal_means 4194304 past8 is_legal
+
+which_begin : begins all ≡ (None ∷ None ∷ (Some (Begin 2 0 0 0 (Bind (codes "servlets") 2) [])) ∷ None ∷ None ∷ (Some (Begin 1 0 0 0 (Bind (codes "servlets") 1) [])) ∷ None ∷ None ∷ None ∷ [])
+unfolding world_after_entry world_of world_after_step stage_in stage_of stopped_in stopped_by shut_between has_room satisfied_in
+which_begin = refl
+
+which_states : states all ≡ ([] ∷ [] ∷ [] ∷ [] ∷ [] ∷ [] ∷ [] ∷ [] ∷ [] ∷ [])
+unfolding world_after_entry world_of world_after_step stage_in stage_of stopped_in stopped_by shut_between has_room satisfied_in
+which_states = refl
+
+which_quiet : quiet_ones all ≡ (true ∷ false ∷ false ∷ true ∷ false ∷ false ∷ true ∷ true ∷ true ∷ [])
+unfolding world_after_entry world_of world_after_step stage_in stage_of stopped_in stopped_by shut_between has_room satisfied_in
+which_quiet = refl
+
+which_right : right_ones all ≡ (true ∷ true ∷ false ∷ true ∷ true ∷ false ∷ true ∷ true ∷ true ∷ [])
+unfolding world_after_entry world_of world_after_step stage_in stage_of stopped_in stopped_by shut_between has_room satisfied_in
+which_right = refl
+
+which_wanted : wanted_at all ≡ ([] ∷ [] ∷ [] ∷ [] ∷ [] ∷ [] ∷ [] ∷ [] ∷ [] ∷ [])
+unfolding world_after_entry world_of world_after_step stage_in stage_of stopped_in stopped_by shut_between has_room satisfied_in
+which_wanted = refl
+
+which_replies : replies 4194304 all (asked 0 (Install doc1) ∷ asked 1 (Start 1) ∷ asked 2 (Register 1 ((codes "javax.servlet.Servlet") ∷ []) (record { key = (codes "osgi.http.whiteboard.servlet.pattern"); value = (Text (codes "/d")) } ∷ [])) ∷ asked 5 (Register 1 ((codes "javax.servlet.Servlet") ∷ []) (record { key = (codes "osgi.http.whiteboard.servlet.pattern"); value = (Texts ((codes "/d") ∷ (codes "x") ∷ [])) } ∷ [])) ∷ []) ≡ ((Ok (InBundle 1)) ∷ (Ok IsDone) ∷ (Ok (AsService 1)) ∷ (Ok (AsService 2)) ∷ [])
+unfolding world_after_entry world_of world_after_step stage_in stage_of stopped_in stopped_by shut_between has_room satisfied_in
+which_replies = refl
+
+bundle_events : bundle_events_at_end all ≡ (record { value = 1; bundle = 1 } ∷ record { value = 32; bundle = 1 } ∷ record { value = 128; bundle = 1 } ∷ record { value = 2; bundle = 1 } ∷ [])
+unfolding world_after_entry world_of world_after_step stage_in stage_of stopped_in stopped_by shut_between has_room satisfied_in
+bundle_events = refl
+
+bound_is : bound_at_end all ≡ 30
+unfolding world_after_entry world_of world_after_step stage_in stage_of stopped_in stopped_by shut_between has_room satisfied_in
+bound_is = refl
+
+calm_is : calm_at_end all ≡ true
+unfolding world_after_entry world_of world_after_step stage_in stage_of stopped_in stopped_by shut_between has_room satisfied_in
+calm_is = refl

@@ -1,6 +1,0 @@
-mod documents;
-mod endings;
-mod installs;
-mod lines;
-mod runs;
-mod turns;

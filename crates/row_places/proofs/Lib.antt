@@ -1,0 +1,2 @@
+pub mod RowOrderLaws
+pub mod RowPlaceLaws

@@ -1,0 +1,2 @@
+pub mod NumberedKinds
+pub mod Desktops

@@ -1,0 +1,25 @@
+//! Tests of the rules: the order of callbacks, component code, turns, and the first core. Component code and a desk for
+//! tests stand here too.
+#![tactic(auto)]
+
+#[cfg(test)]
+mod callbacks;
+#[cfg(test)]
+mod cores;
+#[cfg(test)]
+mod demonstrations;
+#[cfg(test)]
+mod due_callbacks;
+mod memory_desk;
+#[cfg(test)]
+mod nested_calls;
+mod numbered_kind;
+#[cfg(test)]
+mod passes;
+#[cfg(test)]
+mod samples;
+#[cfg(test)]
+mod turns;
+
+pub use memory_desk::{Ended, Held, MemoryDesk};
+pub use numbered_kind::{Numbered, NumberedKind, Relay};

@@ -1,0 +1,191 @@
+//! A desk in memory, for tests.
+ghost use Rattle.std.specs.Prelude.{◌≡◌, ◌==◌, ℕ, [], None, not, false, true, is_some, OnOk, OnErr, IfErr, MatchOption};
+ghost use Rattle.rule_tests.specs.Desktops.{Begins, EndsAs, Posts, is_due, is_holder, fits, with_number};
+ghost use Rattle.turn_runner.specs.Outcomes.{IsRunOf, has_object_after, is_destroy_of};
+
+use callback_orders::Outcome;
+use prop_map::{Copies, OutOfMemory};
+use std::alloc::{AllocError, Global};
+use std::collections::VecDeque;
+use std::marker::Model;
+use std::sync::Arc;
+use turn_runner::{Desk, DeskFault, Ran, TurnWork};
+
+/// How a turn of a desk in memory ended.
+#[derive(Clone, Copy, Debug, PartialEq, Eq, Drop)]
+pub struct Ended {
+    /// The number of the turn.
+    pub number: u64,
+    /// How it ended.
+    pub outcome: Outcome,
+}
+
+/// The object of an instance.
+#[derive(Drop)]
+pub struct Held<O> {
+    /// The number of the instance.
+    pub instance: u64,
+    /// Its object.
+    pub object: Arc<O>,
+}
+
+/// A desk in memory, for tests: it has turns to come, of which the first is due as long as no turn is under way and its instance
+/// has an object exactly where it needs one. A given number of turns may begin.
+#[derive(Drop)]
+pub struct MemoryDesk<O> {
+    coming: VecDeque<TurnWork>,
+    room: u64,
+    under_way: Option<TurnWork>,
+    held: Vec<Held<O>>,
+    ended: Vec<Ended>,
+    drain: bool,
+}
+
+impl<O> Model for MemoryDesk<O> {
+    ghost use Rattle.rule_tests.specs.Desktops.{Desktop};
+
+    ghost Value = { Desktop O };
+
+    ghost view = { λ d. record { coming = d.coming.items; room = d.room; under_way = d.under_way; held = d.held.items; ended = d.ended.items; drain = d.drain } };
+}
+
+fn is_holder<O>(held: &[Held<O>], instance: u64) -> bool
+    ensures { result ≡ is_holder held.now instance }
+{
+    held.iter().any(|one| one.instance == instance)
+}
+
+// Who holds the object of an instance.
+fn find<O>(held: &[Held<O>], instance: u64) -> Option<&Held<O>>
+    ensures some { is_some result ≡ is_holder held.now instance }
+    ensures own { MatchOption result (Unit {0}) (λ one. one.now.instance ≡ instance) }
+{
+    for one in held {
+        if one.instance == instance {
+            return Some(one);
+        }
+    }
+    None
+}
+
+impl<O> MemoryDesk<O> {
+    /// A desk with these turns to come, the first one first, of which so many may begin. It has no objects.
+    pub fn new(alloc: Global, coming: VecDeque<TurnWork>, room: u64) -> MemoryDesk<O>
+        ensures { result ≡ record { coming = coming.items; room = room; under_way = None; held = []; ended = []; drain = true } }
+    {
+        MemoryDesk {
+            coming,
+            room,
+            under_way: None,
+            held: Vec::new(alloc),
+            ended: Vec::new(alloc),
+            drain: true,
+        }
+    }
+
+    /// The turns that ended, the first one first.
+    pub fn ended(&self) -> &[Ended]
+        ensures { result.now ≡ self.now.ended }
+    {
+        self.ended.as_slice()
+    }
+
+    fn fits(&self, work: &TurnWork) -> bool
+        ensures { result ≡ fits self.now.held work.now }
+    {
+        is_holder(self.held.as_slice(), work.instance) == work.needs_object()
+    }
+
+    fn is_due(&self) -> bool
+        ensures { result ≡ is_due self.now }
+    {
+        if self.under_way.is_some() {
+            return false;
+        }
+        match self.coming.front() {
+            Some(work) => self.fits(work),
+            None => false,
+        }
+    }
+}
+
+impl<O: Drop> Desk<O> for MemoryDesk<O> {
+    ghost has_due = { is_due };
+
+    ghost has_room = { λ d. not (d.room == 0) };
+
+    ghost has_drain = { λ d. d.drain };
+
+    ghost running = { λ d number. with_number number d.under_way };
+
+    ghost has_object = { λ d instance. is_holder d.held instance };
+
+    ghost begins = { Begins };
+
+    ghost ends = { EndsAs };
+
+    ghost posts = { Posts };
+
+    fn take(&mut self, alloc: Global) -> Result<Option<TurnWork>, DeskFault> {
+        if !self.is_due() {
+            return Ok(None);
+        }
+        if self.room == 0 {
+            return Err(DeskFault::JournalFull);
+        }
+        let kept = match self.coming.front() {
+            Some(work) => work.copy(alloc)?,
+            None => unreachable!(),
+        };
+        let taken = self.coming.pop_front();
+        self.under_way = Some(kept);
+        self.room -= 1;
+        Ok(taken)
+    }
+
+    fn due(&self, _alloc: Global) -> Result<bool, OutOfMemory> {
+        Ok(self.is_due())
+    }
+
+    fn object(&self, _alloc: Global, instance: u64) -> Result<Option<Arc<O>>, OutOfMemory> {
+        match find(self.held.as_slice(), instance) {
+            Some(one) => Ok(Some(Arc::try_clone(&one.object)?)),
+            None => Ok(None),
+        }
+    }
+
+    #[tactic(auto, using(crate::proofs::Holders::holder_more))]
+    fn put_back(
+        &mut self,
+        _alloc: Global,
+        number: u64,
+        ran: Ran<O>,
+    ) -> Result<(), (Ran<O>, OutOfMemory)>
+        requires { IsRunOf (with_number number self.old.under_way) ran.outcome (is_some ran.made) }
+        ensures ok { OnOk result (EndsAs self.old number ran.outcome self.new) }
+        ensures ended { OnOk result (with_number number self.new.under_way ≡ None) }
+        ensures objects { OnOk result ((instance : ℕ) → is_destroy_of (with_number number self.old.under_way) instance ≡ false → is_holder self.new.held instance ≡ has_object_after (with_number number self.old.under_way) (is_some ran.made) (λ other. is_holder self.old.held other) instance) }
+        ensures err { OnErr result (self.new ≡ self.old) }
+        ensures back { IfErr result (λ e. e.0 ≡ ran) }
+    {
+        if self.held.reserve(1).is_err() || self.ended.reserve(1).is_err() {
+            return Err((ran, AllocError));
+        }
+        let Ran { outcome, made } = ran;
+        let instance = match self.under_way.take() {
+            Some(work) => work.instance,
+            None => unreachable!(),
+        };
+        if let Some(object) = made {
+            self.held.push_reserved(Held { instance, object });
+        }
+        self.ended.push_reserved(Ended { number, outcome });
+        self.drain = true;
+        Ok(())
+    }
+
+    fn post(&mut self, _alloc: Global) -> Result<(), OutOfMemory> {
+        self.drain = false;
+        Ok(())
+    }
+}

@@ -1,5 +1,0 @@
-use Rattle.scr_core.proofs.GateKeyLaws.{keys_differ_in}
-use Rattle.scr_core.proofs.gate_keys.note_gate_keys.Goals as goal
-
-pub returns : goal.returns
-returns c = keys_differ_in

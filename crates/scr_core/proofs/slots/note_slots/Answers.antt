@@ -1,5 +1,0 @@
-use Rattle.scr_core.proofs.SlotLaws.{slots_differ_in}
-use Rattle.scr_core.proofs.slots.note_slots.Goals as goal
-
-pub returns : goal.returns
-returns c = slots_differ_in

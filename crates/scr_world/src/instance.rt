@@ -1,0 +1,74 @@
+//! Living instances (OSGi Compendium 8, chapter 112, "Component Life Cycle").
+use callback_orders::Called;
+use component_state::Origin;
+use prop_map::{Copies, List, OutOfMemory, Properties, Str};
+use std::alloc::Global;
+
+/// The revision of a service that an instance was told of last.
+#[derive(Debug, PartialEq, Eq, Drop)]
+pub struct ToldRevision {
+    /// The name of the reference.
+    pub reference: Str,
+    /// The number of the service.
+    pub service: u64,
+    /// The service's revision when its Bind or its last Updated began.
+    pub revision: u64,
+}
+
+impl Copies for ToldRevision {
+    fn copy(&self, alloc: Global) -> Result<ToldRevision, OutOfMemory> {
+        Ok(ToldRevision {
+            reference: self.reference.copy(alloc)?,
+            service: self.service,
+            revision: self.revision,
+        })
+    }
+}
+
+/// A living instance.
+#[derive(Debug, PartialEq, Eq, Drop)]
+pub struct Instance {
+    /// Its number, from 1 on, in the order in which they are made. The whiteboard's has the number 0.
+    pub number: u64,
+    /// The number of the bundle that it was made for, 0 where it is for all.
+    pub consumer: u64,
+    /// The number of its service, 0 where it has none.
+    pub service: u64,
+    /// The slot of its gate, the lowest that was free at its Create.
+    pub slot: u64,
+    /// How often the gate of its slot had been opened when it became active, 0 before.
+    pub generation: u64,
+    /// The drain of its gate is posted.
+    pub drained: bool,
+    /// The number of the last turn that told it of a callback.
+    pub turn: u64,
+    /// Its component configuration, its Create and its choices.
+    pub origin: Origin,
+    /// Its callbacks so far.
+    pub callbacks: List<Called>,
+    /// The properties that it took when its Create or its last Modified began.
+    pub properties: Properties,
+    /// The place of the entry in which that callback began.
+    pub properties_taken_at: u64,
+    /// What it was told last of each service that is bound and not being unbound.
+    pub told_revisions: List<ToldRevision>,
+}
+
+impl Copies for Instance {
+    fn copy(&self, alloc: Global) -> Result<Instance, OutOfMemory> {
+        Ok(Instance {
+            number: self.number,
+            consumer: self.consumer,
+            service: self.service,
+            slot: self.slot,
+            generation: self.generation,
+            drained: self.drained,
+            turn: self.turn,
+            origin: self.origin.copy(alloc)?,
+            callbacks: self.callbacks.copy(alloc)?,
+            properties: self.properties.copy(alloc)?,
+            properties_taken_at: self.properties_taken_at,
+            told_revisions: self.told_revisions.copy(alloc)?,
+        })
+    }
+}

@@ -1,0 +1,23 @@
+//! What the journal of a platform says: the types of commands, steps, replies and of the world, and all definitions of the journal.
+//! There is no other code here.
+#![tactic(auto)]
+
+mod command;
+mod contents;
+mod instance;
+mod lines;
+mod marks;
+mod reply;
+mod step;
+mod turn;
+mod world;
+
+pub use command::{Command, Limits};
+pub use contents::Contents;
+pub use instance::{Instance, ToldRevision};
+pub use lines::{BundleLine, ComponentLine, HeldLine, TurnLine};
+pub use marks::{Failure, Token};
+pub use reply::{Accepted, CoreFault, Reply};
+pub use step::Step;
+pub use turn::Ended;
+pub use world::World;

@@ -1,0 +1,13 @@
+//! Listeners of service events (OSGi Core 8, chapter 5 "Service Layer", "Service Events"): each is told what happens to
+//! the services that its filter matches.
+#![tactic(auto)]
+
+mod listen_fault;
+mod listener;
+mod rows;
+mod table;
+mod telling;
+
+pub use listen_fault::ListenFault;
+pub use listener::{Listener, ServiceEvent};
+pub use table::Listeners;

@@ -1,0 +1,54 @@
+//! The rows of listeners, found by their numbers, and told one after another.
+ghost use Rattle.service_listeners.specs.Listening.{with_changes};
+ghost use Rattle.service_listeners.specs.Numbers.{AreRising, has_number};
+ghost use Rattle.service_listeners.specs.declared.listener.Listener.{Listener};
+ghost use Rattle.row_places.specs.RowPlaces.{IsOnlyPlace};
+ghost use Rattle.std.specs.Option.{option_copied};
+ghost use Rattle.std.specs.Prelude.{◌≡◌, ◌≤◌, ◌==◌, ◌++◌, [], ◌∷◌, drop, filter, length, map, not, take, OnErr, OnOk};
+
+use crate::Listener;
+use crate::telling::{tell_one, untell_one};
+use prop_map::OutOfMemory;
+use service_registry::ServiceRow;
+use std::alloc::Global;
+
+/// The place of the listener of a number.
+pub(crate) fn place_of(rows: &[Listener], number: u64) -> Option<usize>
+    requires { AreRising rows.now }
+    ensures { IsOnlyPlace (has_number number) result rows.now }
+{
+    rows.binary_search_by(|listener| listener.number.cmp(&number))
+        .ok()
+}
+
+/// Tells the listeners from a place on of a change: all, or, where there is no memory, none.
+pub(crate) fn tell_from(
+    rows: &mut [Listener],
+    at: usize,
+    alloc: Global,
+    before: Option<&ServiceRow>,
+    after: Option<&ServiceRow>,
+) -> Result<(), OutOfMemory>
+    requires { at ≤ length rows.old }
+    ensures ok { OnOk result (rows.new ≡ take at rows.old ++ map (with_changes ((option_copied before.entry, option_copied after.entry) ∷ [])) (drop at rows.old)) }
+    ensures err { OnErr result (rows.new ≡ rows.old) }
+{
+    if at == rows.len() {
+        return Ok(());
+    }
+    tell_one(&mut rows[at], before, after)?;
+    match tell_from(rows, at + 1, alloc, before, after) {
+        Ok(()) => Ok(()),
+        Err(fault) => {
+            untell_one(&mut rows[at], alloc, before, after);
+            Err(fault)
+        }
+    }
+}
+
+/// Leaves out the listeners of a bundle.
+pub(crate) fn keep_others(rows: &mut Vec<Listener>, bundle: u64)
+    ensures { rows.new.items ≡ filter (λ (l : Listener). not (l.bundle == bundle)) rows.old.items }
+{
+    rows.retain(|listener| listener.bundle != bundle);
+}

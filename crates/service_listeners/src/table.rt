@@ -1,0 +1,172 @@
+//! The table of listeners.
+ghost use Rattle.ldap_filter.specs.Trees.{Tree};
+ghost use Rattle.service_listeners.specs.Listening.{after_changes, after_listen, after_unlisten, listener_of, no_listeners, without_listeners_of};
+ghost use Rattle.service_listeners.specs.Refusals.{IsRefusedBy, listen_refusal, no_listener};
+ghost use Rattle.service_listeners.specs.declared.listener.Listener.{Listener};
+ghost use Rattle.std.specs.Option.{option_copied, option_map_or};
+ghost use Rattle.std.specs.Prelude.{◌≡◌, ◌≤◌, ◌+◌, ◌↔◌, [], ◌∷◌, drop, length, IfOk, IsTrue, OnErr, OnOk};
+
+use crate::rows::{keep_others, place_of, tell_from};
+use crate::{ListenFault, Listener, ServiceEvent};
+use ldap_filter::Filter;
+use prop_map::{List, OutOfMemory};
+use service_registry::ServiceRow;
+use std::alloc::{AllocError, Global};
+use std::marker::Model;
+
+/// The listeners, and what each was told.
+#[derive(Drop)]
+pub struct Listeners {
+    rows: Vec<Listener>,
+    numbered: u64,
+}
+
+impl Model for Listeners {
+    ghost use Rattle.service_listeners.specs.Listening.{ListenerTable};
+    ghost use Rattle.service_listeners.specs.Numbers.{AreNumbered};
+
+    ghost Value = { ListenerTable };
+
+    ghost use Rattle.std.specs.Coded.{codes};
+    ghost use Rattle.ldap_filter.specs.TreeCodes.{tree_code};
+
+    ghost coded = { Prim.hlevel (codes, tree_code) };
+
+    ghost view = { λ l. record { rows = l.rows.items; numbered = l.numbered } };
+
+    ghost invariant = { λ l. AreNumbered l.numbered l.rows.items };
+}
+
+impl Listeners {
+    /// A table without listeners.
+    pub fn new(alloc: Global) -> Result<Listeners, OutOfMemory>
+        ensures { IfOk result (λ listeners. listeners ≡ no_listeners) }
+    {
+        Ok(Listeners {
+            rows: Vec::new(alloc),
+            numbered: 0,
+        })
+    }
+
+    /// The listeners, by number.
+    pub fn rows(&self) -> &[Listener]
+        ensures { result.now ≡ self.now.rows }
+    {
+        self.rows.as_slice()
+    }
+
+    /// The listener of a number.
+    pub fn listener(&self, number: u64) -> Option<&Listener>
+        ensures { option_copied result ≡ listener_of self.now.rows number }
+    {
+        match place_of(self.rows.as_slice(), number) {
+            Some(place) => Some(&self.rows[place]),
+            None => None,
+        }
+    }
+
+    /// Whether there are 64 listeners.
+    pub fn is_full(&self) -> bool
+        ensures { IsTrue result ↔ (64 ≤ length self.now.rows) }
+    {
+        self.rows.len() >= 64
+    }
+
+    /// Adds a listener of a bundle, under the next number. It was told of nothing yet.
+    ///
+    /// # Errors
+    /// `ListenersFull` where there are 64.
+    pub fn listen(&mut self, alloc: Global, bundle: u64, filter: Filter) -> Result<u64, ListenFault>
+        ensures number { IfOk result (λ number. number ≡ self.old.numbered + 1) }
+        ensures ok { OnOk result (self.new ≡ after_listen bundle filter self.old) }
+        ensures refused { IsRefusedBy (listen_refusal self.old) result }
+        ensures err { OnErr result (self.new ≡ self.old) }
+    {
+        if self.is_full() {
+            return Err(ListenFault::ListenersFull);
+        }
+        let number = self.numbered.checked_add(1).ok_or(AllocError)?;
+        self.rows.reserve(1)?;
+        self.rows.push_reserved(Listener {
+            number,
+            bundle,
+            filter,
+            events: List::of(Vec::new(alloc)),
+        });
+        self.numbered = number;
+        Ok(number)
+    }
+
+    /// Removes a listener. Its number isn't given again.
+    ///
+    /// # Errors
+    /// `NoListener` where there is none of this number.
+    pub fn unlisten(&mut self, listener: u64) -> Result<(), ListenFault>
+        ensures ok { OnOk result (self.new ≡ after_unlisten listener self.old) }
+        ensures refused { IsRefusedBy (no_listener listener self.old) result }
+        ensures err { OnErr result (self.new ≡ self.old) }
+    {
+        match place_of(self.rows.as_slice(), listener) {
+            Some(place) => {
+                let _row = self.rows.remove(place);
+                Ok(())
+            }
+            None => Err(ListenFault::NoListener { listener }),
+        }
+    }
+
+    /// Removes the listeners of a bundle.
+    pub fn remove_listeners_of(&mut self, bundle: u64)
+        ensures { self.new ≡ without_listeners_of bundle self.old }
+    {
+        keep_others(&mut self.rows, bundle);
+    }
+
+    /// Tells each listener what happened to a service: it came (no `before`), it left (no `after`), or its properties
+    /// were set. A listener is told REGISTERED 1 and UNREGISTERING 4 where its filter matches the properties, MODIFIED 2
+    /// where it matches the new ones, and MODIFIED_ENDMATCH 8 where it matches the old ones alone.
+    ///
+    /// # Errors
+    /// Only want of memory. No listener was told then.
+    pub fn tell(
+        &mut self,
+        alloc: Global,
+        before: Option<&ServiceRow>,
+        after: Option<&ServiceRow>,
+    ) -> Result<(), OutOfMemory>
+        ensures ok { OnOk result (self.new ≡ after_changes ((option_copied before.entry, option_copied after.entry) ∷ []) self.old) }
+        ensures err { OnErr result (self.new ≡ self.old) }
+    {
+        match tell_from(&mut self.rows, 0, alloc, before, after) {
+            Ok(()) => Ok(()),
+            Err(fault) => Err(fault),
+        }
+    }
+
+    /// What a listener was told behind the first `position` events; nothing where there are no more. It takes no memory.
+    ///
+    /// # Errors
+    /// `NoListener` where there is none of this number.
+    pub fn events_since(
+        &self,
+        listener: u64,
+        position: usize,
+    ) -> Result<&[ServiceEvent], ListenFault>
+        ensures events { IfOk result (λ events. events.now ≡ drop position (option_map_or (λ (l : Listener). l.events) (listener_of self.now.rows listener) [])) }
+        ensures refused { IsRefusedBy (no_listener listener self.now) result }
+    {
+        match self.listener(listener) {
+            Some(row) => Ok(events_behind(row.events.as_slice(), position)),
+            None => Err(ListenFault::NoListener { listener }),
+        }
+    }
+}
+
+fn events_behind(events: &[ServiceEvent], position: usize) -> &[ServiceEvent]
+    ensures { result.now ≡ drop position events.now }
+{
+    if position < events.len() {
+        return &events[position..];
+    }
+    &events[events.len()..]
+}

@@ -1,0 +1,7 @@
+use Rattle.std.proofs.Common.{◌≡◌, ap, ◌∙◌}
+use Rattle.std.specs.Ordering.{is_lt, ordering_then}
+use Rattle.service_registry.proofs.RankOrder.{is_before}
+use Rattle.service_registry.proofs.best_first.rank_order.Goals as goal
+
+pub returns : goal.returns
+returns c = ap is_lt (c.then.ensures ∙ (λ i. ordering_then (c.cmp.ensures i) (c.cmp-2.ensures i))) ∙ is_before c.args.a.now c.args.b.now

@@ -1,0 +1,16 @@
+//! Tests of the platform and of its shell.
+#![tactic(auto)]
+
+#[cfg(test)]
+mod platforms;
+#[cfg(test)]
+mod samples;
+#[cfg(test)]
+mod script_runs;
+#[cfg(test)]
+mod shell_texts;
+#[cfg(test)]
+mod watched_turns;
+mod watching;
+
+pub use watching::{Watched, Watching};
