@@ -20,3 +20,6 @@ pub mod AfterPass
 pub mod FromScratch
 pub mod Passing
 pub mod OnePass
+pub mod ByNeeds
+pub mod Published
+pub mod OpenIsScratch
