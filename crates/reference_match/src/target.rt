@@ -73,7 +73,8 @@ fn spelled_filter(alloc: Global, text: &str) -> Result<Option<Filter>, OutOfMemo
 {
     match Filter::parse(alloc, text) {
         Ok(filter) => Ok(Some(filter)),
-        Err(FilterFault::BadFilter { .. } | FilterFault::TooDeep { .. }) => Ok(None),
+        Err(FilterFault::BadFilter { .. }) => Ok(None),
+        Err(FilterFault::TooDeep { .. }) => Ok(None),
         Err(FilterFault::OutOfMemory) => Err(AllocError),
     }
 }

@@ -18,7 +18,8 @@ pub fn targets(alloc: Global, need: &Need, rows: &[ServiceRow]) -> Result<Vec<u6
 {
     let mut found = Vec::new(alloc);
     add_meeting(&mut found, need, rows)?;
-    numbers_best_first(alloc, found)
+    let numbers = numbers_best_first(alloc, found)?;
+    Ok(numbers)
 }
 
 /// The same among direct services and those of open periods, which stand in lists of their own.
@@ -36,7 +37,8 @@ pub fn standing_targets<R: HasRow>(
     let mut found = Vec::new(alloc);
     add_meeting(&mut found, need, direct)?;
     add_registered(&mut found, need, opened)?;
-    numbers_best_first(alloc, found)
+    let numbers = numbers_best_first(alloc, found)?;
+    Ok(numbers)
 }
 
 fn add_meeting(found: &mut Vec<Ranked>, need: &Need, rows: &[ServiceRow]) -> Result<(), OutOfMemory>
