@@ -5,7 +5,7 @@ pub returns-in-Ok : goal.returns-in-Ok
 returns-in-Ok c = spelled c.args.text.now c.in-Ok.filter c.in-Ok.ensures
 
 pub returns-in-Err-BadFilter : goal.returns-in-Err-BadFilter
-returns-in-Err-BadFilter c = not_spelled c.args.text.now c.in-Err-BadFilter.at c.in-Err-BadFilter.ended c.in-Err-BadFilter.ensures
+returns-in-Err-BadFilter c = not_spelled c.args.text.now c.in-Err-BadFilter.field-0 c.in-Err-BadFilter.field-0-0 c.in-Err-BadFilter.field-0-1 c.in-Err-BadFilter.field-0-is c.in-Err-BadFilter.ensures
 
 pub returns-in-Err-TooDeep : goal.returns-in-Err-TooDeep
-returns-in-Err-TooDeep c = too_deep c.args.text.now c.in-Err-TooDeep.at c.in-Err-TooDeep.ensures
+returns-in-Err-TooDeep c = too_deep c.args.text.now c.in-Err-TooDeep.field-0 c.in-Err-TooDeep.field-0-0 c.in-Err-TooDeep.field-0-is c.in-Err-TooDeep.ensures
