@@ -1,5 +1,5 @@
 -- Services that were found one after the other.
-use Rattle.std.proofs.Common.{◌≡◌, ◌<◌, ◌≤◌, ◌+◌, ◌-◌, ap, sym, ◌∙◌, refl, subst, cond, arith, ℕ, List, [], ◌∷◌, ◌++◌, Bool, true, false, length, take, drop, get_or, length-append}
+use Rattle.std.proofs.Common.{◌≡◌, ◌<◌, ◌≤◌, ◌+◌, ◌-◌, ap, sym, ◌∙◌, cond, arith, ℕ, List, [], ◌∷◌, ◌++◌, Bool, true, false, length, take, drop, get_or, length-append}
 use Rattle.std.proofs.lemmas.Bool.Decides.{nat_tests}
 use Rattle.std.proofs.lemmas.List.{map-append, take-append-drop, take_more}
 use Rattle.std.proofs.lemmas.List.Elements.{filter-append}

@@ -1,4 +1,3 @@
-use Rattle.std.proofs.Common.{◌≡◌}
 use Rattle.reference_match.proofs.Found.{met}
 use Rattle.reference_match.proofs.minimum.is_met.Goals as goal
 

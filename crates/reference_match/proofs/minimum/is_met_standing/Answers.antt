@@ -1,4 +1,4 @@
-use Rattle.std.proofs.Common.{◌≡◌, map}
+use Rattle.std.proofs.Common.{map}
 use Rattle.reference_match.proofs.Found.{both_met}
 use Rattle.reference_match.proofs.minimum.is_met_standing.Goals as goal
 

@@ -1,4 +1,4 @@
-use Rattle.std.proofs.Common.{◌≡◌, filter, sym, ◌∙◌}
+use Rattle.std.proofs.Common.{filter, sym, ◌∙◌}
 use Rattle.std.proofs.lemmas.List.Elements.{filter-append}
 use Rattle.reference_match.specs.Targets.{meets}
 use Rattle.reference_match.proofs.Found.{enough}

@@ -1,4 +1,4 @@
-use Rattle.std.proofs.Common.{◌≡◌, ◌+◌, ◌-◌, filter, length, take}
+use Rattle.std.proofs.Common.{◌≡◌, ◌-◌, filter, length, take}
 use Rattle.reference_match.specs.Targets.{meets}
 use Rattle.reference_match.proofs.minimum.missing.Given as goal
 

@@ -1,4 +1,4 @@
-use Rattle.std.proofs.Common.{◌≡◌, sym, ◌∙◌}
+use Rattle.std.proofs.Common.{sym, ◌∙◌}
 use Rattle.reference_match.proofs.Found.{enough, serving, serving_joined}
 use Rattle.reference_match.proofs.minimum.missing_registered.Goals as goal
 

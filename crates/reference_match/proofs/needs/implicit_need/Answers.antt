@@ -1,4 +1,4 @@
-use Rattle.std.proofs.Common.{◌≡◌, ap, ◌∙◌, ℕ, List, Bool, true, Option}
+use Rattle.std.proofs.Common.{ap, ◌∙◌, ℕ, List, Bool, true, Option}
 use Rattle.prop_map.specs.declared.reference_words.Cardinality.TheVariants.{One}
 use Rattle.prop_map.specs.declared.reference_words.Policy.TheVariants.{Dynamic}
 use Rattle.prop_map.specs.declared.reference_words.PolicyOption.TheVariants.{Reluctant}
