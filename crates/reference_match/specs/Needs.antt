@@ -1,5 +1,5 @@
 -- What the references of a component configuration need, by its properties.
-use Rattle.std.specs.Prelude.{ℕ, ◌==◌, ◌++◌, List, [], ◌∷◌, map, Bool, true, false, Option, Some, None, is_none, codes, pos, nat_lt, if◌then◌else◌}
+use Rattle.std.specs.Prelude.{ℕ, ◌==◌, ◌&&◌, ◌++◌, List, [], ◌∷◌, map, Bool, true, false, Option, Some, None, is_none, is_some, codes, ℤ, pos, negsuc, nat_lt, option_and_then, if◌then◌else◌}
 use Rattle.prop_map.specs.declared.properties.Property.{Property}
 use Rattle.prop_map.specs.declared.reference_words.Cardinality.{Cardinality}
 use Rattle.prop_map.specs.declared.reference_words.Cardinality.TheVariants.{ZeroOrOne, One, ZeroOrMore, OneOrMore}
