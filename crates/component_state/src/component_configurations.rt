@@ -3,13 +3,14 @@
 ghost use Rattle.component_state.specs.ComponentConfigurations.{component_configurations, component_for, component_for_factory, components_for, components_for_bundle, components_for_description, components_for_descriptions, factory_of};
 ghost use Rattle.component_state.specs.ComponentRows.{component_row, configurations_of};
 ghost use Rattle.std.specs.Option.{option_copied};
-ghost use Rattle.std.specs.Prelude.{◌≡◌, ◌++◌, IfOk, OnOk, Some, map};
+ghost use Rattle.std.specs.Prelude.{◌≡◌, ◌++◌, [], IfOk, OnOk, Some, if◌then◌else◌, map};
 
 mod bundle_view;
 mod component_view;
 mod configuration_index;
 mod counting;
 mod properties;
+mod property_draft;
 
 use crate::{BundleRow, ComponentRow, WorldRows};
 pub use bundle_view::BundleView;
@@ -119,12 +120,37 @@ fn push_enabled<'d>(
     let enabled = bundle.enabled();
     let count = descriptions.len().min(enabled.len());
     for index in 0..count {
-        if enabled[index] {
-            let description = &descriptions[index];
-            push_for_description(alloc, bundle, index, description, configurations, found)?;
-        }
+        let description = &descriptions[index];
+        push_if(
+            alloc,
+            bundle,
+            index,
+            description,
+            enabled[index],
+            configurations,
+            found,
+        )?;
     }
     Ok(())
+}
+
+fn push_if<'d>(
+    alloc: Global,
+    bundle: &BundleView<'d>,
+    index: usize,
+    description: &'d Description,
+    enabled: bool,
+    configurations: &ConfigurationIndex<'d>,
+    found: &mut Vec<ComponentView<'d>>,
+) -> Result<(), OutOfMemory>
+    ensures { OnOk result (found.new.items ≡ found.old.items
+        ++ (if enabled then components_for_description bundle.now index description.entry.now configurations.now description.entry.now.configuration_policy else [])) }
+{
+    if enabled {
+        push_for_description(alloc, bundle, index, description, configurations, found)
+    } else {
+        Ok(())
+    }
 }
 
 fn push_for_description<'d>(

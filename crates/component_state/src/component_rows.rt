@@ -3,7 +3,7 @@ ghost use Rattle.component_state.specs.ComponentConfigurations.{as_configured, c
 ghost use Rattle.component_state.specs.declared.component.Component.{Component};
 ghost use Rattle.std.specs.List.{list_any};
 ghost use Rattle.std.specs.Option.{option_copied};
-ghost use Rattle.std.specs.Prelude.{◌≡◌, ◌+◌, ◌++◌, ◌&&◌, IfOk, OnOk, find, map, false};
+ghost use Rattle.std.specs.Prelude.{◌≡◌, ◌+◌, ◌++◌, ◌∷◌, ◌&&◌, [], IfOk, OnOk, false, find, length, map};
 
 use crate::Component;
 use crate::component_configurations::{ComponentView, with_number};
@@ -126,17 +126,41 @@ fn push_new(
 {
     let mut numbered = numbered;
     for component in these {
-        if !exists_in(component, before) {
-            numbered = numbered.checked_add(1).ok_or(AllocError)?;
-            after.push(component.numbered(alloc, numbered)?)?;
-        }
+        numbered = push_if_new(alloc, numbered, component, before, after)?;
     }
     Ok(())
+}
+
+// Adds one where it comes, and gives the last number then.
+fn push_if_new(
+    alloc: Global,
+    numbered: u64,
+    component: &ComponentView<'_>,
+    before: &[&Component],
+    after: &mut Vec<Component>,
+) -> Result<u64, OutOfMemory>
+    ensures number { IfOk result (λ last. last ≡ numbered + length (new_components (map (λ c. c.now) before.now) (component.now ∷ []))) }
+    ensures added { OnOk result (after.new.items ≡ after.old.items
+        ++ with_numbers (numbered + 1) (new_components (map (λ c. c.now) before.now) (component.now ∷ []))) }
+{
+    if exists_in(component, before) {
+        return Ok(numbered);
+    }
+    let number = numbered.checked_add(1).ok_or(AllocError)?;
+    let new = component.numbered(alloc, number)?;
+    after.push(new)?;
+    Ok(number)
 }
 
 // One of the component configurations that exist is the same.
 fn exists_in(component: &ComponentView<'_>, before: &[&Component]) -> bool
     ensures { result ≡ list_any (λ (c : Component). c.exists && is_same_component component.now c) (map (λ c. c.now) before.now) }
+{
+    is_any(component, before)
+}
+
+fn is_any(component: &ComponentView<'_>, before: &[&Component]) -> bool
+    ensures { result ≡ list_any (λ c. c.now.exists && is_same_component component.now c.now) before.now }
 {
     before
         .iter()

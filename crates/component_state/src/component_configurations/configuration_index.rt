@@ -1,6 +1,8 @@
 //! The configurations of a PID and of a factory.
 ghost use Rattle.config_admin.specs.Configurations.{of_factory, of_pid};
 ghost use Rattle.prop_map.specs.Words.{is_empty};
+ghost use Rattle.config_admin.specs.declared.configuration.Configuration.{Configuration};
+ghost use Rattle.std.specs.List.{list_any};
 ghost use Rattle.std.specs.Option.{option_copied, option_map_or};
 ghost use Rattle.std.specs.Prelude.{◌≡◌, IfOk, map, not, false};
 ghost use Rattle.std.specs.Str.{bytes_eq};
@@ -85,6 +87,12 @@ fn is_of_factory(pid: &str, configuration: &Configuration) -> bool
 
 fn has_factory(list: &[Configuration], pid: &str) -> bool
     ensures { result ≡ not (is_empty (of_factory pid.now list.now)) }
+{
+    is_any_of_factory(list, pid)
+}
+
+fn is_any_of_factory(list: &[Configuration], pid: &str) -> bool
+    ensures { result ≡ list_any (λ (c : Configuration). option_map_or (bytes_eq pid.now) c.factory false) list.now }
 {
     list.iter().any(|c| is_of_factory(pid, c))
 }

@@ -2,7 +2,7 @@
 ghost use Rattle.component_state.specs.ComponentConfigurations.{counting, counting_for, factory_of};
 ghost use Rattle.std.specs.List.{list_all};
 ghost use Rattle.std.specs.Option.{option_copied, option_map_or};
-ghost use Rattle.std.specs.Prelude.{◌≡◌, IfOk, false, filter_map, is_some, map};
+ghost use Rattle.std.specs.Prelude.{◌≡◌, ◌++◌, IfOk, OnOk, false, filter_map, is_some, map, option_to_list};
 ghost use Rattle.std.specs.Str.{bytes_eq};
 
 use super::configuration_index::ConfigurationIndex;
@@ -73,6 +73,12 @@ pub(crate) fn counting<'c>(
 pub(crate) fn are_set(these: &[Option<&Configuration>]) -> bool
     ensures { result ≡ list_all is_some (map option_copied these.now) }
 {
+    are_some(these)
+}
+
+fn are_some(these: &[Option<&Configuration>]) -> bool
+    ensures { result ≡ list_all is_some these.now }
+{
     these.iter().all(|configuration| configuration.is_some())
 }
 
@@ -88,9 +94,19 @@ pub(crate) fn set_ones<'c>(
 {
     let mut found = Vec::new(alloc);
     for configuration in these {
-        if let Some(configuration) = configuration {
-            found.push(*configuration)?;
-        }
+        push_set(&mut found, *configuration)?;
     }
     Ok(found)
+}
+
+fn push_set<'c>(
+    found: &mut Vec<&'c Configuration>,
+    configuration: Option<&'c Configuration>,
+) -> Result<(), OutOfMemory>
+    ensures { OnOk result (found.new.items ≡ found.old.items ++ option_to_list configuration.entry) }
+{
+    if let Some(configuration) = configuration {
+        found.push(configuration)?;
+    }
+    Ok(())
 }

@@ -7,6 +7,7 @@ ghost use Rattle.prop_map.specs.declared.value.Value.TheVariants.{Text};
 ghost use Rattle.reference_match.specs.Needs.{target_key};
 ghost use Rattle.std.specs.Prelude.{◌≡◌, [], IfOk, List, OnOk, codes, fold, map, string_bytes};
 
+use super::property_draft::PropertyDraft;
 use component_dto::{Description, Reference};
 use config_admin::Configuration;
 use prop_map::{Copies, List, OutOfMemory, Properties, Str, Value};
@@ -24,19 +25,34 @@ pub(crate) fn component_properties(
 ) -> Result<Properties, OutOfMemory>
     ensures { IfOk result (λ properties. properties ≡ component_properties description.now (map (λ c. c.now) configurations.now)) }
 {
+    let mut properties = given_properties(alloc, description, configurations)?;
+    put_pids(alloc, &mut properties, configurations)?;
+    put_name(alloc, &mut properties, &description.name)?;
+    properties.properties(alloc)
+}
+
+// But for what the platform adds.
+fn given_properties(
+    alloc: Global,
+    description: &Description,
+    configurations: &[&Configuration],
+) -> Result<PropertyDraft, OutOfMemory>
+    ensures { IfOk result (λ properties. properties ≡ fold (λ (ps : List Property) (c : Configuration). merge ps c.properties) (merge (target_properties description.now) description.now.properties) (map (λ c. c.now) configurations.now)) }
+{
     let mut properties = target_properties(alloc, description)?;
     put_all(alloc, &mut properties, &description.properties)?;
     put_configured(alloc, &mut properties, configurations)?;
-    put_pids(alloc, &mut properties, configurations)?;
-    properties.set(
-        alloc,
-        "component.name",
-        Value::Text(description.name.copy(alloc)?),
-    )?;
     Ok(properties)
 }
 
-fn target_properties(alloc: Global, description: &Description) -> Result<Properties, OutOfMemory>
+fn put_name(alloc: Global, properties: &mut PropertyDraft, name: &Str) -> Result<(), OutOfMemory>
+    ensures { OnOk result (properties.new ≡ put properties.old (codes "component.name") (Text name.now)) }
+{
+    let name = name.copy(alloc)?;
+    properties.set(alloc, "component.name", Value::Text(name))
+}
+
+fn target_properties(alloc: Global, description: &Description) -> Result<PropertyDraft, OutOfMemory>
     ensures { IfOk result (λ properties. properties ≡ target_properties description.now) }
 {
     let mut properties = named_targets(alloc, description.references.as_slice())?;
@@ -51,10 +67,10 @@ fn target_properties(alloc: Global, description: &Description) -> Result<Propert
     Ok(properties)
 }
 
-fn named_targets(alloc: Global, references: &[Reference]) -> Result<Properties, OutOfMemory>
+fn named_targets(alloc: Global, references: &[Reference]) -> Result<PropertyDraft, OutOfMemory>
     ensures { IfOk result (λ properties. properties ≡ fold with_target [] references.now) }
 {
-    let mut properties = Properties::new(alloc);
+    let mut properties = PropertyDraft::new(alloc);
     for reference in references {
         put_named_target(alloc, &mut properties, reference)?;
     }
@@ -63,7 +79,7 @@ fn named_targets(alloc: Global, references: &[Reference]) -> Result<Properties, 
 
 fn put_named_target(
     alloc: Global,
-    properties: &mut Properties,
+    properties: &mut PropertyDraft,
     reference: &Reference,
 ) -> Result<(), OutOfMemory>
     ensures { OnOk result (properties.new ≡ with_target properties.old reference.now) }
@@ -76,7 +92,7 @@ fn put_named_target(
 
 fn put_target(
     alloc: Global,
-    properties: &mut Properties,
+    properties: &mut PropertyDraft,
     name: &str,
     target: &str,
 ) -> Result<(), OutOfMemory>
@@ -95,7 +111,11 @@ fn target_key(alloc: Global, name: &str) -> Result<String, OutOfMemory>
     Ok(key)
 }
 
-fn put_all(alloc: Global, properties: &mut Properties, over: &Properties) -> Result<(), OutOfMemory>
+fn put_all(
+    alloc: Global,
+    properties: &mut PropertyDraft,
+    over: &Properties,
+) -> Result<(), OutOfMemory>
     ensures { OnOk result (properties.new ≡ merge properties.old over.now) }
 {
     for property in over.as_slice() {
@@ -106,7 +126,7 @@ fn put_all(alloc: Global, properties: &mut Properties, over: &Properties) -> Res
 
 fn put_configured(
     alloc: Global,
-    properties: &mut Properties,
+    properties: &mut PropertyDraft,
     configurations: &[&Configuration],
 ) -> Result<(), OutOfMemory>
     ensures { OnOk result (properties.new ≡ fold (λ (ps : List Property) (c : Configuration). merge ps c.properties) properties.old (map (λ c. c.now) configurations.now)) }
@@ -120,7 +140,7 @@ fn put_configured(
 // Where several configurations count, their PIDs are one property.
 fn put_pids(
     alloc: Global,
-    properties: &mut Properties,
+    properties: &mut PropertyDraft,
     configurations: &[&Configuration],
 ) -> Result<(), OutOfMemory>
     ensures { OnOk result (properties.new ≡ with_pids (map (λ c. c.now) configurations.now) properties.old) }
