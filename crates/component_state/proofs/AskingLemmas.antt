@@ -1,9 +1,10 @@
 -- Steps through descriptions, configurations and component configurations that are asked for anew.
-use Rattle.std.proofs.Common.{◌≡◌, ◌<◌, ◌≤◌, ◌∙◌, ◌&&◌, ◌||◌, ℕ, ◌+◌, add-zero, List, [], ◌∷◌, ◌++◌, Bool, true, false, cond, not, refl, ap, sym, append_assoc, Option, Some, None, drop, filter, get_or, length, map, take}
+use Rattle.std.proofs.Common.{◌≡◌, ◌<◌, ◌≤◌, ◌∙◌, ◌&&◌, ◌||◌, ℕ, ◌+◌, add-zero, arith, inl, inr, min, List, [], ◌∷◌, ◌++◌, Bool, true, false, cond, not, refl, ap, sym, append_assoc, Option, Some, None, drop, filter, get_or, length, map, take}
 use Rattle.std.specs.Borrow.{Bor}
 use Rattle.std.specs.List.{filter_map, list_all, list_any}
 use Rattle.std.specs.Option.{option_copied}
 use Rattle.std.specs.Prelude.{is_some, option_to_list}
+use Rattle.std.proofs.lemmas.Bool.{cases_lt}
 use Rattle.std.proofs.lemmas.List.{at_drop_more, drop_all, map-append, take_more}
 use Rattle.std.proofs.lemmas.List.Elements.{filter_map-append}
 use Rattle.prop_map.specs.Words.{is_empty}
@@ -16,10 +17,10 @@ use Rattle.component_state.specs.ComponentConfigurations.{components_for_descrip
 -- one passes exactly where those that pass aren't none
 pub any_kept : {X : Type 0} (p : X → Bool) (xs : List X) → list_any p xs ≡ not (is_empty (filter p xs))
 any_kept p [] = refl
-any_kept p (x ∷ xs) = by_first (p x) where
-  by_first : (b : Bool) → cond b true (list_any p xs) ≡ not (is_empty (cond b (x ∷ filter p xs) (filter p xs)))
-  by_first true = refl
-  by_first false = any_kept p xs
+any_kept p (x ∷ xs) = by_first (p x) (any_kept p xs) where
+  by_first : (b : Bool) → list_any p xs ≡ not (is_empty (filter p xs)) → cond b true (list_any p xs) ≡ not (is_empty (cond b (x ∷ filter p xs) (filter p xs)))
+  by_first true rest = refl
+  by_first false rest = rest
 
 pub any_mapped : {X Y : Type 0} (f : X → Y) (p : Y → Bool) (xs : List X) → list_any p (map f xs) ≡ list_any (λ x. p (f x)) xs
 any_mapped f p [] = refl
@@ -40,7 +41,7 @@ one_set (Some x) = refl
 pub set_more : {X : Type 0} (os : List (Option (Bor X))) (i : ℕ) (o : Option (Bor X)) (found : List (Bor X)) → i < length os → o ≡ get_or os i o
     → map (λ (x : Bor X). x.now) found ≡ filter_map (λ x. x) (map option_copied (take i os))
     → map (λ (x : Bor X). x.now) (found ++ option_to_list o) ≡ filter_map (λ x. x) (map option_copied (take (i + 1) os))
-set_more os i o found within is so_far =
+set_more {X = X} os i o found within is so_far =
     map-append (λ (x : Bor X). x.now) found (option_to_list o)
     ∙ ap (λ l. l ++ map (λ (x : Bor X). x.now) (option_to_list o)) so_far
     ∙ ap (λ l. filter_map (λ x. x) (map option_copied (take i os)) ++ l) (one_set o)
@@ -55,14 +56,20 @@ without_flags b cs i [] = refl
 without_flags b cs i (d ∷ ds) = refl
 
 -- nothing is left where one of the two lists has ended
-pub no_description_left : (b : BundleRow) (cs : List Configuration) (i n : ℕ) (ds : List Description) (es : List Bool) → length ds ≤ n → components_for_descriptions b cs i (drop n ds) (drop n es) ≡ []
+no_description_left : (b : BundleRow) (cs : List Configuration) (i n : ℕ) (ds : List Description) (es : List Bool) → length ds ≤ n → components_for_descriptions b cs i (drop n ds) (drop n es) ≡ []
 no_description_left b cs i n ds es h = ap (λ l. components_for_descriptions b cs i l (drop n es)) (drop_all n ds h)
 
-pub no_flag_left : (b : BundleRow) (cs : List Configuration) (i n : ℕ) (ds : List Description) (es : List Bool) → length es ≤ n → components_for_descriptions b cs i (drop n ds) (drop n es) ≡ []
+no_flag_left : (b : BundleRow) (cs : List Configuration) (i n : ℕ) (ds : List Description) (es : List Bool) → length es ≤ n → components_for_descriptions b cs i (drop n ds) (drop n es) ≡ []
 no_flag_left b cs i n ds es h = ap (λ l. components_for_descriptions b cs i (drop n ds) l) (drop_all n es h) ∙ without_flags b cs i (drop n ds)
 
+pub none_left : (b : BundleRow) (cs : List Configuration) (i n : ℕ) (ds : List Description) (es : List Bool) → min (length ds) (length es) ≤ n → components_for_descriptions b cs i (drop n ds) (drop n es) ≡ []
+none_left b cs i n ds es h = elim (cases_lt n (length ds)) [
+  | inl within ↦ no_flag_left b cs i n ds es (omega arith)
+  | inr past ↦ no_description_left b cs i n ds es past
+  ]
+
 -- the description at an index comes first of those from there on
-pub from_index : (b : BundleRow) (cs : List Configuration) (i : ℕ) (ds : List Description) (es : List Bool) (d : Description) (e : Bool)
+from_index : (b : BundleRow) (cs : List Configuration) (i : ℕ) (ds : List Description) (es : List Bool) (d : Description) (e : Bool)
     → i < length ds → i < length es → d ≡ get_or ds i d → e ≡ get_or es i e
     → components_for_descriptions b cs i (drop i ds) (drop i es)
     ≡ cond e (components_for_description b i d cs d.configuration_policy) [] ++ components_for_descriptions b cs (i + 1) (drop (i + 1) ds) (drop (i + 1) es)

@@ -6,6 +6,7 @@ use Rattle.std.specs.declared.cmp.Ordering.TheVariants.{Less, Greater}
 use Rattle.std.proofs.lemmas.Cmp.{nat_list_cmp_total}
 use Rattle.std.proofs.lemmas.List.{at_drop_more, take_more, take-append-drop}
 use Rattle.prop_map.specs.declared.properties.Property.{Property}
+use Rattle.prop_map.specs.declared.value.Value.{Value}
 use Rattle.prop_map.specs.Keys.{folded, key_order}
 use Rattle.prop_map.specs.Maps.{IsInOrder, put}
 
@@ -29,8 +30,18 @@ parted list i p within is =
     ∙ ap (λ x. take i list ++ x ∷ drop (i + 1) list) (sym is)
 
 -- the properties of a map, put into an empty one in their order
-pub put_next : (list : List Property) (i : ℕ) (p : Property) → IsInOrder list → i < length list → p ≡ get_or list i p → put (take i list) p.key p.value ≡ take (i + 1) list
+put_next : (list : List Property) (i : ℕ) (p : Property) → IsInOrder list → i < length list → p ≡ get_or list i p → put (take i list) p.key p.value ≡ take (i + 1) list
 put_next list i p order within is =
     put_last (take i list) p (drop (i + 1) list) (subst IsInOrder (parted list i p within is) order)
     ∙ ap (λ x. take i list ++ x ∷ []) is
     ∙ sym (take_more list i p within)
+
+-- the loop's step
+pub next_in_order : (list : List Property) (i : ℕ) (p : Property) (so_far more : List Property) (key : List ℕ) (value : Value)
+    → IsInOrder list → i < length list → p ≡ get_or list i p → key ≡ p.key → value ≡ p.value → so_far ≡ take i list → more ≡ put so_far key value → more ≡ take (i + 1) list
+next_in_order list i p so_far more key value order within is same_key same_value so_far_is puts =
+    puts
+    ∙ ap (λ k. put so_far k value) same_key
+    ∙ ap (λ v. put so_far p.key v) same_value
+    ∙ ap (λ ps. put ps p.key p.value) so_far_is
+    ∙ put_next list i p order within is

@@ -11,6 +11,3 @@ returns-in-Ok-clause-value c = ap values_of c.in-Ok.ensures.entries
 pub returns-in-Ok-clause-by_key : goal.returns-in-Ok-clause-by_key
 returns-in-Ok-clause-by_key c = subst IsByKey (sym c.in-Ok.ensures.entries)
     (put_by_key c.args.fold c.args.property.key c.args.property.value c.requires.fold c.args.by_key.now.entries c.requires.by_key).1
-
-pub returns-in-Err-clause-by_key : goal.returns-in-Err-clause-by_key
-returns-in-Err-clause-by_key c = subst IsByKey (sym c.in-Err.ensures.err) c.requires.by_key
