@@ -18,7 +18,7 @@ use Rattle.component_state.specs.ComponentConfigurations.{components_for_descrip
 pub any_kept : {X : Type 0} (p : X → Bool) (xs : List X) → list_any p xs ≡ not (is_empty (filter p xs))
 any_kept p [] = refl
 any_kept p (x ∷ xs) = by_first (p x) (any_kept p xs) where
-  by_first : (b : Bool) → list_any p xs ≡ not (is_empty (filter p xs)) → cond b true (list_any p xs) ≡ not (is_empty (cond b (x ∷ filter p xs) (filter p xs)))
+  by_first : (b : Bool) → list_any p xs ≡ not (is_empty (filter p xs)) → (b || list_any p xs) ≡ not (is_empty (cond b (x ∷ filter p xs) (filter p xs)))
   by_first true rest = refl
   by_first false rest = rest
 
@@ -66,7 +66,7 @@ pub none_left : (b : BundleRow) (cs : List Configuration) (i n : ℕ) (ds : List
 none_left b cs i n ds es h = elim (cases_lt n (length ds)) [
   | inl within ↦ no_flag_left b cs i n ds es (omega arith)
   | inr past ↦ no_description_left b cs i n ds es past
-  ]
+]
 
 -- the description at an index comes first of those from there on
 from_index : (b : BundleRow) (cs : List Configuration) (i : ℕ) (ds : List Description) (es : List Bool) (d : Description) (e : Bool)
