@@ -23,3 +23,5 @@ pub mod OnePass
 pub mod ByNeeds
 pub mod Published
 pub mod OpenIsScratch
+pub mod AskingLemmas
+pub mod PropertyOrder

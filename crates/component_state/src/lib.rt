@@ -4,6 +4,8 @@
 
 mod choices;
 mod component;
+mod component_configurations;
+mod component_rows;
 mod components;
 mod marks;
 mod number_lists;
@@ -23,6 +25,10 @@ mod stage;
 
 pub use choices::choice_at;
 pub use component::Component;
+pub use component_configurations::{
+    BundleView, ComponentView, components_for_bundles, configurations_of,
+};
+pub use component_rows::components_after;
 pub use components::{component_of, exists, needs_of};
 pub use marks::failed_after;
 pub use one_pass::note_one_pass;
