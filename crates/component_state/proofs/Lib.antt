@@ -25,3 +25,9 @@ pub mod Published
 pub mod OpenIsScratch
 pub mod AskingLemmas
 pub mod PropertyOrder
+pub mod Renewed
+pub mod AskedDescriptions
+pub mod ReadyStates
+pub mod StateSteps
+pub mod MarkLemmas
+pub mod ChangeLemmas

@@ -3,3 +3,5 @@ pub mod Ranked
 pub mod Ready
 pub mod Runs
 pub mod ByNeeds
+pub mod OpenMarks
+pub mod SoundStates

@@ -7,4 +7,5 @@ pub mod Scratch
 pub mod Marks
 pub mod Reasons
 pub mod Passes
+pub mod ComponentStates
 pub mod Inside

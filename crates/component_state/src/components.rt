@@ -1,7 +1,8 @@
 //! Component configurations by their numbers, and what their policy asks for (OSGi Compendium 8, chapter 112).
 ghost use Rattle.component_state.specs.Components.{component_of, exists, is_changed_at, lacks_configuration, needs_of, provides_no_service};
 ghost use Rattle.std.specs.Option.{option_copied};
-ghost use Rattle.std.specs.Prelude.{◌≡◌, IfOk};
+ghost use Rattle.component_state.specs.declared.component.Component.{Component};
+ghost use Rattle.std.specs.Prelude.{◌≡◌, ◌==◌, ◌&&◌, IfOk, find};
 
 use crate::Component;
 use component_dto::ConfigurationPolicy;
@@ -72,4 +73,13 @@ pub(crate) fn is_changed_at(place: u64, component: &Component) -> bool
         Some(changed) => changed == place,
         None => false,
     }
+}
+
+// The component configuration of a number, if there is one that hasn't ceased.
+pub(crate) fn existing_of(components: &[Component], number: u64) -> Option<&Component>
+    ensures { option_copied result ≡ find (λ (c : Component). (c.number == number) && c.exists) components.now }
+{
+    components
+        .iter()
+        .find(|component| component.number == number && component.exists)
 }

@@ -1,0 +1,9 @@
+use Rattle.std.proofs.Common.{◌∙◌, sym}
+use Rattle.std.specs.Prelude.{◌==◌}
+use Rattle.component_state.specs.declared.living_instance.LivingInstance.{LivingInstance}
+use Rattle.component_state.specs.declared.origin.Origin.{Origin}
+use Rattle.component_state.proofs.Among.{any_map}
+use Rattle.component_state.proofs.instance_lives.has_instance.Goals as goal
+
+pub returns : goal.returns
+returns c = c.is_any_of.ensures ∙ sym (any_map (λ (o : Origin). o.configuration == c.args.configuration) (λ (i : LivingInstance). i.origin) c.args.instances.now)
