@@ -1,0 +1,11 @@
+//! Tests of the tables of the platform: each public call once, with memory enough.
+#![tactic(auto)]
+
+#[cfg(test)]
+mod bundles;
+#[cfg(test)]
+mod journals;
+#[cfg(test)]
+mod listeners;
+#[cfg(test)]
+mod samples;
