@@ -1,0 +1,2 @@
+pub mod PidRows
+pub mod Told

@@ -4,6 +4,10 @@
 #[cfg(test)]
 mod bundles;
 #[cfg(test)]
+mod configurations;
+#[cfg(test)]
+mod gets;
+#[cfg(test)]
 mod journals;
 #[cfg(test)]
 mod listeners;
