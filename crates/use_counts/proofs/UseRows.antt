@@ -1,5 +1,5 @@
 -- What a get more and a get less make of the rows, and that these stay in order and counted.
-use Rattle.std.proofs.Common.{◌≡◌, ◌<◌, ◌≤◌, ◌+◌, ◌^◌, ℕ, List, [], ◌∷◌, ap, sym, subst, ◌∙◌, refl, cond, arith, Bool, true, false, length, get_or, Option, Some, None, Ok, Err}
+use Rattle.std.proofs.Common.{◌≡◌, ◌<◌, ◌≤◌, ◌+◌, ◌^◌, ℕ, suc, List, [], ◌∷◌, ap, lit<, sym, ◌∙◌, refl, cond, arith, Bool, true, false, get_or, Option, Some, Err}
 use Rattle.std.proofs.Math.ListN.{set}
 use Rattle.std.proofs.lemmas.Bool.{eq-eqb, eqb-false, ne_eqb}
 use Rattle.std.proofs.lemmas.List.Elements.{All-cons, All-filter, All-tail}
@@ -15,13 +15,13 @@ use Rattle.std.specs.declared.cmp.Ordering.TheVariants.{Less, Equal, Greater}
 use Rattle.prop_map.specs.Words.{insert_by}
 use Rattle.row_places.specs.RowPlaces.{IsPlaceOrGap, OnlyAt}
 use Rattle.row_places.proofs.RowOrderLaws.{behind, exchanged, inserted, ordered_with}
-use Rattle.row_places.proofs.RowPlaceLaws.{filter_only, find_none, find_only, none_found, only_passes, only_within}
+use Rattle.row_places.proofs.RowPlaceLaws.{filter_only, find_none, find_only, none_found, only_within}
 use Rattle.std.specs.Prelude.{insert}
 use Rattle.use_counts.specs.declared.uses.Holder.{Holder}
 use Rattle.use_counts.specs.declared.uses.Holder.TheVariants.{Shell, Token}
 use Rattle.use_counts.specs.declared.uses.UseRow.{UseRow}
 use Rattle.use_counts.specs.Refusals.{AreOrdered, AreUses, IsCounted}
-use Rattle.use_counts.specs.Uses.{after_get, after_unget, held_by, holder_count, is_use, no_use, one_less, one_more, total, use_before, use_cmp, use_count, use_of, with_use, without_use}
+use Rattle.use_counts.specs.Uses.{after_get, after_unget, held_by, holder_count, is_use, no_use, one_less, one_more, total, use_before, use_cmp, use_count, use_of, without_use}
 
 pub use_cmp_total : IsTotalOrder use_cmp
 use_cmp_total = then_total (on_total (λ (u : UseRow). u.service) nat_cmp_total) (on_total (λ (u : UseRow). u.bundle) nat_cmp_total)
@@ -62,6 +62,13 @@ own_tie Less e = cc
 own_tie Equal e = refl
 own_tie Greater e = cc
 
+-- a filter leaves rows in order and counted
+pub uses_filtered : (test : UseRow → Bool) (us : List UseRow) → AreUses us → AreUses (filter test us)
+uses_filtered test us ok = (AllPairs-filter (λ (u v : UseRow). use_cmp u v ≡ Less) test us ok.0, All-filter test IsCounted us ok.1)
+
+pub uses_rest : (u : UseRow) (us : List UseRow) → AreUses (u ∷ us) → AreUses us
+uses_rest u us ok = ((λ i j d lt within. ok.0 (suc i) (suc j) d (omega (arith, lt)) (omega (arith, within))), All-tail IsCounted u us ok.1)
+
 -- ---- the rows of a bundle and a service
 
 module _ (bundle service : ℕ) where
@@ -70,10 +77,11 @@ module _ (bundle service : ℕ) where
 
   pub use_ties : (us : List UseRow) → use_cmp (use_of bundle service us) (no_use bundle service) ≡ Equal
   use_ties [] = own_tie (order (no_use bundle service)) (use_cmp_total.antisymm (no_use bundle service) (no_use bundle service))
-  use_ties (u ∷ us) = by_test (is_use bundle service u) refl where
-    by_test : (b : Bool) → is_use bundle service u ≡ b → use_cmp (option_map_or (λ (x : UseRow). x) (cond b (Some u) (find (is_use bundle service) us)) (no_use bundle service)) (no_use bundle service) ≡ Equal
-    by_test true e = is_equal (order u) e
-    by_test false e = use_ties us
+  use_ties (u ∷ us) = by_test (is_use bundle service u) refl (use_ties us) where
+    by_test : (b : Bool) → is_use bundle service u ≡ b → use_cmp (use_of bundle service us) (no_use bundle service) ≡ Equal
+        → use_cmp (option_map_or (λ (x : UseRow). x) (cond b (Some u) (find (is_use bundle service) us)) (no_use bundle service)) (no_use bundle service) ≡ Equal
+    by_test true e rest = is_equal (order u) e
+    by_test false e rest = rest
 
   pub use_there : (place : ℕ) (us : List UseRow) (d : UseRow) → OnlyAt (is_use bundle service) place us → use_of bundle service us ≡ get_or us place d
   use_there place us d only =
@@ -84,6 +92,26 @@ module _ (bundle service : ℕ) where
   use_nowhere gap us ordered place =
       ap (λ (o : Option UseRow). option_map_or (λ (u : UseRow). u) o (no_use bundle service))
       (find_none (is_use bundle service) us (none_found (λ (u v : UseRow). use_cmp u v ≡ Less) order (behind use_cmp use_cmp_total (no_use bundle service)) gap us place.1))
+
+  -- the same for the row that was read there
+  pub use_read : (place : ℕ) (us : List UseRow) (row : UseRow) → OnlyAt (is_use bundle service) place us → row ≡ get_or us place row → use_of bundle service us ≡ row
+  use_read place us row only is = use_there place us row only ∙ sym is
+
+  -- a holder's gets, as they were counted there
+  pub held_read : (holder : Holder) (place count : ℕ) (us : List UseRow) (row : UseRow) → OnlyAt (is_use bundle service) place us → row ≡ get_or us place row → count ≡ held_by holder row → holder_count holder bundle service us ≡ count
+  held_read holder place count us row only is counts = ap (held_by holder) (use_read place us row only is) ∙ sym counts
+
+  pub held_some : (holder : Holder) (place count : ℕ) (us : List UseRow) (row : UseRow) → OnlyAt (is_use bundle service) place us → row ≡ get_or us place row → count ≡ held_by holder row → (count ≡ 0 → ⊥)
+      → 0 < holder_count holder bundle service us
+  held_some holder place count us row only is counts some = let e = held_read holder place count us row only is counts in omega (arith, e, some)
+
+  -- what is left of its gets
+  pub left_count : (holder : Holder) (place count : ℕ) (us : List UseRow) (row less : UseRow) → OnlyAt (is_use bundle service) place us → row ≡ get_or us place row → 0 < holder_count holder bundle service us
+      → less ≡ one_less holder row → count ≡ total less → count + 1 ≡ use_count bundle service us
+  left_count holder place count us row less only is held made counts =
+      let there = use_read place us row only is in
+      let one : total (one_less holder (use_of bundle service us)) + 1 ≡ total (use_of bundle service us) = total_less holder (use_of bundle service us) held in
+      ap (λ n. n + 1) (counts ∙ ap total (made ∙ ap (one_less holder) (sym there))) ∙ one
 
   -- ---- with a row in its place
 
@@ -100,11 +128,16 @@ module _ (bundle service : ℕ) where
     All_inserted IsCounted y (without_use bundle service us) counted (All-filter (λ (u : UseRow). not (is_use bundle service u)) IsCounted us ok.1),
   )
 
-  pub uses_without : (us : List UseRow) → AreUses us → AreUses (without_use bundle service us)
-  uses_without us ok = (
-    AllPairs-filter (λ (u v : UseRow). use_cmp u v ≡ Less) (λ (u : UseRow). not (is_use bundle service u)) us ok.0,
-    All-filter (λ (u : UseRow). not (is_use bundle service u)) IsCounted us ok.1,
-  )
+  uses_without : (us : List UseRow) → AreUses us → AreUses (without_use bundle service us)
+  uses_without us ok = uses_filtered (λ (u : UseRow). not (is_use bundle service u)) us ok
+
+  -- the row found is counted, also where there is none
+  pub small_use : (us : List UseRow) → AreUses us → use_count bundle service us < 2 ^ 32
+  small_use [] ok = lit< tt
+  small_use (u ∷ us) ok = by_test (small_use us (uses_rest u us ok)) (is_use bundle service u) where
+    by_test : use_count bundle service us < 2 ^ 32 → (b : Bool) → total (option_map_or (λ (x : UseRow). x) (cond b (Some u) (find (is_use bundle service) us)) (no_use bundle service)) < 2 ^ 32
+    by_test rest true = (ok.1 0 u (omega arith)).1
+    by_test rest false = rest
 
   -- ---- a get more
 
