@@ -1,2 +1,2 @@
+pub mod Emptiness
 pub mod PidRows
-pub mod Told

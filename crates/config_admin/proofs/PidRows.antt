@@ -1,6 +1,6 @@
 -- Configurations by PID: the one of a PID where it was found and where there is none, and what an exchange, an insert and a
 -- removal make of them.
-use Rattle.std.proofs.Common.{◌≡◌, ◌<◌, ◌≤◌, ℕ, List, [], ◌∷◌, ap, sym, subst, ◌∙◌, refl, arith, Bool, true, false, length, get_or, Option, Some, None, Ok, Err}
+use Rattle.std.proofs.Common.{◌≡◌, ℕ, List, [], ap, sym, subst, ◌∙◌, refl, Bool, get_or, Some, None, Ok, Err}
 use Rattle.std.proofs.Math.ListN.{set}
 use Rattle.std.proofs.lemmas.List.Kept.{AllPairs-filter}
 use Rattle.std.proofs.lemmas.Map.Text.{is_eq-slice_cmp}
@@ -12,7 +12,7 @@ use Rattle.std.specs.Prelude.{filter, find, insert, not, remove}
 use Rattle.std.specs.declared.cmp.Ordering.{Ordering}
 use Rattle.std.specs.declared.cmp.Ordering.TheVariants.{Less, Equal, Greater}
 use Rattle.prop_map.specs.Words.{insert_by}
-use Rattle.row_places.specs.RowPlaces.{IsPlaceOrGap, OnlyAt}
+use Rattle.row_places.specs.RowPlaces.{IsPlaceOrGap}
 use Rattle.row_places.proofs.RowOrderLaws.{behind, exchanged, inserted, ordered_with}
 use Rattle.row_places.proofs.RowPlaceLaws.{filter_only, find_none, find_only, none_found, only_within}
 use Rattle.config_admin.specs.declared.configuration.Configuration.{Configuration}

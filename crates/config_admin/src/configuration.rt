@@ -1,6 +1,8 @@
 //! A configuration.
 ghost use Rattle.config_admin.specs.Configurations.{factory_configuration, own_configuration};
-ghost use Rattle.std.specs.Prelude.{◌≡◌, IfOk};
+ghost use Rattle.prop_map.specs.Maps.{put};
+ghost use Rattle.prop_map.specs.declared.value.Value.TheVariants.{Text};
+ghost use Rattle.std.specs.Prelude.{◌≡◌, codes, IfOk};
 
 use crate::pids::factory_pid;
 use prop_map::{Copies, OutOfMemory, Properties, Str, Value};
@@ -30,14 +32,13 @@ impl Copies for Configuration {
 /// The configuration of a PID with properties that were given.
 pub(crate) fn own_configuration(
     alloc: Global,
-    pid: Str,
+    pid: &str,
     given: Properties,
 ) -> Result<Configuration, OutOfMemory>
-    ensures { IfOk result (λ made. made ≡ own_configuration pid given) }
+    ensures { IfOk result (λ made. made ≡ own_configuration pid.now given) }
 {
-    let pid = pid.shared(alloc)?;
-    let mut properties = given;
-    properties.set(alloc, "service.pid", Value::Text(pid.copy(alloc)?))?;
+    let pid = Str::of(String::from_str(alloc, pid)?).shared(alloc)?;
+    let properties = with_pid(alloc, given, &pid)?;
     Ok(Configuration {
         pid,
         factory: None,
@@ -54,13 +55,26 @@ pub(crate) fn factory_configuration(
 ) -> Result<Configuration, OutOfMemory>
     ensures { IfOk result (λ made. made ≡ factory_configuration factory.now name.now given) }
 {
-    let pid = factory_pid(alloc, factory, name)?;
+    let pid = factory_pid(alloc, factory, name)?.shared(alloc)?;
     let factory = Str::of(String::from_str(alloc, factory)?).shared(alloc)?;
-    let mut configuration = own_configuration(alloc, pid, given)?;
-    let value = Value::Text(factory.copy(alloc)?);
-    configuration
-        .properties
-        .set(alloc, "service.factoryPid", value)?;
-    configuration.factory = Some(factory);
-    Ok(configuration)
+    let mut properties = with_pid(alloc, given, &pid)?;
+    properties.set(
+        alloc,
+        "service.factoryPid",
+        Value::Text(factory.copy(alloc)?),
+    )?;
+    Ok(Configuration {
+        pid,
+        factory: Some(factory),
+        properties,
+    })
+}
+
+// Properties that tell a PID.
+fn with_pid(alloc: Global, given: Properties, pid: &Str) -> Result<Properties, OutOfMemory>
+    ensures { IfOk result (λ told. told ≡ put given (codes "service.pid") (Text pid.now)) }
+{
+    let mut properties = given;
+    properties.set(alloc, "service.pid", Value::Text(pid.copy(alloc)?))?;
+    Ok(properties)
 }

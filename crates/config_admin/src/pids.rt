@@ -1,6 +1,7 @@
 //! PIDs (OSGi Compendium 8, chapter 104, "The Persistent Identity").
 ghost use Rattle.config_admin.specs.Configurations.{factory_pid};
 ghost use Rattle.config_admin.specs.Refusals.{is_pid, is_pid_byte};
+ghost use Rattle.std.specs.List.{list_all};
 ghost use Rattle.std.specs.Prelude.{◌≡◌, IfOk};
 
 use prop_map::{OutOfMemory, Str};
@@ -10,7 +11,16 @@ use std::alloc::Global;
 pub(crate) fn is_pid(text: &str) -> bool
     ensures { result ≡ is_pid text.now }
 {
-    !text.is_empty() && text.as_bytes().iter().all(|byte| is_pid_byte(*byte))
+    if text.is_empty() {
+        return false;
+    }
+    are_pid_bytes(text.as_bytes())
+}
+
+fn are_pid_bytes(bytes: &[u8]) -> bool
+    ensures { result ≡ list_all is_pid_byte bytes.now }
+{
+    bytes.iter().all(|byte| is_pid_byte(*byte))
 }
 
 fn is_pid_byte(byte: u8) -> bool

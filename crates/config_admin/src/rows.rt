@@ -4,6 +4,7 @@ ghost use Rattle.config_admin.specs.Orders.{AreByPid, pid_cmp};
 ghost use Rattle.config_admin.specs.declared.configuration.Configuration.{Configuration};
 ghost use Rattle.prop_map.specs.Words.{is_empty};
 ghost use Rattle.row_places.specs.RowPlaces.{IsPlaceOrGap};
+ghost use Rattle.std.specs.List.{list_any};
 ghost use Rattle.std.specs.Option.{option_copied, option_map_or};
 ghost use Rattle.std.specs.Prelude.{◌≡◌, ◌<◌, ◌≤◌, [], false, length, map, not, IfOk, MatchResult, OnErr, OnOk};
 ghost use Rattle.std.specs.Str.{bytes_eq};
@@ -45,6 +46,12 @@ fn is_of_factory(row: &Configuration, pid: &str) -> bool
 pub(crate) fn has_factory(rows: &[Configuration], pid: &str) -> bool
     ensures { result ≡ not (is_empty (of_factory pid.now rows.now)) }
 {
+    any_of_factory(rows, pid)
+}
+
+fn any_of_factory(rows: &[Configuration], pid: &str) -> bool
+    ensures { result ≡ list_any (λ (c : Configuration). option_map_or (bytes_eq pid.now) c.factory false) rows.now }
+{
     rows.iter().any(|row| is_of_factory(row, pid))
 }
 
@@ -76,8 +83,13 @@ pub(crate) fn put(
     ensures order { AreByPid rows.new.items }
 {
     match place_of(rows.as_slice(), configuration.pid.as_str()) {
-        Ok(place) => rows[place] = configuration,
-        Err(gap) => rows.insert(gap, configuration)?,
+        Ok(place) => {
+            rows[place] = configuration;
+            Ok(())
+        }
+        Err(gap) => {
+            rows.insert(gap, configuration)?;
+            Ok(())
+        }
     }
-    Ok(())
 }

@@ -9,7 +9,7 @@ use crate::configuration::{factory_configuration, own_configuration};
 use crate::refusals::{set_factory_refusal, set_refusal};
 use crate::rows::{named_by, of_pid, place_of, put};
 use crate::{ConfigFault, Configuration, Saved};
-use prop_map::{Copies, OutOfMemory, Properties, Str};
+use prop_map::{Copies, OutOfMemory, Properties};
 use std::alloc::Global;
 use std::marker::Model;
 
@@ -86,7 +86,6 @@ impl Configurations {
         match set_refusal(self.rows.as_slice(), pid) {
             Some(fault) => Err(fault),
             None => {
-                let pid = Str::of(String::from_str(alloc, pid)?);
                 let configuration = own_configuration(alloc, pid, properties)?;
                 put(&mut self.rows, configuration)?;
                 Ok(())
