@@ -1,0 +1,15 @@
+//! Tests of the tables of the platform: each public call once, with memory enough.
+#![tactic(auto)]
+
+#[cfg(test)]
+mod bundles;
+#[cfg(test)]
+mod configurations;
+#[cfg(test)]
+mod gets;
+#[cfg(test)]
+mod journals;
+#[cfg(test)]
+mod listeners;
+#[cfg(test)]
+mod samples;
