@@ -94,7 +94,7 @@ long_line : (line : Line) → longest_line < line.size → is_too_long line ≡ 
 long_line line long = grind (arith, nat_tests)
 
 -- a script that goes on with a line that is run
-script_line : (number : ℕ) (lines rest : List Line) (line : Line) → lines ≡ line ∷ rest → line.size ≤ longest_line → is_quit (shell_line line.text) ≡ false
+pub script_line : (number : ℕ) (lines rest : List Line) (line : Line) → lines ≡ line ∷ rest → line.size ≤ longest_line → is_quit (shell_line line.text) ≡ false
     → (script_lines lines ≡ line.text ∷ script_lines rest) × (ending number lines ≡ ending (next_count number) rest)
 script_line number lines rest line is short other = (rw (is, short_line line short, other) refl, rw (is, short_line line short, other) refl)
 
