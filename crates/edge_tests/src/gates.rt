@@ -51,7 +51,11 @@ fn the_last_caller_of_a_shut_gate_is_told(rt: HostRuntime) -> Result<(), Fail> {
     };
     let inside = match gate.enter(&mut seat, key) {
         Entered::Inside(inside) => inside,
-        Entered::Gone { last, .. } => {
+        Entered::Gone {
+            generation: _,
+            shut: _,
+            last,
+        } => {
             claim_told(&gate, &mut keeper, last);
             return Err("gone".into());
         }
