@@ -59,7 +59,7 @@ reached_line {s} {left} {now} {ended} {pending} {first} {at} {written} {written'
 -- the source failed
 pub reached_fault : {s : Setting} {left now : Option (List ℕ)} {ended : Bool} {pending : List ℕ} {first at : CoreView} {written written' : Option (List ℕ)} {number : ℕ} → Reached s left now ended pending first at written written' number
     → (now' : Option (List ℕ)) (pending' : List ℕ) → (ended ≡ false) × LineRead now now' pending pending' Failed → Faulted s left now' first at written written'
-reached_fault {s} {left} {now} {ended} {pending} {first} {at} {written} {written'} {number} so_far now' pending' (unended, (piece, got, is), none, short) =
+reached_fault {s} {left} {now} {ended} {pending} {first} {at} {written} {written'} {number} so_far now' pending' (unended, ((piece, got, is), none, short)) =
     let before = so_far.read unended in
     record {
       taken = before.taken ++ piece;
