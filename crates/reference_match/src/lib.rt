@@ -9,11 +9,11 @@ mod minimum_property;
 mod need;
 mod needs;
 mod target;
-mod targets;
+mod target_services;
 
 pub use choice::{chosen, desired};
 pub use matching::meets;
 pub use minimum::{is_met, is_met_standing};
 pub use need::Need;
 pub use needs::{implicit_need, need_of, needs_with};
-pub use targets::{standing_targets, targets};
+pub use target_services::{standing_targets, targets};

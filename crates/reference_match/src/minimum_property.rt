@@ -9,7 +9,7 @@ use prop_map::{Cardinality, OutOfMemory, Properties, Value};
 use std::alloc::Global;
 
 /// The minimum of a reference of a name and a cardinality.
-pub(crate) fn minimum(
+pub(crate) fn minimum_of(
     alloc: Global,
     properties: &Properties,
     name: &str,

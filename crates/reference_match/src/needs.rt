@@ -3,8 +3,8 @@ ghost use Rattle.reference_match.specs.Needs.{condition_interface, condition_nam
 ghost use Rattle.std.specs.Prelude.{◌≡◌, ◌++◌, IfOk, OnOk, map};
 
 use crate::Need;
-use crate::minimum_property::minimum;
-use crate::target::target;
+use crate::minimum_property::minimum_of;
+use crate::target::target_of;
 use component_dto::Reference;
 use prop_map::{Cardinality, Copies, List, OutOfMemory, Policy, PolicyOption, Properties, Str};
 use std::alloc::Global;
@@ -21,9 +21,9 @@ pub fn need_of(
     ensures { IfOk result (λ need. need ≡ need_of properties.now reference.now) }
 {
     let name = reference.name.as_str();
-    let minimum = minimum(alloc, properties, name, reference.cardinality)?;
+    let minimum = minimum_of(alloc, properties, name, reference.cardinality)?;
     let interface = reference.interface_name.copy(alloc)?;
-    let target = target(alloc, properties, name)?;
+    let target = target_of(alloc, properties, name)?;
     Ok(Need {
         interface,
         filter: target.filter,
@@ -45,9 +45,9 @@ pub fn implicit_need(alloc: Global, properties: &Properties) -> Result<Need, Out
     ensures { IfOk result (λ need. need ≡ implicit_need properties.now) }
 {
     let name = "osgi.ds.satisfying.condition";
-    let minimum = minimum(alloc, properties, name, Cardinality::One)?;
+    let minimum = minimum_of(alloc, properties, name, Cardinality::One)?;
     let interface = String::from_str(alloc, "org.osgi.service.condition.Condition")?;
-    let target = target(alloc, properties, name)?;
+    let target = target_of(alloc, properties, name)?;
     Ok(Need {
         interface: Str::of(interface),
         filter: target.filter,

@@ -19,7 +19,7 @@ pub(crate) struct Target {
 }
 
 /// The target of a reference of a name.
-pub(crate) fn target(
+pub(crate) fn target_of(
     alloc: Global,
     properties: &Properties,
     name: &str,
