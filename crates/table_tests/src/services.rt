@@ -33,9 +33,11 @@ fn registry(alloc: Global, rankings: &[i64]) -> Result<Registry, RegistryFault> 
 
 #[test]
 fn the_best_service_is_found_first(rt: HostRuntime) -> Result<(), Fail> {
-    let registry = registry(rt.alloc(), &[5, 5, 0, 7]).ok().ok_or("a registry")?;
+    let registry = registry(rt.alloc(), &[5, 5, 0, 7])
+        .ok()
+        .ok_or("a registry")?;
     let found = registry.find(rt.alloc(), "X")?;
-    assert_eq!(rt; found.as_slice(), [4, 1, 2, 3]);
+    assert_eq!(rt; found.as_slice(), [4, 1, 2, 3].as_slice());
     assert!(rt; registry.best("X").is_some());
     assert!(rt; registry.best("Y").is_none());
     Ok(())
@@ -47,7 +49,11 @@ fn just_its_bundle_changes_a_service(rt: HostRuntime) -> Result<(), Fail> {
     let mut registry = registry(alloc, &[1]).ok().ok_or("a registry")?;
     let refused = registry.set_properties(alloc, 2, 1, ranked(alloc, 3)?);
     assert!(rt; refused == Err(RegistryFault::NotOwner { owner: 1 }));
-    assert!(rt; registry.set_properties(alloc, 1, 1, ranked(alloc, 3)?).is_ok());
+    assert!(rt;
+        registry
+            .set_properties(alloc, 1, 1, ranked(alloc, 3)?)
+            .is_ok()
+    );
     assert!(rt; registry.row(1).is_some());
     assert!(rt; registry.unregister(1, 2) == Err(RegistryFault::NoService { service: 2 }));
     assert!(rt; registry.unregister(1, 1).is_ok());
@@ -119,9 +125,9 @@ fn targets_match_the_filter(rt: HostRuntime) -> Result<(), Fail> {
     let registry = registry(alloc, &[5, 5, 0, 7]).ok().ok_or("a registry")?;
     let need = aimed(alloc, "(service.ranking>=5)")?;
     let found = targets(alloc, &need, registry.rows())?;
-    assert_eq!(rt; found.as_slice(), [4, 1, 2]);
+    assert_eq!(rt; found.as_slice(), [4, 1, 2].as_slice());
     let both = standing_targets(alloc, &need, registry.rows(), registry.rows())?;
-    assert_eq!(rt; both.as_slice(), [4, 4, 1, 1, 2, 2]);
+    assert_eq!(rt; both.as_slice(), [4, 4, 1, 1, 2, 2].as_slice());
     Ok(())
 }
 
@@ -157,8 +163,14 @@ fn a_reluctant_reference_keeps_its_service(rt: HostRuntime) -> Result<(), Fail> 
     let alloc = rt.alloc();
     let reference = reference(alloc, Cardinality::One, PolicyOption::Reluctant)?;
     let need = need_of(alloc, &Properties::new(alloc), &reference)?;
-    assert_eq!(rt; chosen(alloc, &need, &[4, 1, 2])?.as_slice(), [4]);
-    assert_eq!(rt; desired(alloc, &need, &[], &[2], &[4, 1, 2])?.as_slice(), [2]);
+    assert_eq!(rt;
+        chosen(alloc, &need, &[4, 1, 2])?.as_slice(),
+        [4].as_slice()
+    );
+    assert_eq!(rt;
+        desired(alloc, &need, &[], &[2], &[4, 1, 2])?.as_slice(),
+        [2].as_slice()
+    );
     Ok(())
 }
 

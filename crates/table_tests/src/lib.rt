@@ -1,0 +1,5 @@
+//! Tests of the tables.
+#![tactic(auto)]
+
+#[cfg(test)]
+mod services;
