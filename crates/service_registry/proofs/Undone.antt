@@ -226,3 +226,12 @@ last_is_highest rows d pairs k e within = by_cases (cases_lt k (length rows - 1)
   by_cases (inl less) = let above = pairs k (length rows - 1) d less (omega (arith, within)) in let same = get_or_default rows k e d within in subst (λ (r : ServiceRow). r.id ≤ (get_or rows (length rows - 1) d).id) (sym same) (omega (arith, above))
   by_cases (inr more) = let last : k ≡ length rows - 1 = omega (arith, more, within) in let same = get_or_default rows k e d within in
       subst (λ (r : ServiceRow). r.id ≤ (get_or rows (length rows - 1) d).id) (sym same) (subst (λ i. (get_or rows i d).id ≤ (get_or rows (length rows - 1) d).id) (sym last) (omega arith))
+
+-- a row written at the place of its number
+pub written : (row d : ServiceRow) (place numbered : ℕ) (xs rows : List ServiceRow) → xs ≡ rows → OnlyAt (has_number row.id) place xs → as_table (set rows place row) numbered ≡ with_row row (as_table rows numbered)
+written row d place numbered xs rows same only =
+    ap (λ l. as_table l numbered)
+    (ap (λ l. set l place row) (sym same) ∙ sym (map_only (has_number row.id) (λ r. row) place xs d only) ∙ ap (map (with_item row.id row)) same)
+
+pub none_written : (row : ServiceRow) (numbered : ℕ) (xs rows : List ServiceRow) → xs ≡ rows → NoneOf (has_number row.id) xs → as_table rows numbered ≡ with_row row (as_table rows numbered)
+none_written row numbered xs rows same none = ap (λ l. as_table l numbered) (sym same ∙ sym (map_none (has_number row.id) (λ r. row) xs none) ∙ ap (map (with_item row.id row)) same)
