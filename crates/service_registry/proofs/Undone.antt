@@ -3,7 +3,7 @@ use Rattle.std.proofs.Common.{◌≡◌, ◌<◌, ◌≤◌, ℕ, zero, suc, Lis
 use Rattle.std.proofs.Math.ListN.{set}
 use Rattle.std.proofs.lemmas.Bool.{cases_lt, le-leb, leb-true, lt-leb, ne_eqb}
 use Rattle.std.proofs.lemmas.Bool.Decides.{nat_tests}
-use Rattle.std.proofs.lemmas.List.{get_or_default, set-get_or}
+use Rattle.std.proofs.lemmas.List.{get_or_default, length-set, set-get_or}
 use Rattle.std.proofs.lemmas.List.Elements.{All-cons, filter_agree}
 use Rattle.std.proofs.lemmas.Option.{slice_get-get_or}
 use Rattle.std.specs.Cmp.{IsTotalOrder, nat_cmp_is, nat_cmp_total, on_total, ranked}
@@ -17,7 +17,7 @@ use Rattle.prop_map.specs.declared.properties.Property.{Property}
 use Rattle.prop_map.specs.Words.{insert_by}
 use Rattle.row_places.specs.RowPlaces.{IsPlaceOrGap, NoneOf, OnlyAt}
 use Rattle.row_places.proofs.RowOrderLaws as order
-use Rattle.row_places.proofs.RowPlaceLaws.{filter_none, find_none, find_only, map_none, map_only, none_found, only_within, place_agrees}
+use Rattle.row_places.proofs.RowPlaceLaws.{filter_none, find_none, find_only, map_none, map_only, none_found, only_passes, only_within, place_agrees}
 use Rattle.service_registry.specs.declared.row.ServiceRow.{ServiceRow}
 use Rattle.service_registry.specs.Registries.{IsNumbered, Registered, has_number, row_of, set_row, unregistered, with_properties}
 use Rattle.service_registry.specs.Undoing.{has_lower_number, is_missing, with_row, with_row_back}
@@ -63,11 +63,12 @@ stands n (r ∷ rows) row pairs e = by_test (has_number n r) refl (λ f. stands 
 pub gone : (n : ℕ) (rows : List ServiceRow) → row_of (filter (λ (r : ServiceRow). not (has_number n r)) rows) n ≡ None
 gone n [] = refl
 gone n (r ∷ rows) = by_test (has_number n r) refl (gone n rows) where
-  abbrev others : List ServiceRow
-  others = filter (λ (s : ServiceRow). not (has_number n s)) rows
-  by_test : (b : Bool) → has_number n r ≡ b → row_of others n ≡ None → row_of (cond (not (has_number n r)) (r ∷ others) others) n ≡ None
-  by_test true t more = ap (λ b. row_of (cond (not b) (r ∷ others) others) n) t ∙ more
-  by_test false t more = ap (λ b. row_of (cond (not b) (r ∷ others) others) n) t ∙ ap (λ b. cond b (Some r) (row_of others n)) t ∙ more
+  by_test : (b : Bool) → has_number n r ≡ b → row_of (filter (λ (s : ServiceRow). not (has_number n s)) rows) n ≡ None
+      → row_of (cond (not (has_number n r)) (r ∷ filter (λ (s : ServiceRow). not (has_number n s)) rows) (filter (λ (s : ServiceRow). not (has_number n s)) rows)) n ≡ None
+  by_test true t more = ap (λ b. row_of (cond (not b) (r ∷ filter (λ (s : ServiceRow). not (has_number n s)) rows) (filter (λ (s : ServiceRow). not (has_number n s)) rows)) n) t ∙ more
+  by_test false t more =
+      ap (λ b. row_of (cond (not b) (r ∷ filter (λ (s : ServiceRow). not (has_number n s)) rows) (filter (λ (s : ServiceRow). not (has_number n s)) rows)) n) t
+      ∙ ap (λ b. cond b (Some r) (row_of (filter (λ (s : ServiceRow). not (has_number n s)) rows) n)) t ∙ more
 
 -- the order of the rows
 abbrev pub by_number : ServiceRow → ServiceRow → Ordering
@@ -86,7 +87,7 @@ rows_back : (row : ServiceRow) (rows : List ServiceRow) → Ascending rows → S
 rows_back row rows pairs s =
     ap (insert_by has_lower_number row) (filter_agree (λ (r : ServiceRow). not (has_number row.id r)) (λ (r : ServiceRow). not (is_eq (by_number r row))) (λ r. ap not (sym (tests_agree r.id row.id))) rows)
     ∙ order.exchanged by_number total row row (sym (nat_cmp_is row.id row.id Equal refl)) s.place rows (precede rows pairs)
-      (place_agrees (has_number row.id) (λ (r : ServiceRow). is_eq (by_number r row)) (λ r. sym (tests_agree r.id row.id)) (Some s.place) rows s.only)
+    (place_agrees (has_number row.id) (λ (r : ServiceRow). is_eq (by_number r row)) (λ r. sym (tests_agree r.id row.id)) (Some s.place) rows s.only)
     ∙ ap (set rows s.place) s.is ∙ set-get_or rows s.place row
 
 missing : (row : ServiceRow) (before : Registered) → IsNumbered before → StandsIn row.id before.rows row → is_missing row (unregistered row.id before) ≡ true
@@ -113,8 +114,8 @@ twice n zero row other (r ∷ rows) same only is =
     ∙ ap (λ b. cond b row other ∷ map (with_item n row) (map (with_item n other) rows)) (numbers_eq other.id n same)
     ∙ ap (λ l. row ∷ map (with_item n row) l) (map_none (has_number n) (λ r. other) rows only.1)
     ∙ ap (λ l. row ∷ l) (map_none (has_number n) (λ r. row) rows only.1) ∙ ap (λ x. x ∷ rows) is where
-  numbers_eq : (a b : ℕ) → a ≡ b → (a == b) ≡ true
-  numbers_eq a b e = grind (arith, nat_tests)
+      numbers_eq : (a b : ℕ) → a ≡ b → (a == b) ≡ true
+      numbers_eq a b e = grind (arith, nat_tests)
 twice n (suc k) row other (r ∷ rows) same only is =
     ap (λ b. with_item n row (cond b other r) ∷ map (with_item n row) (map (with_item n other) rows)) only.0
     ∙ ap (λ b. cond b row r ∷ map (with_item n row) (map (with_item n other) rows)) only.0
@@ -178,9 +179,9 @@ stays_with row place t at =
     let some = slice_get-get_or t.rows place row (only_within (is_at row.id) place t.rows at) in
     sym (ap (λ o. cond (nat_le row.id t.numbered && is_none o) (as_table (insert_by has_lower_number row t.rows) t.numbered) t) (there ∙ some)
     ∙ ap (λ b. cond b (as_table (insert_by has_lower_number row t.rows) t.numbered) t) (no_and (nat_le row.id t.numbered))) where
-  no_and : (b : Bool) → (b && false) ≡ false
-  no_and true = refl
-  no_and false = refl
+      no_and : (b : Bool) → (b && false) ≡ false
+      no_and true = refl
+      no_and false = refl
 
 pub stays_without : (row : ServiceRow) (t : Registered) → t.numbered < row.id → t ≡ with_row_back row t
 stays_without row t above = sym (ap (λ b. cond (b && is_none (row_of t.rows row.id)) (as_table (insert_by has_lower_number row t.rows) t.numbered) t) (lt-leb t.numbered row.id above))
@@ -212,8 +213,8 @@ numbered_by row t numbered true e (Some r) f = numbered
 numbered_by row t numbered true e None f =
     let none : NoneOf (is_at row.id) t.rows = place_agrees (has_number row.id) (is_at row.id) (λ (s : ServiceRow). sym (tests_agree s.id row.id)) None t.rows (none_of row.id t.rows f) in
     let with : AllPairs (λ (a b : ServiceRow). by_number a b ≡ Less) (insert_by has_lower_number row t.rows) =
-      subst (λ l. AllPairs (λ (a b : ServiceRow). by_number a b ≡ Less) (insert_by has_lower_number row l)) (filter_none (is_at row.id) t.rows none)
-      (order.ordered_with by_number total row row (sym (nat_cmp_is row.id row.id Equal refl)) t.rows (precede t.rows numbered.0)) in
+    subst (λ l. AllPairs (λ (a b : ServiceRow). by_number a b ≡ Less) (insert_by has_lower_number row l)) (filter_none (is_at row.id) t.rows none)
+    (order.ordered_with by_number total row row (sym (nat_cmp_is row.id row.id Equal refl)) t.rows (precede t.rows numbered.0)) in
     (ascends (insert_by has_lower_number row t.rows) with, all_with t.numbered row t.rows (leb-true row.id t.numbered e) numbered.1)
 
 pub numbered_back : (row : ServiceRow) (t : Registered) → IsNumbered t → IsNumbered (with_row_back row t)
@@ -235,3 +236,31 @@ written row d place numbered xs rows same only =
 
 pub none_written : (row : ServiceRow) (numbered : ℕ) (xs rows : List ServiceRow) → xs ≡ rows → NoneOf (has_number row.id) xs → as_table rows numbered ≡ with_row row (as_table rows numbered)
 none_written row numbered xs rows same none = ap (λ l. as_table l numbered) (sym same ∙ sym (map_none (has_number row.id) (λ r. row) xs none) ∙ ap (map (with_item row.id row)) same)
+
+-- the numbers are as they were
+ids_kept : (k : ℕ) (row : ServiceRow) (rows : List ServiceRow) → OnlyAt (has_number row.id) k rows → (i : ℕ) (d : ServiceRow) → (get_or (set rows k row) i d).id ≡ (get_or rows i d).id
+ids_kept k row [] only i d = absurd only
+ids_kept zero row (r ∷ rows) only zero d = sym (numbers_tell r.id row.id only.0)
+ids_kept zero row (r ∷ rows) only (suc i) d = refl
+ids_kept (suc k) row (r ∷ rows) only zero d = refl
+ids_kept (suc k) row (r ∷ rows) only (suc i) d = ids_kept k row rows only.1 i d
+
+pub numbered_written : (k numbered : ℕ) (row : ServiceRow) (xs rows : List ServiceRow) → xs ≡ rows → IsNumbered (as_table rows numbered) → OnlyAt (has_number row.id) k xs → IsNumbered (as_table (set rows k row) numbered)
+numbered_written k numbered row xs rows same table only =
+    let here : OnlyAt (has_number row.id) k rows = subst (OnlyAt (has_number row.id) k) same only in (
+      (λ i j d less within. omega (arith, length-set rows k row, within, ids_kept k row rows here i d, ids_kept k row rows here j d, table.0 i j d less (omega (arith, length-set rows k row, within)))),
+      (λ j d within. omega (arith, ids_kept k row rows here j d, table.1 j d (omega (arith, length-set rows k row, within)))),
+    )
+
+-- a changed row
+pub changed_there : (given : List Property) (service place numbered : ℕ) (xs rows : List ServiceRow) (t : Registered) (row d : ServiceRow) → xs ≡ rows → as_table rows numbered ≡ t
+    → OnlyAt (has_number service) place xs → place < length xs → row ≡ set_row given (get_or rows place d) → option_map (set_row given) (row_of t.rows service) ≡ Some row
+changed_there given service place numbered xs rows t row d same view only within is =
+    ap (λ (u : Registered). option_map (set_row given) (row_of u.rows service)) (sym view)
+    ∙ ap (option_map (set_row given)) (ap (λ l. row_of l service) (sym same) ∙ found service place xs d only within)
+    ∙ ap Some (ap (λ l. set_row given (get_or l place d)) same ∙ sym is)
+
+pub changed_number : (given : List Property) (service place : ℕ) (xs rows : List ServiceRow) (row d : ServiceRow) → xs ≡ rows → OnlyAt (has_number service) place xs → row ≡ set_row given (get_or rows place d) → row.id ≡ service
+changed_number given service place xs rows row d same only is =
+    ap (λ (r : ServiceRow). r.id) is
+    ∙ numbers_tell (get_or rows place d).id service (only_passes (has_number service) place rows d (subst (OnlyAt (has_number service) place) same only))

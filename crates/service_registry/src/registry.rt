@@ -10,7 +10,7 @@ ghost use Rattle.std.specs.Prelude.{◌≡◌, ◌+◌, ◌++◌, ◌<◌, [], �
 ghost use Rattle.std.specs.Result.{result_err};
 
 use crate::new_rows::{new_row, set_row};
-use crate::places::{own_place, place_of, place_or_gap};
+use crate::places::{highest_number, own_place, place_of, place_or_gap};
 use crate::search::{best_with, numbers_with};
 use crate::{RegistryFault, RowRoom, Saved, ServiceRow};
 use prop_map::{Copies, OutOfMemory, Properties, Str};
@@ -150,7 +150,7 @@ impl Registry {
         ensures err { OnErr result (self.new ≡ self.old) }
     {
         let row = self.changed_row(alloc, bundle, service, properties)?;
-        self.exchange(row);
+        let _before = self.exchange(row);
         Ok(())
     }
 
@@ -182,8 +182,10 @@ impl Registry {
         ensures set { (given : List Property) → option_map (set_row given) (row_of self.old.rows row.id) ≡ Some row → self.new ≡ with_properties row.id given self.old }
         ensures undone { (before : Registered) (other : ServiceRow) → IsNumbered before → other.id ≡ row.id → row_of before.rows row.id ≡ Some row → self.old ≡ with_row other before → self.new ≡ before }
     {
-        let place = place_of(self.rows.as_slice(), row.id)?;
-        Some(mem::replace(&mut self.rows[place], row))
+        match place_of(self.rows.as_slice(), row.id) {
+            Some(place) => Some(mem::replace(&mut self.rows[place], row)),
+            None => None,
+        }
     }
 
     /// Takes the registration that came last back, as if it had never come. It takes no memory.
@@ -216,8 +218,9 @@ impl Registry {
         if self.numbered < row.id {
             return;
         }
-        if let Err(gap) = place_or_gap(self.rows.as_slice(), row.id) {
-            room.insert(&mut self.rows, gap, row);
+        match place_or_gap(self.rows.as_slice(), row.id) {
+            Ok(_) => {}
+            Err(gap) => room.insert(&mut self.rows, gap, row),
         }
     }
 
@@ -242,10 +245,7 @@ impl Registry {
         ensures rows { self.new.rows ≡ self.old.rows }
         ensures undone { (before : Registered) → IsNumbered before → self.old ≡ with_numbers_given count before → self.new ≡ before }
     {
-        let least = match self.rows.last() {
-            Some(row) => row.id,
-            None => 0,
-        };
+        let least = highest_number(self.rows.as_slice());
         self.numbered = self.numbered.saturating_sub(count).max(least);
     }
 
