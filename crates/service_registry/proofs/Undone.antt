@@ -10,7 +10,7 @@ use Rattle.std.specs.Cmp.{IsTotalOrder, nat_cmp_is, nat_cmp_total, on_total, ran
 use Rattle.std.specs.List.{All, AllPairs}
 use Rattle.std.specs.List.Sorted.{IsBinarySearchResult, IsSearchInRange}
 use Rattle.std.specs.Ordering.{is_eq, nat_cmp}
-use Rattle.std.specs.Prelude.{◌&&◌, ◌==◌, filter, insert, is_none, map, nat_le, not, option_map, Ok, Err, Result}
+use Rattle.std.specs.Prelude.{◌&&◌, ◌==◌, filter, insert, is_none, map, nat_le, not, option_map, slice_get, Ok, Err, Result}
 use Rattle.std.specs.declared.cmp.Ordering.{Ordering}
 use Rattle.std.specs.declared.cmp.Ordering.TheVariants.{Less, Equal}
 use Rattle.prop_map.specs.declared.properties.Property.{Property}
@@ -32,7 +32,7 @@ pub record StandsIn (number : ℕ) (rows : List ServiceRow) (row : ServiceRow) :
   pub only : OnlyAt (has_number number) place rows
   pub is : row ≡ get_or rows place row
 
-row_or : ServiceRow → Option ServiceRow → ServiceRow
+abbrev row_or : ServiceRow → Option ServiceRow → ServiceRow
 row_or d None = d
 row_or d (Some r) = r
 
@@ -184,17 +184,17 @@ stays_with row place t at =
       no_and false = refl
 
 pub stays_without : (row : ServiceRow) (t : Registered) → t.numbered < row.id → t ≡ with_row_back row t
-stays_without row t above = sym (ap (λ b. cond (b && is_none (row_of t.rows row.id)) (as_table (insert_by has_lower_number row t.rows) t.numbered) t) (lt-leb t.numbered row.id above))
+stays_without row t above = sym (ap (λ b. cond (b && is_none (row_of t.rows row.id)) (as_table (insert_by has_lower_number row t.rows) t.numbered) t) (lt-leb row.id t.numbered above))
 
 -- with it the table is in order
 none_of : (n : ℕ) (rows : List ServiceRow) → row_of rows n ≡ None → NoneOf (has_number n) rows
 none_of n [] e = tt
-none_of n (r ∷ rows) e = by_test (has_number n r) refl where
-  by_test : (b : Bool) → has_number n r ≡ b → NoneOf (has_number n) (r ∷ rows)
-  by_test true t = let f : Some r ≡ None = sym (ap (λ b. cond b (Some r) (row_of rows n)) t) ∙ e in absurd (clash f) where
+none_of n (r ∷ rows) e = by_test (has_number n r) refl (λ f. none_of n rows f) where
+  by_test : (b : Bool) → has_number n r ≡ b → (row_of rows n ≡ None → NoneOf (has_number n) rows) → NoneOf (has_number n) (r ∷ rows)
+  by_test true t more = let f : Some r ≡ None = sym (ap (λ b. cond b (Some r) (row_of rows n)) t) ∙ e in absurd (clash f) where
     clash : Some r ≡ None → ⊥
     clash h = cc
-  by_test false t = (t, none_of n rows (sym (ap (λ b. cond b (Some r) (row_of rows n)) t) ∙ e))
+  by_test false t more = (t, more (sym (ap (λ b. cond b (Some r) (row_of rows n)) t) ∙ e))
 
 all_with : (n : ℕ) (row : ServiceRow) (rows : List ServiceRow) → row.id ≤ n → All (λ (r : ServiceRow). r.id ≤ n) rows → All (λ (r : ServiceRow). r.id ≤ n) (insert_by has_lower_number row rows)
 all_with n row [] low all = All-cons (λ (r : ServiceRow). r.id ≤ n) row [] low all
@@ -264,3 +264,9 @@ pub changed_number : (given : List Property) (service place : ℕ) (xs rows : Li
 changed_number given service place xs rows row d same only is =
     ap (λ (r : ServiceRow). r.id) is
     ∙ numbers_tell (get_or rows place d).id service (only_passes (has_number service) place rows d (subst (OnlyAt (has_number service) place) same only))
+
+pub last_highest : (rows : List ServiceRow) (row : ServiceRow) → Ascending rows → Some row ≡ slice_get rows (length rows - 1) → All (λ (r : ServiceRow). r.id ≤ row.id) rows
+last_highest rows row pairs is k d within =
+    let last : length rows - 1 < length rows = omega (arith, within) in
+    let same : row ≡ get_or rows (length rows - 1) row = ap (row_or row) (is ∙ slice_get-get_or rows (length rows - 1) row last) in
+    subst (λ (r : ServiceRow). (get_or rows k d).id ≤ r.id) (sym same) (last_is_highest rows row pairs k d within)
