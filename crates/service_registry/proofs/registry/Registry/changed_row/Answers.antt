@@ -1,4 +1,4 @@
-use Rattle.std.proofs.Common.{◌≡◌, ap, ◌∙◌}
+use Rattle.std.proofs.Common.{ap, ◌∙◌}
 use Rattle.service_registry.specs.Registries.{set_row}
 use Rattle.service_registry.proofs.Undone.{changed_number, changed_there}
 use Rattle.service_registry.proofs.registry.Registry.changed_row.Goals as goal

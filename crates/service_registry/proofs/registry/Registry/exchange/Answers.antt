@@ -3,7 +3,7 @@ use Rattle.std.proofs.Common.{◌≡◌, ap, sym, subst, ◌∙◌}
 use Rattle.std.proofs.Math.ListN.{set}
 use Rattle.row_places.proofs.RowPlaceLaws.{find_none}
 use Rattle.service_registry.specs.declared.row.ServiceRow.{ServiceRow}
-use Rattle.service_registry.specs.Registries.{IsNumbered, Registered, has_number, row_of}
+use Rattle.service_registry.specs.Registries.{IsNumbered, has_number, row_of}
 use Rattle.service_registry.specs.Undoing.{with_row}
 use Rattle.service_registry.proofs.Found.{as_table, found}
 use Rattle.service_registry.proofs.Undone.{changed, exchanged_back, none_written, numbered_written, written}

@@ -12,6 +12,6 @@ returns-clause-undone c before numbered was =
     let rows : c.self.inside.rows.items ≡ before.rows = ap (λ (t : Registered). t.rows) same in
     let given : c.self.inside.numbered ≡ before.numbered + c.args.count = ap (λ (t : Registered). t.numbered) same in
     let low : c.highest_number-least.result ≤ before.numbered =
-      c.highest_number-least.ensures.least before.numbered (subst (λ l. All (λ (r : ServiceRow). r.id ≤ before.numbered) l) (sym (c.as_slice.ensures.value ∙ rows)) numbered.1) in
+    c.highest_number-least.ensures.least before.numbered (subst (λ l. All (λ (r : ServiceRow). r.id ≤ before.numbered) l) (sym (c.as_slice.ensures.value ∙ rows)) numbered.1) in
     let last : c.max-self-inside.result ≡ before.numbered = omega (arith, low, given, c.saturating_sub.ensures, c.max-self-inside.ensures) in
     ap (λ l. as_table l c.max-self-inside.result) rows ∙ ap (as_table before.rows) last

@@ -1,5 +1,5 @@
 -- A row goes back into the gap of its number.
-use Rattle.std.proofs.Common.{◌≡◌, ◌<◌, ap, sym, subst, ◌∙◌, ℕ, List, Ok, Err}
+use Rattle.std.proofs.Common.{◌≡◌, ◌<◌, ap, sym, subst, ◌∙◌, Ok, Err}
 use Rattle.std.specs.Ordering.{nat_cmp}
 use Rattle.row_places.specs.RowPlaces.{IsPlaceOrGap}
 use Rattle.service_registry.specs.declared.row.ServiceRow.{ServiceRow}
@@ -19,12 +19,12 @@ returns-then-self-row-clause-undone c before numbered there was =
 
 pub returns-in-Ok-clause-back : goal.returns-in-Ok-clause-back
 returns-in-Ok-clause-back c =
-    let rows : c.as_slice.result.now ≡ c.args.self.now.rows = cc in
+    let rows : c.as_slice.result.now ≡ c.args.self.now.rows = c.as_slice.ensures.value ∙ ap (λ (t : Registered). t.rows) c.self.view_is in
     stays_with c.args.row c.in-Ok.field-0 c.args.self.now (subst (λ l. IsPlaceOrGap (λ (r : ServiceRow). nat_cmp r.id c.args.row.id) (Ok c.in-Ok.field-0) l) rows c.in-Ok.ensures.place)
 
 pub returns-in-Ok-clause-undone : goal.returns-in-Ok-clause-undone
 returns-in-Ok-clause-undone c before numbered there was =
-    let rows : c.as_slice.result.now ≡ c.args.self.now.rows = cc in
+    let rows : c.as_slice.result.now ≡ c.args.self.now.rows = c.as_slice.ensures.value ∙ ap (λ (t : Registered). t.rows) c.self.view_is in
     stays_with c.args.row c.in-Ok.field-0 c.args.self.now (subst (λ l. IsPlaceOrGap (λ (r : ServiceRow). nat_cmp r.id c.args.row.id) (Ok c.in-Ok.field-0) l) rows c.in-Ok.ensures.place)
     ∙ ap (with_row_back c.args.row) was ∙ put_back c.args.row before numbered there
 
