@@ -20,3 +20,5 @@ pub mod AfterPass
 pub mod FromScratch
 pub mod Passing
 pub mod OnePass
+pub mod AskingLemmas
+pub mod PropertyOrder

@@ -3,12 +3,18 @@
 #![tactic(auto)]
 
 mod component;
+mod component_configurations;
+mod component_rows;
 mod open_period;
 mod origin;
 mod pass;
 mod rows;
 
 pub use component::Component;
+pub use component_configurations::{
+    BundleView, ComponentView, components_for_bundles, configurations_of,
+};
+pub use component_rows::components_after;
 pub use open_period::OpenPeriod;
 pub use origin::{Choice, Origin};
 pub use pass::Passed;

@@ -13,3 +13,8 @@ mod journals;
 mod listeners;
 #[cfg(test)]
 mod samples;
+//! Tests of the tables of the wide world.
+#![tactic(auto)]
+
+#[cfg(test)]
+mod component_configurations;
