@@ -81,3 +81,18 @@ fn listeners_come_and_go(rt: HostRuntime) -> Result<(), Fail> {
     );
     Ok(())
 }
+
+#[test]
+fn listeners_go_back_to_what_was_saved(rt: HostRuntime) -> Result<(), Fail> {
+    let alloc = rt.alloc();
+    let mut listeners = Listeners::new(alloc)?;
+    let saved = listeners.save(alloc)?;
+    listeners.listen(alloc, 1, Filter::parse(alloc, "(v=*)")?)?;
+    listeners.go_back(saved);
+    assert!(rt; listeners.rows().is_empty());
+    assert_eq!(rt;
+        listeners.listen(alloc, 1, Filter::parse(alloc, "(v=*)")?),
+        Ok(1)
+    );
+    Ok(())
+}
