@@ -71,7 +71,10 @@ fn passes_append_to_one_history(rt: HostRuntime) -> Result<(), Fail> {
     assert_eq!(rt; (first.seen(), second.seen()), (2, 1));
     let pass = lock.join(&rt, first, second);
     let letters = lock.close(pass);
-    assert_eq!(rt; letters.items.as_slice(), [(number, 'b'), (0, 'a')].as_slice());
+    assert_eq!(rt;
+        letters.items.as_slice(),
+        [(number, 'b'), (0, 'a')].as_slice()
+    );
     Ok(())
 }
 

@@ -52,8 +52,8 @@ fn an_answer_is_written(rt: HostRuntime) -> Result<(), Fail> {
         last: true,
         head_only: false,
     };
-    let text = b"HTTP/1.1 200 OK\r\nservice-id: 7\r\ncontent-type: text/plain; charset=utf-8\r\ncontent-length: 2\r\nconnection: close\r\n\r\nab"
-        .as_slice();
+    let text =
+        b"HTTP/1.1 200 OK\r\nservice-id: 7\r\ncontent-type: text/plain; charset=utf-8\r\ncontent-length: 2\r\nconnection: close\r\n\r\nab".as_slice();
     assert_eq!(rt; write_response(rt.alloc(), &answer)?.as_slice(), text);
     let mut bytes = Vec::new(rt.alloc());
     push_response(&mut bytes, &answer)?;

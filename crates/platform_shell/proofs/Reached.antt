@@ -1,5 +1,5 @@
 -- How far a run has come with what was read, where the end of the input wasn't seen.
-use Rattle.std.proofs.Common.{◌≡◌, ◌≤◌, ℕ, List, [], ◌∷◌, ◌++◌, ap, sym, ◌∙◌, refl, append_assoc, length, Bool, false, Ok}
+use Rattle.std.proofs.Common.{◌≡◌, ℕ, List, [], ◌∷◌, ◌++◌, ap, sym, ◌∙◌, refl, append_assoc, Bool, false, Ok}
 use Rattle.std.specs.declared.option.Option.{Option}
 use Rattle.std.specs.Io.KnownBytes.{Appends, Consumes}
 use Rattle.std.proofs.KnownBytes.{Consumes-nil, Consumes-trans}
@@ -28,6 +28,7 @@ pub record Reached (s : Setting) (left now : Option (List ℕ)) (ended : Bool) (
 
 -- nothing was read yet
 pub reached_start : (s : Setting) (left written : Option (List ℕ)) (before : CoreView) → Reached s left left false [] before before written written 1
+unfolding progress_start
 reached_start s left written before = record {
   progress = progress_start s left written before;
   read = λ unended. record { taken = []; read = Consumes-nil left; first = λ more. refl };
@@ -42,7 +43,7 @@ line_more left now now' pending pending' lines line so_far (piece, size, got, sh
   first = λ more.
       let step = script_line 0 (lines_of ((pending ++ piece) ++ more)) (lines_of (pending' ++ more)) (record { text = line; size = size }) (is more) short other in
       ap (λ w. script_lines (lines_of w)) (append_assoc so_far.taken piece more) ∙ so_far.first (piece ++ more)
-          ∙ ap (λ w. lines ++ w) (ap (λ w. script_lines (lines_of w)) (sym (append_assoc pending piece more)) ∙ step.0) ∙ sym (append_assoc lines (line ∷ []) (script_lines (lines_of (pending' ++ more))));
+      ∙ ap (λ w. lines ++ w) (ap (λ w. script_lines (lines_of w)) (sym (append_assoc pending piece more)) ∙ step.0) ∙ sym (append_assoc lines (line ∷ []) (script_lines (lines_of (pending' ++ more))));
 }
 
 -- a line ran, and its reply is written
@@ -51,6 +52,7 @@ pub reached_line : {s : Setting} {left now : Option (List ℕ)} {ended : Bool} {
     → NextLine (coming ended now) (coming ended' now') pending pending' (OfLine line) → (ended' ≡ false → (ended ≡ false) × LineRead now now' pending pending' (OfLine line))
     → is_quit (shell_line line) ≡ false → RunsAsked s (shell_line line) at (Ok told) after → Appends written' written'' (texts (as_list told))
     → Reached s left now' ended' pending' first after written written'' (next_count number)
+unfolding progress_line
 reached_line {s} {left} {now} {ended} {pending} {first} {at} {written} {written'} {number} so_far now' ended' pending' after written'' line told next taken other runs wrote = record {
   progress = progress_line so_far.progress (coming ended' now') pending' after written'' line told next other runs wrote;
   read = λ unended. let here = taken unended in line_more left now now' pending pending' so_far.progress.lines line (so_far.read here.0) here.1 other;
@@ -70,7 +72,7 @@ reached_fault {s} {left} {now} {ended} {pending} {first} {at} {written} {written
       read = Consumes-trans left now now' before.taken piece before.read got;
       first = λ more.
           ap (λ w. script_lines (lines_of w)) (append_assoc before.taken piece more) ∙ before.first (piece ++ more)
-              ∙ ap (λ w. so_far.progress.lines ++ script_lines (lines_of w)) (sym (append_assoc pending piece more) ∙ ap (λ w. w ++ more) (sym is));
+          ∙ ap (λ w. so_far.progress.lines ++ script_lines (lines_of w)) (sym (append_assoc pending piece more) ∙ ap (λ w. w ++ more) (sym is));
       unended = none;
       short = short;
       ran = so_far.progress.ran;

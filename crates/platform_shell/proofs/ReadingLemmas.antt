@@ -103,7 +103,7 @@ line_read_found a b pending now line rest now' (OfLine text) (piece, got, all) n
   short,
   λ more.
       ap (λ w. lines_of (w ++ more)) (sym all ∙ is) ∙ ap lines_of (append_assoc line (10 ∷ rest) more) ∙ lines_of_line line (rest ++ more) none
-          ∙ ap (λ (w : List ℕ). record { text = w; size = length line } ∷ lines_of (rest ++ more)) (sym stripped) ∙ ap (λ w. record { text = text; size = length line } ∷ lines_of (w ++ more)) (sym left),
+      ∙ ap (λ (w : List ℕ). record { text = w; size = length line } ∷ lines_of (rest ++ more)) (sym stripped) ∙ ap (λ w. record { text = text; size = length line } ∷ lines_of (w ++ more)) (sym left),
 )
 line_read_found a b pending now line rest now' TooLong has none is taken = tt
 line_read_found a b pending now line rest now' End has none is taken = tt

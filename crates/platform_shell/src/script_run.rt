@@ -51,7 +51,7 @@ pub fn run_script<K: Kinds + Drop, In: Source, Out: Sink>(
     ensures write_faults { Out.fault_count output.new ≡ write_faults_after (Out.fault_count output.old) result }
     ensures complete { MatchResult (form_of (map (λ word. word.now) words.now))
         (λ manual. ¬ Rose (In.fault_count input.old) (In.fault_count input.new) → ¬ Rose (Out.fault_count output.old) (Out.fault_count output.new)
-            → EndsScript (record { is_manual = manual; refuses = K.refuses }) (In.left input.old) platform.old result)
+        → EndsScript (record { is_manual = manual; refuses = K.refuses }) (In.left input.old) platform.old result)
         (λ at. ⊤) }
     ensures legal { IsLegal platform.new.limits.journal (history_of platform.new.journal) }
     ensures limits { platform.new.limits ≡ platform.old.limits }

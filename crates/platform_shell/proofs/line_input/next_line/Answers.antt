@@ -1,6 +1,6 @@
-use Rattle.std.proofs.Common.{◌+◌, ◌∙◌, arith, [], Some, ap, drop, length, length-append, sym, take}
+use Rattle.std.proofs.Common.{◌+◌, ◌∙◌, arith, [], Some, ap, drop, length, length-append, take}
 use Rattle.platform_shell.specs.Reading.{SameBytes, coming}
-use Rattle.platform_shell.proofs.ReadingLemmas.{has_read_kept, has_read_more, has_read_none, last_line_found, line_read_found, long_line_found, next_line_found, same_bytes_end, same_bytes_read, same_bytes_trans, searched_all, searched_front}
+use Rattle.platform_shell.proofs.ReadingLemmas.{has_read_kept, has_read_more, last_line_found, line_read_found, long_line_found, next_line_found, same_bytes_end, same_bytes_read, same_bytes_trans, searched_all, searched_front}
 use Rattle.platform_shell.proofs.line_input.next_line.Goals as goal
 
 pub returns-in-Some-clause-step : goal.returns-in-Some-clause-step
@@ -14,9 +14,11 @@ pub returns-in-Some-clause-taken : goal.returns-in-Some-clause-taken
 returns-in-Some-clause-taken g c = λ unended.
     let found = rw c.deref.ensures.value at c.in-Some.ensures in
     let now = c.loop-at.ahead.bytes.items in
-    let taken = c.loop-at.invariant.taken unended in
-    (taken.0, line_read_found (g.In.Source.left c.args.input.now) (g.In.Source.left c.loop-at.input) c.args.ahead.now.bytes.items now (take c.in-Some.at now) (drop (c.in-Some.at + 1) now) c.take_line.new.bytes.items c.take_line.result
-        taken.1 found.1 found.2 c.take_line.ensures)
+    let taken = c.loop-at.invariant.taken unended in (
+      taken.0,
+      line_read_found (g.In.Source.left c.args.input.now) (g.In.Source.left c.loop-at.input) c.args.ahead.now.bytes.items now (take c.in-Some.at now) (drop (c.in-Some.at + 1) now) c.take_line.new.bytes.items c.take_line.result
+          taken.1 found.1 found.2 c.take_line.ensures,
+    )
 
 pub returns-then-searched-gt-LONGEST_LINE-clause-step : goal.returns-then-searched-gt-LONGEST_LINE-clause-step
 returns-then-searched-gt-LONGEST_LINE-clause-step g c =

@@ -10,4 +10,4 @@ returns-clause-complete g c =
     let writes = Rose (g.Out.Sink.fault_count c.args.output.now) (g.Out.Sink.fault_count c.run_lines-status.new.output) in
     rw (← c.in-Ok.ensures)
     (run_ends_script s (g.In.Source.left c.args.input.now) (g.Out.Sink.written c.args.output.now) (g.Out.Sink.written c.run_lines-status.new.output) c.args.platform.now c.run_lines-status.new.platform c.run_lines-status.result c.in-Ok.manual
-        reads writes c.run_lines-status.ensures.run c.run_lines-status.ensures.cause)
+    reads writes c.run_lines-status.ensures.run c.run_lines-status.ensures.cause)
