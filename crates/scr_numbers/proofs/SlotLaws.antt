@@ -46,19 +46,11 @@ below_range from n low is = go (has (range_with_len from n) low) refl
     go false h = refl
     go true h = absurd (let high = at_least from n low h in omega (arith, high, is))
 
-<<<<<<< HEAD
-range_apart : (from n : ℕ) → are_apart (range_with_len from n) ≡ true
-range_apart from zero = refl
-range_apart from (suc n) = ap (λ b. not b && are_apart (range_with_len (from + 1) n)) (below_range (from + 1) n from (omega arith)) ∙ range_apart (from + 1) n
-
-crowded : (n : ℕ) (ts : List ℕ) → ((k : ℕ) → k < n → has ts k ≡ true) → n ≤ length ts
-=======
 pub range_apart : (from n : ℕ) → are_apart (range_with_len from n) ≡ true
 range_apart from zero = refl
 range_apart from (suc n) = ap (λ b. not b && are_apart (range_with_len (from + 1) n)) (below_range (from + 1) n from (omega arith)) ∙ range_apart (from + 1) n
 
 pub crowded : (n : ℕ) (ts : List ℕ) → ((k : ℕ) → k < n → has ts k ≡ true) → n ≤ length ts
->>>>>>> e432d78
 crowded n ts each =
     let long = no_longer (range_with_len 0 n) ts (range_apart 0 n) (λ k is. each k (let low = in_range 0 n k is in omega (arith, low))) in
     let size = length-range_with_len 0 n in

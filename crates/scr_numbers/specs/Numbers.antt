@@ -1,11 +1,6 @@
-<<<<<<< HEAD
--- The numbers that a journal gives to bundles, services, listeners, turns and instances: each once, none left out. OSGi Core 8, chapter 4, "Bundle
--- Identifiers", and chapter 5, "Service Properties" (`service.id`); that none is left out is our own.
-=======
 -- The numbers that a journal gives to bundles, services, listeners, turns and instances: each once, none left out.
 -- OSGi Core 8, chapter 4, "Bundle Identifiers", and chapter 5, "Service Properties" (`service.id`); that none is left
 -- out is our own.
->>>>>>> e432d78
 use Rattle.std.specs.Prelude.{◌≡◌, ℕ, ◌==◌, List, [], ◌∷◌, ◌++◌, map, not, filter, length, if◌then◌else◌}
 use Rattle.std.specs.List.{range_with_len}
 use Rattle.callback_orders.specs.Grammar.{is_create}

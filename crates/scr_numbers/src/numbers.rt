@@ -7,15 +7,9 @@ ghost use Rattle.scr_world.specs.declared.step.Step.{Step};
 ghost use Rattle.scr_world.specs.declared.world.World.{World};
 ghost use Rattle.std.specs.Prelude.{ℕ};
 
-<<<<<<< HEAD
-/// For contracts alone: the bundles that a legal journal installs are numbered 1, 2 and so on in its order, and so are the services that it
-/// registers, the listeners that it adds, the turns that it begins and the instances that it makes: each number is given once, and none is left
-/// out. Journals are read from the last entry back.
-=======
 /// For contracts alone: the bundles that a legal journal installs are numbered 1, 2 and so on in its order, and so
 /// are the services that it registers, the listeners that it adds, the turns that it begins and the instances that it
 /// makes: each number is given once, and none is left out. Journals are read from the last entry back.
->>>>>>> e432d78
 pub fn note_numbers()
     ensures bundles { (limit : ℕ) → (journal : History) → IsLegal limit journal → AreNumbersOn (given (λ (entry : Entry Step). bundles_in entry.step) journal) }
     ensures services { (limit : ℕ) → (journal : History) → IsLegal limit journal → AreNumbersOn (given services_in journal) }
