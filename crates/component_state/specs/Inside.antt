@@ -3,3 +3,4 @@ pub mod Ranked
 pub mod Ready
 pub mod Runs
 pub mod ByNeeds
+pub mod HowMany
