@@ -20,3 +20,8 @@ pub mod AfterPass
 pub mod FromScratch
 pub mod Passing
 pub mod OnePass
+pub mod ByNeeds
+pub mod Published
+pub mod OpenIsScratch
+pub mod AskingLemmas
+pub mod PropertyOrder

@@ -1,5 +1,6 @@
 pub mod Components
 pub mod ComponentConfigurations
+pub mod ComponentRows
 pub mod Rows
 pub mod Periods
 pub mod Scratch

@@ -2,14 +2,41 @@
 //! pass that closes and opens after each entry of the journal (OSGi Compendium 8, chapter 112).
 #![tactic(auto)]
 
+mod choices;
 mod component;
+mod component_configurations;
+mod component_rows;
+mod components;
+mod marks;
+mod number_lists;
+mod one_pass;
 mod open_period;
 mod origin;
 mod pass;
+mod pass_order;
+mod pass_steps;
+mod periods;
+mod present_properties;
+mod reasons;
 mod rows;
+mod satisfaction;
+mod service_rows;
+mod stage;
 
+pub use choices::choice_at;
 pub use component::Component;
+pub use component_configurations::{
+    BundleView, ComponentView, components_for_bundles, configurations_of,
+};
+pub use component_rows::components_after;
+pub use components::{component_of, exists, needs_of};
+pub use marks::failed_after;
+pub use one_pass::note_one_pass;
 pub use open_period::OpenPeriod;
 pub use origin::{Choice, Origin};
-pub use pass::Passed;
+pub use pass::{Passed, pass_over};
+pub use periods::{is_current, is_open};
+pub use present_properties::with_present_properties;
 pub use rows::{BundleRow, ComponentRow, WorldRows};
+pub use service_rows::published_by;
+pub use stage::Stage;

@@ -1,6 +1,8 @@
 //! Open periods: from the entry that opens a component configuration to the next one that closes it.
+ghost use Rattle.component_state.specs.declared.open_period.OpenPeriod.{OpenPeriod};
+
 use prop_map::{Copies, OutOfMemory};
-use service_registry::ServiceRow;
+use service_registry::{HasRow, ServiceRow};
 use std::alloc::Global;
 
 /// An open period that hasn't ended.
@@ -21,5 +23,13 @@ impl Copies for OpenPeriod {
             opened: self.opened,
             row: self.row.copy(alloc)?,
         })
+    }
+}
+
+impl HasRow for OpenPeriod {
+    ghost row_of = { λ (p : OpenPeriod). p.row };
+
+    fn row(&self) -> &ServiceRow {
+        &self.row
     }
 }

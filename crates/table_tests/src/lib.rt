@@ -4,6 +4,8 @@
 #[cfg(test)]
 mod bundles;
 #[cfg(test)]
+mod component_configurations;
+#[cfg(test)]
 mod configurations;
 #[cfg(test)]
 mod gets;
@@ -13,3 +15,5 @@ mod journals;
 mod listeners;
 #[cfg(test)]
 mod samples;
+#[cfg(test)]
+mod services;

@@ -1,0 +1,71 @@
+//! A bundle as its component configurations are made of it.
+ghost use Rattle.component_state.specs.declared.rows.BundleRow.{BundleRow};
+ghost use Rattle.std.specs.Prelude.{◌≡◌, ◌==◌};
+
+use component_dto::Description;
+use std::marker::Model;
+
+/// A bundle with its descriptions and whether each is enabled, all borrowed. Contracts see a `BundleRow`.
+#[derive(Drop)]
+pub struct BundleView<'b> {
+    id: u64,
+    state: u32,
+    descriptions: &'b [Description],
+    enabled: &'b [bool],
+}
+
+impl<'b> Model for BundleView<'b> {
+    ghost use Rattle.component_state.specs.declared.rows.BundleRow.{BundleRow};
+
+    ghost Value = { BundleRow };
+
+    ghost view = { λ b. record { id = b.id; state = b.state; descriptions = b.descriptions.now; enabled = b.enabled.now } };
+}
+
+impl<'b> BundleView<'b> {
+    /// The bundle of a number, with the number of its state, the descriptions of its document in their order, and which of
+    /// them are enabled.
+    pub fn of(
+        id: u64,
+        state: u32,
+        descriptions: &'b [Description],
+        enabled: &'b [bool],
+    ) -> BundleView<'b>
+        ensures { result ≡ record { id = id; state = state; descriptions = descriptions.entry.now; enabled = enabled.entry.now } }
+    {
+        BundleView {
+            id,
+            state,
+            descriptions,
+            enabled,
+        }
+    }
+
+    /// Its number.
+    pub(crate) fn id(&self) -> u64
+        ensures { result ≡ self.now.id }
+    {
+        self.id
+    }
+
+    /// It is ACTIVE.
+    pub(crate) fn is_active(&self) -> bool
+        ensures { result ≡ (self.now.state == 32) }
+    {
+        self.state == 32
+    }
+
+    /// The descriptions of its document.
+    pub(crate) fn descriptions(&self) -> &'b [Description]
+        ensures { result.now ≡ self.now.descriptions }
+    {
+        self.descriptions
+    }
+
+    /// Which of them are enabled.
+    pub(crate) fn enabled(&self) -> &'b [bool]
+        ensures { result.now ≡ self.now.enabled }
+    {
+        self.enabled
+    }
+}
