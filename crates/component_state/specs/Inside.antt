@@ -5,3 +5,4 @@ pub mod Runs
 pub mod ByNeeds
 pub mod OpenMarks
 pub mod SoundStates
+pub mod HowMany

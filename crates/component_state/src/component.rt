@@ -1,6 +1,6 @@
 //! Component configurations (OSGi Compendium 8, chapter 112, "Components").
 use component_dto::Description;
-use prop_map::{Copies, OutOfMemory, Properties, Str};
+use prop_map::{Copies, OutOfMemory, Properties, Shared, Str};
 use std::alloc::Global;
 
 /// A component configuration.
@@ -16,8 +16,8 @@ pub struct Component {
     pub pid: Option<Str>,
     /// It hasn't ceased.
     pub exists: bool,
-    /// Its description.
-    pub description: Description,
+    /// Its description, which goes on with it from command to command.
+    pub description: Shared<Description>,
     /// Each of its PIDs has a configuration that counts.
     pub configured: bool,
     /// Its properties, its name and its number among them.
@@ -34,7 +34,7 @@ impl Copies for Component {
             index: self.index,
             pid: self.pid.copy(alloc)?,
             exists: self.exists,
-            description: self.description.copy(alloc)?,
+            description: self.description.share()?,
             configured: self.configured,
             properties: self.properties.copy(alloc)?,
             changed: self.changed,

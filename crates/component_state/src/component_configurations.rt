@@ -9,6 +9,7 @@ mod bundle_view;
 mod component_view;
 mod configuration_index;
 mod counting;
+mod how_many;
 mod properties;
 mod property_draft;
 
@@ -20,6 +21,7 @@ pub(crate) use component_view::with_number;
 use config_admin::Configuration;
 use configuration_index::ConfigurationIndex;
 use counting::{are_set, counting, factory_of, set_ones};
+pub use how_many::are_more_than;
 use prop_map::{OutOfMemory, Str};
 use properties::component_properties;
 use std::alloc::Global;

@@ -99,7 +99,7 @@ fn as_configured(
         Some(place)
     };
     let pid = component.pid.copy(alloc)?;
-    let description = component.description.copy(alloc)?;
+    let description = component.description.share()?;
     Ok(Component {
         number: component.number,
         bundle: component.bundle,

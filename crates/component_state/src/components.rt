@@ -35,10 +35,11 @@ pub fn component_of(components: &[Component], number: u64) -> Option<&Component>
 pub fn needs_of(alloc: Global, component: &Component) -> Result<List<Need>, OutOfMemory>
     ensures { IfOk result (λ needs. needs ≡ needs_of component.now) }
 {
-    let references = component.description.references.as_slice();
+    let description = component.description.get();
+    let references = description.references.as_slice();
     needs_with(
         alloc,
-        component.description.implicit,
+        description.implicit,
         references,
         &component.properties,
     )
@@ -49,7 +50,7 @@ pub(crate) fn lacks_configuration(component: &Component) -> bool
     ensures { result ≡ lacks_configuration component.now }
 {
     matches!(
-        component.description.configuration_policy,
+        component.description.get().configuration_policy,
         ConfigurationPolicy::Require
     ) && !component.configured
 }
@@ -60,6 +61,7 @@ pub(crate) fn provides_no_service(component: &Component) -> bool
 {
     component
         .description
+        .get()
         .service_interfaces
         .as_slice()
         .is_empty()

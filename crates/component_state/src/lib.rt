@@ -32,7 +32,7 @@ mod stage;
 pub use choices::choice_at;
 pub use component::Component;
 pub use component_configurations::{
-    BundleView, ComponentView, components_for_bundles, configurations_of,
+    BundleView, ComponentView, are_more_than, components_for_bundles, configurations_of,
 };
 pub use component_rows::components_after;
 pub use component_states::ComponentStates;

@@ -113,7 +113,7 @@ fn is_misled(
 fn has_untold_change(place: u64, component: &Component) -> bool
     ensures { result ≡ has_untold_change place component.now }
 {
-    is_changed_at(place, component) && component.description.modified.is_none()
+    is_changed_at(place, component) && component.description.get().modified.is_none()
 }
 
 // Whether one of these choices is outdated.

@@ -41,7 +41,7 @@ fn row_by(
     Ok(ServiceRow {
         id: service,
         bundle: component.bundle,
-        interfaces: component.description.service_interfaces.copy(alloc)?,
+        interfaces: component.description.get().service_interfaces.copy(alloc)?,
         properties: published_by(alloc, component, service)?,
         revision,
         direct: false,
@@ -74,8 +74,9 @@ pub fn published_by(
     ensures { IfOk result (λ properties. properties ≡ published_by component.now service) }
 {
     let given = published(alloc, &component.properties)?;
-    let interfaces = component.description.service_interfaces.as_slice();
-    let scope = scope_text(component.description.scope);
+    let description = component.description.get();
+    let interfaces = description.service_interfaces.as_slice();
+    let scope = scope_text(description.scope);
     with_service_properties(alloc, service, component.bundle, interfaces, scope, given)
 }
 

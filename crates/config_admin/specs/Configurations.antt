@@ -1,5 +1,5 @@
 -- Configurations: the last word on each PID. OSGi Compendium 8, chapter 104 "Configuration Admin Service Specification"; the section stands at each group of words.
-use Rattle.std.specs.Prelude.{ℕ, ◌||◌, List, [], ◌∷◌, ◌++◌, Bool, false, not, Option, Some, None, filter, find, codes}
+use Rattle.std.specs.Prelude.{ℕ, ◌||◌, List, ◌∷◌, ◌++◌, Bool, false, not, Option, Some, None, filter, find, codes}
 use Rattle.std.specs.Option.{option_map_or}
 use Rattle.std.specs.Str.{bytes_eq}
 use Rattle.prop_map.specs.declared.properties.Property.{Property}

@@ -1,2 +1,3 @@
 pub mod Configurations
+pub mod Orders
 pub mod Refusals

@@ -4,8 +4,13 @@
 
 mod config_fault;
 mod configuration;
+mod pids;
+mod refusals;
+mod rows;
+mod saved;
 mod table;
 
 pub use config_fault::ConfigFault;
 pub use configuration::Configuration;
+pub use saved::Saved;
 pub use table::Configurations;

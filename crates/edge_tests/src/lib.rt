@@ -5,3 +5,7 @@
 mod fault_ends;
 #[cfg(test)]
 mod gates;
+#[cfg(test)]
+mod locks;
+#[cfg(test)]
+mod messages;

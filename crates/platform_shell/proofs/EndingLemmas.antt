@@ -1,15 +1,20 @@
 -- Lemmas on how a run ends.
-use Rattle.std.proofs.Common.{◌≡◌, ◌≢◌, ℕ, List, [], ◌∷◌, Bool, true, false, cond, refl, ◌∙◌, Ok}
+use Rattle.std.proofs.Common.{◌≡◌, ℕ, List, [], ◌∷◌, Bool, true, false, cond, refl, ◌∙◌, Ok, inl, inr}
+use Rattle.std.specs.Prelude.{◌⊎◌}
+use Rattle.std.proofs.Math.Nat.{le_refl}
 use Rattle.std.specs.declared.option.Option.{Option}
-use Rattle.fault_count.specs.Steps.{next_count}
+use Rattle.fault_count.specs.Steps.{Rose, next_count}
+use Rattle.turn_runner.specs.declared.settle_fault.SettleFault.{SettleFault}
+use Rattle.turn_runner.specs.declared.settle_fault.SettleFault.TheVariants.{Unsettled as StillDue, JournalFull as NoRoom, OutOfMemory}
 use Rattle.platform_shell.specs.declared.status.Status.{Status}
 use Rattle.platform_shell.specs.declared.status.Status.TheVariants.{Done, Usage, ReadFault, WriteFault, NoMemory, JournalFull, LineTooLong, Unsettled}
 use Rattle.platform_shell.specs.Lines.{Line, is_too_long, lines_of}
 use Rattle.first_core.specs.Cores.{CoreView}
 use Rattle.shell_lang.specs.ShellLines.{shell_line, is_quit}
 use Rattle.platform_shell.specs.Asks.{Setting}
-use Rattle.platform_shell.specs.Runs.{EndsScript, HasRunOver, are_short, ending}
-use Rattle.platform_shell.specs.Statuses.{HasCause, IsEnding}
+use Rattle.platform_shell.specs.Cuts.{CutsFirst}
+use Rattle.platform_shell.specs.Runs.{Ends, EndsScript, FaultsAt, HasRun, HasRunOver, IsCutOff, are_short, ending, script_lines}
+use Rattle.platform_shell.specs.Statuses.{HasCause, IsEnding, read_faults_after, status_of, write_faults_after}
 
 quits_or : (q : Bool) (status : Status) → status ≡ Done → cond q Done status ≡ Done
 quits_or true status done = refl
@@ -26,18 +31,52 @@ pub ending_short : (number : ℕ) (lines : List Line) → are_short lines ≡ tr
 ending_short number [] short = refl
 ending_short number (line ∷ lines) short = short_step number line lines (ending_short (next_count number) lines) (is_too_long line) refl short
 
--- a status without a cause is an ending
-pub ends_without_cause : (status : Status) (manual : Bool) (R W : Type 0) → HasCause status (Ok manual) R W → (R → ⊥) → (W → ⊥) → status ≢ NoMemory → status ≢ JournalFull → status ≢ Unsettled → IsEnding status
-ends_without_cause Done manual R W cause reads writes memory room turns = tt
-ends_without_cause (Usage at) manual R W cause reads writes memory room turns = absurd cc
-ends_without_cause ReadFault manual R W cause reads writes memory room turns = absurd (reads cause)
-ends_without_cause WriteFault manual R W cause reads writes memory room turns = absurd (writes cause)
-ends_without_cause NoMemory manual R W cause reads writes memory room turns = absurd (memory refl)
-ends_without_cause JournalFull manual R W cause reads writes memory room turns = absurd (room refl)
-ends_without_cause (LineTooLong line) manual R W cause reads writes memory room turns = tt
-ends_without_cause Unsettled manual R W cause reads writes memory room turns = absurd (turns refl)
+at_end : (s : Setting) (bytes : List ℕ) (before after : CoreView) (written written' : Option (List ℕ)) (status : Status) → HasRun s bytes before after written written' status → IsEnding status → Ends bytes status
+at_end s bytes before after written written' status ran ending_there =
+    let ended = ran.ended ending_there in record { at_end = ending_there; which = ended.0; short = λ short. ended.0 ∙ ending_short 1 (lines_of bytes) short }
 
--- a run that comes to an end of its script
-pub run_ends_script : (s : Setting) (left written written' : Option (List ℕ)) (before after : CoreView) (status : Status) → HasRunOver s left before after written written' status → IsEnding status → EndsScript left status
-run_ends_script s left written written' before after status (bytes, told, ran) at_end =
-    let ended = ran.ended at_end in (bytes, told, record { at_end = at_end; which = ended.0; short = λ short. ended.0 ∙ ending_short 1 (lines_of bytes) short })
+-- the line behind those that ran is cut off
+cut_off : (s : Setting) (bytes : List ℕ) (before after : CoreView) (written written' : Option (List ℕ)) (status : Status) (fault : SettleFault) → (ran : HasRun s bytes before after written written' status)
+    → CutsFirst s ran.others fault ran.between after ran.later → IsCutOff s before (script_lines (lines_of bytes)) fault
+cut_off s bytes before after written written' status fault ran cut = (ran.lines, ran.others, ran.between, after, ran.commands, ran.later, ran.replies, ran.first, ran.ran, cut)
+
+-- a run without another cause came to its end
+ends_or_lacks : (s : Setting) (bytes : List ℕ) (before after : CoreView) (written written' : Option (List ℕ)) (status : Status) (manual : Bool) (R W : Type 0)
+    → HasRun s bytes before after written written' status → HasCause status (Ok manual) R W → (R → ⊥) → (W → ⊥)
+    → (IsCutOff s before (script_lines (lines_of bytes)) NoRoom → ⊥) → (IsCutOff s before (script_lines (lines_of bytes)) StillDue → ⊥) → (status ≡ NoMemory) ⊎ Ends bytes status
+ends_or_lacks s bytes before after written written' Done manual R W ran cause reads writes room turns = inr (at_end s bytes before after written written' Done ran tt)
+ends_or_lacks s bytes before after written written' (Usage at) manual R W ran cause reads writes room turns = absurd cc
+ends_or_lacks s bytes before after written written' ReadFault manual R W ran cause reads writes room turns = absurd (reads cause)
+ends_or_lacks s bytes before after written written' WriteFault manual R W ran cause reads writes room turns = absurd (writes cause)
+ends_or_lacks s bytes before after written written' NoMemory manual R W ran cause reads writes room turns = inl refl
+ends_or_lacks s bytes before after written written' JournalFull manual R W ran cause reads writes room turns =
+    absurd (room (cut_off s bytes before after written written' JournalFull NoRoom ran ran.stops.0))
+ends_or_lacks s bytes before after written written' (LineTooLong line) manual R W ran cause reads writes room turns = inr (at_end s bytes before after written written' (LineTooLong line) ran tt)
+ends_or_lacks s bytes before after written written' Unsettled manual R W ran cause reads writes room turns =
+    absurd (turns (cut_off s bytes before after written written' Unsettled StillDue ran ran.stops.0))
+
+-- where neither end fails
+pub run_ends_script : (s : Setting) (left written written' : Option (List ℕ)) (before after : CoreView) (status : Status) (manual : Bool) (R W : Type 0) → HasRunOver s left before after written written' status
+    → HasCause status (Ok manual) R W → (R → ⊥) → (W → ⊥) → EndsScript s left before status
+run_ends_script s left written written' before after status manual R W (bytes, told, ran) cause reads writes =
+    (bytes, told, λ room turns. ends_or_lacks s bytes before after written written' status manual R W ran cause reads writes room turns)
+
+-- a line that is cut off is no failure of an end
+pub no_fault_cut : (fault : SettleFault) (s : Setting) (left left' : Option (List ℕ)) (before after : CoreView) (written written' : Option (List ℕ)) → FaultsAt (status_of fault) s left left' before after written written'
+no_fault_cut StillDue s left left' before after written written' = tt
+no_fault_cut NoRoom s left left' before after written written' = tt
+no_fault_cut OutOfMemory s left left' before after written written' = tt
+
+pub no_read_fault_cut : (count : ℕ) (fault : SettleFault) → read_faults_after count (status_of fault) ≡ count
+no_read_fault_cut count StillDue = refl
+no_read_fault_cut count NoRoom = refl
+no_read_fault_cut count OutOfMemory = refl
+
+pub no_write_fault_cut : (count : ℕ) (fault : SettleFault) → write_faults_after count (status_of fault) ≡ count
+no_write_fault_cut count StillDue = refl
+no_write_fault_cut count NoRoom = refl
+no_write_fault_cut count OutOfMemory = refl
+
+-- the next count has risen
+pub rose_next : (before now : ℕ) → now ≡ next_count before → Rose before now
+rose_next before now is = rw is (le_refl (next_count before))

@@ -8,4 +8,5 @@ pub mod Resting
 pub mod PlainDocuments
 pub mod Plain
 pub mod Progress
+pub mod Reached
 pub mod EndingLemmas

@@ -75,7 +75,7 @@ Ran_snoc s first (head ∷ lines) line before between after commands replies tol
 )
 
 -- nothing ran yet
-pub progress_start : (s : Setting) (left written : Option (List ℕ)) (before : CoreView) → Progress s left left [] before before written written 1
+unfoldable pub progress_start : (s : Setting) (left written : Option (List ℕ)) (before : CoreView) → Progress s left left [] before before written written 1
 progress_start s left written before = record {
   lines = [];
   commands = [];
@@ -94,7 +94,7 @@ long_line : (line : Line) → longest_line < line.size → is_too_long line ≡ 
 long_line line long = grind (arith, nat_tests)
 
 -- a script that goes on with a line that is run
-script_line : (number : ℕ) (lines rest : List Line) (line : Line) → lines ≡ line ∷ rest → line.size ≤ longest_line → is_quit (shell_line line.text) ≡ false
+pub script_line : (number : ℕ) (lines rest : List Line) (line : Line) → lines ≡ line ∷ rest → line.size ≤ longest_line → is_quit (shell_line line.text) ≡ false
     → (script_lines lines ≡ line.text ∷ script_lines rest) × (ending number lines ≡ ending (next_count number) rest)
 script_line number lines rest line is short other = (rw (is, short_line line short, other) refl, rw (is, short_line line short, other) refl)
 
@@ -108,7 +108,7 @@ script_long : (number : ℕ) (lines rest : List Line) (line : Line) → lines �
 script_long number lines rest line is long = (rw (is, long_line line long) refl, rw (is, long_line line long) refl)
 
 -- the reading goes on behind a line
-goes_on : (left left' left'' : Option (List ℕ)) (pending pending' : List ℕ) (lines : List (List ℕ)) (number : ℕ) (line : List ℕ) → GoesOn left left' pending lines number
+pub goes_on : (left left' left'' : Option (List ℕ)) (pending pending' : List ℕ) (lines : List (List ℕ)) (number : ℕ) (line : List ℕ) → GoesOn left left' pending lines number
     → NextLine left' left'' pending pending' (OfLine line) → is_quit (shell_line line) ≡ false → GoesOn left left'' pending' (lines ++ line ∷ []) (next_count number)
 goes_on left left' left'' pending pending' lines number line so_far (size, short, next) other = λ more told.
     let here = next more told in
@@ -117,7 +117,7 @@ goes_on left left' left'' pending pending' lines number line so_far (size, short
     (all.0, all.1, all.2 ∙ ap (λ w. lines ++ w) step.0 ∙ sym (append_assoc lines (line ∷ []) (script_lines (lines_of (pending' ++ more)))), all.3 ∙ step.1)
 
 -- what running a line leaves: the platform stays plain, and is at rest in a run that began with another one
-line_of_run : {s : Setting} {left left' : Option (List ℕ)} {pending : List ℕ} {first now : CoreView} {written written' : Option (List ℕ)} {number : ℕ} → Progress s left left' pending first now written written' number
+pub line_of_run : {s : Setting} {left left' : Option (List ℕ)} {pending : List ℕ} {first now : CoreView} {written written' : Option (List ℕ)} {number : ℕ} → Progress s left left' pending first now written written' number
     → (line : List ℕ) (told : Option ShellReply) (after : CoreView) → RunsAsked s (shell_line line) now (Ok told) after → (are_plain (world now) ≡ true → are_plain (world after) ≡ true) × RunsLine s first (shell_line line) now told after
 line_of_run {s} {left} {left'} {pending} {first} {now} {written} {written'} {number} so_far line told after (between, asks, rests, comes) =
     let plain : are_plain (world now) ≡ true → are_plain (world after) ≡ true = plain_grew now after (commands_of now (shell_line line)) (grew_carried s (shell_line line) now between after told asks rests) (plain_asked now line) in (
@@ -126,7 +126,7 @@ line_of_run {s} {left} {left'} {pending} {first} {now} {written} {written'} {num
     )
 
 -- a line ran, and its reply is written
-pub progress_line : {s : Setting} {left left' : Option (List ℕ)} {pending : List ℕ} {first now : CoreView} {written written' : Option (List ℕ)} {number : ℕ} → Progress s left left' pending first now written written' number
+unfoldable pub progress_line : {s : Setting} {left left' : Option (List ℕ)} {pending : List ℕ} {first now : CoreView} {written written' : Option (List ℕ)} {number : ℕ} → Progress s left left' pending first now written written' number
     → (left'' : Option (List ℕ)) (pending' : List ℕ) (after : CoreView) (written'' : Option (List ℕ)) (line : List ℕ) (told : Option ShellReply)
     → NextLine left' left'' pending pending' (OfLine line) → is_quit (shell_line line) ≡ false → RunsAsked s (shell_line line) now (Ok told) after
     → Appends written' written'' (texts (as_list told)) → Progress s left left'' pending' first after written written'' (next_count number)

@@ -5,11 +5,12 @@ use Rattle.std.specs.Option.{option_map}
 use Rattle.std.proofs.lemmas.List.{drop-drop}
 use Rattle.std.proofs.Math.Seq.{take-append_seam}
 use Rattle.std.proofs.lemmas.List.Elements.{All-append, All-same}
-use Rattle.std.specs.Io.KnownBytes.{Consumes, IsAtEnd}
+use Rattle.std.specs.Io.KnownBytes.{Consumes, IsAtEnd, Keeps}
+use Rattle.std.proofs.KnownBytes.{Consumes-kept, Consumes-nil, Consumes-trans}
 use Rattle.platform_shell.specs.declared.line_input.LineStep.{LineStep}
 use Rattle.platform_shell.specs.declared.line_input.LineStep.TheVariants.{Line as OfLine, TooLong, End, Failed, NoMemory}
 use Rattle.platform_shell.specs.Lines.{is_line_feed, lines_of, longest_line}
-use Rattle.platform_shell.specs.Reading.{Tells, SameBytes, FirstLineFeed, NoLineFeed, NextLine, IsLastLine, TakesLine}
+use Rattle.platform_shell.specs.Reading.{Tells, SameBytes, FirstLineFeed, HasRead, LineRead, NoLineFeed, NextLine, IsLastLine, TakesLine}
 use Rattle.platform_shell.proofs.LineLemmas.{lines_of_line, lines_of_last, lines_of_front}
 
 take_add : (bytes : List ℕ) (n m : ℕ) → take (n + m) bytes ≡ take n bytes ++ take m (drop n bytes)
@@ -49,6 +50,22 @@ same_bytes_got (Some xs) None pending piece got = absurd got
 same_bytes_got (Some xs) (Some ys) pending piece got =
     λ more told. (piece ++ more, got ∙ ap (λ w. piece ++ w) told, sym (append_assoc pending piece more))
 
+pub same_bytes_read : (a b : Option (List ℕ)) (pending now : List ℕ) → HasRead a b pending now → SameBytes a b pending now
+same_bytes_read a b pending now (piece, got, is) = rw is (same_bytes_got a b pending piece got)
+
+-- nothing was read yet
+pub has_read_none : (a : Option (List ℕ)) (pending : List ℕ) → HasRead a a pending pending
+has_read_none a pending = ([], Consumes-nil a, sym (append-nil pending))
+
+-- a read that failed moved nothing
+pub has_read_kept : (a b c : Option (List ℕ)) (pending now now' : List ℕ) → HasRead a b pending now → Keeps b c → now' ≡ now → HasRead a c pending now'
+has_read_kept a b c pending now now' (piece, got, is) kept same = (piece, Consumes-kept a b c piece got kept, same ∙ is)
+
+-- one piece more
+pub has_read_more : (a b c : Option (List ℕ)) (pending now now' : List ℕ) → HasRead a b pending now → HasRead b c now now' → HasRead a c pending now'
+has_read_more a b c pending now now' (piece, got, is) (next, later, then) =
+    (piece ++ next, Consumes-trans a b c piece next got later, then ∙ ap (λ w. w ++ next) is ∙ append_assoc pending piece next)
+
 -- the end was seen
 pub same_bytes_end : (a : Option (List ℕ)) (pending : List ℕ) → IsAtEnd a → SameBytes a (Some []) pending pending
 same_bytes_end None pending ends = λ more told. (more, tt, refl)
@@ -75,6 +92,23 @@ next_line_found a b pending now line rest now' TooLong same none is long =
 next_line_found a b pending now line rest now' End same none is taken = absurd taken
 next_line_found a b pending now line rest now' Failed same none is taken = absurd taken
 next_line_found a b pending now line rest now' NoMemory same none is taken = tt
+
+-- the next line up to a line feed, whatever comes
+pub line_read_found : (a b : Option (List ℕ)) (pending now line rest now' : List ℕ) (step : LineStep) → HasRead a b pending now → NoLineFeed line → now ≡ line ++ 10 ∷ rest
+    → TakesLine line rest now' step → LineRead a b pending now' step
+line_read_found a b pending now line rest now' (OfLine text) (piece, got, all) none is (short, stripped, left) = (
+  piece,
+  length line,
+  got,
+  short,
+  λ more.
+      ap (λ w. lines_of (w ++ more)) (sym all ∙ is) ∙ ap lines_of (append_assoc line (10 ∷ rest) more) ∙ lines_of_line line (rest ++ more) none
+      ∙ ap (λ (w : List ℕ). record { text = w; size = length line } ∷ lines_of (rest ++ more)) (sym stripped) ∙ ap (λ w. record { text = text; size = length line } ∷ lines_of (w ++ more)) (sym left),
+)
+line_read_found a b pending now line rest now' TooLong has none is taken = tt
+line_read_found a b pending now line rest now' End has none is taken = tt
+line_read_found a b pending now line rest now' Failed has none is taken = absurd taken
+line_read_found a b pending now line rest now' NoMemory has none is taken = tt
 
 -- a line that is too long already, whatever comes
 pub long_line_found : (a b : Option (List ℕ)) (pending now now' : List ℕ) → SameBytes a b pending now → NoLineFeed now → longest_line < length now → NextLine a b pending now' TooLong

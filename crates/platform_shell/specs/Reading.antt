@@ -1,7 +1,8 @@
 -- How the bytes of an input go on.
 use Rattle.std.specs.Prelude.{◌≡◌, ◌+◌, ◌<◌, ◌≤◌, ℕ, List, [], ◌∷◌, ◌++◌, length, take, drop, All, Bool, false, Option, Some, None, if◌then◌else◌}
-use Rattle.std.specs.Io.KnownBytes.{IsAtEnd}
+use Rattle.std.specs.Io.KnownBytes.{Consumes, IsAtEnd, Keeps}
 use Rattle.std.specs.Str.Lines.{strip_carriage_return}
+use Rattle.fault_count.specs.Steps.{next_count}
 use Rattle.platform_shell.specs.declared.line_input.LineStep.{LineStep}
 use Rattle.platform_shell.specs.declared.line_input.LineStep.TheVariants.{Line as OfLine, TooLong, End, Failed, NoMemory}
 use Rattle.platform_shell.specs.declared.line_input.FillStep.{FillStep}
@@ -21,6 +22,10 @@ coming ended left = if ended then Some [] else left
 abbrev pub SameBytes : Option (List ℕ) → Option (List ℕ) → List ℕ → List ℕ → Type 0
 SameBytes left left' pending pending' = (more' : List ℕ) → Tells left' more' → (more : List ℕ) × Tells left more × (pending ++ more ≡ pending' ++ more')
 
+-- a piece was read, and stands behind the pending bytes
+abbrev pub HasRead : Option (List ℕ) → Option (List ℕ) → List ℕ → List ℕ → Type 0
+HasRead left left' pending pending' = (piece : List ℕ) × Consumes left left' piece × (pending' ≡ pending ++ piece)
+
 abbrev pub NoLineFeed : List ℕ → Type 0
 NoLineFeed bytes = All (λ b. is_line_feed b ≡ false) bytes
 
@@ -31,11 +36,15 @@ FirstLineFeed bytes (Some at) = (at < length bytes) × NoLineFeed (take at bytes
 
 -- what a read adds to the pending bytes
 abbrev pub Fills : Option (List ℕ) → Option (List ℕ) → ℕ → ℕ → List ℕ → List ℕ → FillStep → Type 0
-Fills left left' number number' pending pending' Filled =
-    SameBytes left left' pending pending' × (number' < number) × (number' + length pending' ≤ number + length pending) × ((piece : List ℕ) × (pending' ≡ pending ++ piece))
+Fills left left' number number' pending pending' Filled = HasRead left left' pending pending' × (number' < number) × (number' + length pending' ≤ number + length pending)
 Fills left left' number number' pending pending' AtEnd = IsAtEnd left × (pending' ≡ pending) × (number' ≤ number)
-Fills left left' number number' pending pending' ReadFailed = Unit {0}
+Fills left left' number number' pending pending' ReadFailed = Keeps left left' × (pending' ≡ pending)
 Fills left left' number number' pending pending' FillNoMemory = Unit {0}
+
+-- the count of the source's faults after it
+abbrev pub faults_after_fill : ℕ → FillStep → ℕ
+faults_after_fill count ReadFailed = next_count count
+faults_after_fill count _ = count
 
 -- the next line of the pending bytes and those behind them, where it isn't too long
 abbrev pub NextLine : Option (List ℕ) → Option (List ℕ) → List ℕ → List ℕ → LineStep → Type 0
@@ -46,6 +55,19 @@ NextLine left left' pending pending' TooLong =
 NextLine left left' pending pending' End = (more : List ℕ) × Tells left more × (lines_of (pending ++ more) ≡ [])
 NextLine left left' pending pending' Failed = Unit {0}
 NextLine left left' pending pending' NoMemory = Unit {0}
+
+-- What was read for the next line, where the end of the input wasn't seen: it is the first line whatever comes behind. At a failure the pending bytes are no
+-- whole line, and aren't too long for one.
+abbrev pub LineRead : Option (List ℕ) → Option (List ℕ) → List ℕ → List ℕ → LineStep → Type 0
+LineRead left left' pending pending' (OfLine text) =
+    (piece : List ℕ) × (size : ℕ) × Consumes left left' piece × (size ≤ longest_line) × ((more : List ℕ) → lines_of ((pending ++ piece) ++ more) ≡ record { text = text; size = size } ∷ lines_of (pending' ++ more))
+LineRead left left' pending pending' Failed = HasRead left left' pending pending' × NoLineFeed pending' × (length pending' ≤ longest_line)
+LineRead left left' pending pending' _ = Unit {0}
+
+-- the count of the source's faults after it
+abbrev pub faults_after_line : ℕ → LineStep → ℕ
+faults_after_line count Failed = next_count count
+faults_after_line count _ = count
 
 -- a line took at least a byte away
 abbrev pub IsShorter : LineStep → ℕ → ℕ → Type 0

@@ -1,8 +1,8 @@
 -- A run over the lines of an input: what becomes of the platform, and the text that it makes. Our own form.
-use Rattle.std.specs.Prelude.{◌≡◌, ◌<◌, ℕ, List, [], ◌∷◌, ◌++◌, flat_map, length, take, ◌||◌, Bool, true, not, Option, Some, ◌⊎◌, if◌then◌else◌}
+use Rattle.std.specs.Prelude.{◌≡◌, ◌<◌, ◌≤◌, ℕ, List, [], ◌∷◌, ◌++◌, flat_map, length, take, ◌||◌, Bool, true, not, Option, Some, ◌⊎◌, if◌then◌else◌}
 use Rattle.std.specs.List.{list_all}
 use Rattle.std.specs.Option.{option_map_or}
-use Rattle.std.specs.Io.KnownBytes.{Appends}
+use Rattle.std.specs.Io.KnownBytes.{Appends, Consumes}
 use Rattle.fault_count.specs.Steps.{next_count}
 use Rattle.journal_core.specs.declared.entry.Entry.{Entry}
 use Rattle.first_core.specs.declared.command.Command.{Command}
@@ -11,16 +11,17 @@ use Rattle.first_core.specs.declared.command.Step.TheVariants.{Command as Steppe
 use Rattle.first_core.specs.Cores.{CoreView}
 use Rattle.first_core.specs.Legal.{IsLegal}
 use Rattle.first_core.specs.Steps.{history_of}
+use Rattle.turn_runner.specs.declared.settle_fault.SettleFault.{SettleFault}
 use Rattle.turn_runner.specs.declared.settle_fault.SettleFault.TheVariants.{Unsettled as StillDue, JournalFull as NoRoom, OutOfMemory}
 use Rattle.shell_lang.specs.declared.shell_reply.ShellReply.{ShellReply}
 use Rattle.shell_lang.specs.ReplyTexts.{reply_text}
 use Rattle.shell_lang.specs.ShellLines.{Asked, shell_line, is_quit}
 use Rattle.platform_shell.specs.declared.status.Status.{Status}
-use Rattle.platform_shell.specs.declared.status.Status.TheVariants.{Done, Usage, WriteFault, NoMemory, JournalFull, LineTooLong, Unsettled}
+use Rattle.platform_shell.specs.declared.status.Status.TheVariants.{Done, ReadFault, Usage, WriteFault, NoMemory, JournalFull, LineTooLong, Unsettled}
 use Rattle.platform_shell.specs.Asks.{Asks, Setting, commands_of}
 use Rattle.platform_shell.specs.Cuts.{CutsFirst, Stays}
-use Rattle.platform_shell.specs.Lines.{Line, is_too_long, lines_of}
-use Rattle.platform_shell.specs.Reading.{Tells}
+use Rattle.platform_shell.specs.Lines.{Line, is_too_long, lines_of, longest_line}
+use Rattle.platform_shell.specs.Reading.{NoLineFeed, Tells}
 use Rattle.platform_shell.specs.Rests.{IsAtRest, Rests}
 use Rattle.platform_shell.specs.Statuses.{IsEnding}
 
@@ -131,5 +132,35 @@ pub record Ends (bytes : List ℕ) (status : Status) : Type 0 where
   pub which : status ≡ ending 1 (lines_of bytes)
   pub short : are_short (lines_of bytes) ≡ true → status ≡ Done
 
-abbrev pub EndsScript : Option (List ℕ) → Status → Type 0
-EndsScript left status = (bytes : List ℕ) × Tells left bytes × Ends bytes status
+-- A line of the script is cut off with this fault: the lines before it run, and it finds no room in the journal, needs more turns than the limit, or wants memory.
+abbrev pub IsCutOff : Setting → CoreView → List (List ℕ) → SettleFault → Type 0
+IsCutOff s before script fault =
+    (lines : List (List ℕ)) × (others : List (List ℕ)) × (between : CoreView) × (after : CoreView) × (commands : List Command) × (later : List Command) × (replies : List ShellReply)
+    × (script ≡ lines ++ others) × Ran s before lines before between commands replies × CutsFirst s others fault between after later
+
+-- Where no line of the script lacks room, and none needs more turns than the limit, the run came to the end of its script, or memory was wanting.
+abbrev pub EndsScript : Setting → Option (List ℕ) → CoreView → Status → Type 0
+EndsScript s left before status =
+    (bytes : List ℕ) × Tells left bytes
+    × (¬ IsCutOff s before (script_lines (lines_of bytes)) NoRoom → ¬ IsCutOff s before (script_lines (lines_of bytes)) StillDue → (status ≡ NoMemory) ⊎ Ends bytes status)
+
+-- A run that a failed source ended: each whole line that was read has run, and its reply is written. None of them is `quit` or too long.
+pub record Faulted (s : Setting) (left left' : Option (List ℕ)) (before after : CoreView) (written written' : Option (List ℕ)) : Type 0 where
+  pub taken : List ℕ
+  pub pending : List ℕ
+  pub lines : List (List ℕ)
+  pub commands : List Command
+  pub replies : List ShellReply
+  -- these bytes were read
+  pub read : Consumes left left' taken
+  -- whatever were to come behind them, the script begins with the lines that ran, and goes on with the pending bytes
+  pub first : (more : List ℕ) → script_lines (lines_of (taken ++ more)) ≡ lines ++ script_lines (lines_of (pending ++ more))
+  -- the pending bytes are no whole line, and aren't too long for one
+  pub unended : NoLineFeed pending
+  pub short : length pending ≤ longest_line
+  pub ran : Ran s before lines before after commands replies
+  pub wrote : Appends written written' (texts replies)
+
+abbrev pub FaultsAt : Status → Setting → Option (List ℕ) → Option (List ℕ) → CoreView → CoreView → Option (List ℕ) → Option (List ℕ) → Type 0
+FaultsAt ReadFault s left left' before after written written' = Faulted s left left' before after written written'
+FaultsAt _ s left left' before after written written' = Unit {0}

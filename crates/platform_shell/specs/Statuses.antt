@@ -1,6 +1,7 @@
 -- How a run ends, and the words that ask for one. Our own form.
 use Rattle.std.specs.Prelude.{◌≡◌, ℕ, List, [], ◌∷◌, Bool, true, false, codes, Result, Ok, Err, if◌then◌else◌}
 use Rattle.std.specs.Str.{bytes_eq}
+use Rattle.fault_count.specs.Steps.{next_count}
 use Rattle.turn_runner.specs.declared.settle_fault.SettleFault.{SettleFault}
 use Rattle.turn_runner.specs.declared.settle_fault.SettleFault.TheVariants.{Unsettled as StillDue, JournalFull as NoRoom, OutOfMemory}
 use Rattle.platform_shell.specs.declared.status.Status.{Status}
@@ -44,6 +45,16 @@ HasCause (Usage at) form read_failed write_failed = form ≡ Err at
 HasCause ReadFault form read_failed write_failed = read_failed
 HasCause WriteFault form read_failed write_failed = write_failed
 HasCause _ form read_failed write_failed = Unit {0}
+
+-- the count of the source's faults after a run: it fails once, at the read that ends the run, or never
+abbrev pub read_faults_after : ℕ → Status → ℕ
+read_faults_after count ReadFault = next_count count
+read_faults_after count _ = count
+
+-- the same for the sink
+abbrev pub write_faults_after : ℕ → Status → ℕ
+write_faults_after count WriteFault = next_count count
+write_faults_after count _ = count
 
 -- how a run ends whose line is cut off
 abbrev pub status_of : SettleFault → Status

@@ -1,8 +1,7 @@
 //! The next line of an input that comes in pieces.
 ghost use Rattle.std.specs.Prelude.{◌≡◌, ◌+◌, ◌<◌, ◌≤◌, [], ◌∷◌, ◌++◌, drop, false, length, List, ℕ, take, vec_len, MatchOption};
 ghost use Rattle.std.specs.Str.Lines.{strip_carriage_return};
-ghost use Rattle.fault_count.specs.Steps.{Rose};
-ghost use Rattle.platform_shell.specs.Reading.{coming, FirstLineFeed, Fills, NextLine, IsShorter, NoLineFeed, IsLastLine, TakesLine};
+ghost use Rattle.platform_shell.specs.Reading.{coming, faults_after_fill, faults_after_line, FirstLineFeed, Fills, LineRead, NextLine, IsShorter, NoLineFeed, IsLastLine, TakesLine};
 
 use fault_count::{ReadStep, Source};
 use prop_map::List;
@@ -69,8 +68,9 @@ const LONGEST_LINE: usize = 1_048_576;
 pub fn next_line<In: Source>(alloc: Global, ahead: &mut ReadAhead, input: &mut In) -> LineStep
     ensures step { NextLine (coming ahead.old.ended (In.left input.old)) (coming ahead.new.ended (In.left input.new)) ahead.old.bytes.items ahead.new.bytes.items result }
     ensures shorter { IsShorter result (In.number input.old + length ahead.old.bytes.items) (In.number input.new + length ahead.new.bytes.items) }
-    ensures cause { result ≡ LineStep.Failed → Rose (In.fault_count input.old) (In.fault_count input.new) }
-    ensures later { In.fault_count input.old ≤ In.fault_count input.new }
+    ensures taken { ahead.new.ended ≡ false → (ahead.old.ended ≡ false) × LineRead (In.left input.old) (In.left input.new) ahead.old.bytes.items ahead.new.bytes.items result }
+    ensures unended { result ≡ LineStep.Failed → ahead.new.ended ≡ false }
+    ensures faults { In.fault_count input.new ≡ faults_after_line (In.fault_count input.old) result }
 {
     let mut searched = 0usize;
     loop {
@@ -160,8 +160,7 @@ fn last_line(alloc: Global, bytes: &mut Vec<u8>) -> LineStep
 // Reads a piece behind the pending bytes.
 fn fill<In: Source>(bytes: &mut Vec<u8>, input: &mut In) -> FillStep
     ensures step { Fills (In.left input.old) (In.left input.new) (In.number input.old) (In.number input.new) bytes.old.items bytes.new.items result }
-    ensures cause { result ≡ FillStep.ReadFailed → Rose (In.fault_count input.old) (In.fault_count input.new) }
-    ensures later { In.fault_count input.old ≤ In.fault_count input.new }
+    ensures faults { In.fault_count input.new ≡ faults_after_fill (In.fault_count input.old) result }
 {
     let mut room = [0u8; 4096];
     match input.read(&mut room) {

@@ -1,11 +1,11 @@
 //! The run of a script: a line, its reply, and so on to the end.
-ghost use Rattle.std.specs.Prelude.{◌≡◌, ◌≢◌, Ok, IsOk, MatchResult, map};
+ghost use Rattle.std.specs.Prelude.{◌≡◌, Ok, MatchResult, map, ⊤};
 ghost use Rattle.std.specs.Io.KnownBytes.{Keeps};
 ghost use Rattle.fault_count.specs.Steps.{Rose};
 ghost use Rattle.first_core.specs.Legal.{IsLegal};
 ghost use Rattle.first_core.specs.Steps.{history_of};
-ghost use Rattle.platform_shell.specs.Runs.{EndsScript, HasRunOver};
-ghost use Rattle.platform_shell.specs.Statuses.{HasCause, form_of};
+ghost use Rattle.platform_shell.specs.Runs.{EndsScript, FaultsAt, HasRunOver};
+ghost use Rattle.platform_shell.specs.Statuses.{HasCause, form_of, read_faults_after, write_faults_after};
 
 use crate::line_ask::{AskStep, read_ask};
 use crate::line_input::{LineStep, ReadAhead, next_line};
@@ -29,6 +29,9 @@ use std::alloc::Global;
 /// before it has taken all of the reply's text: it has taken a front of it. Nothing else of that line's reply is written, no further line is
 /// run, and the replies of the lines before it are written whole. Where neither end fails and none of these comes, the run ends with all
 /// replies written: `LineTooLong` where a line before `quit` is too long, else `Done`.
+///
+/// The first failure of the source ends the run with `ReadFault`, the first of the sink with `WriteFault`, and no failure is passed over: in
+/// any other case both counts of faults are as they were. Where the source fails each whole line that was read has run, with its reply written.
 pub fn run_script<K: Kinds + Drop, In: Source, Out: Sink>(
     alloc: Global,
     platform: &mut Platform<K>,
@@ -41,8 +44,15 @@ pub fn run_script<K: Kinds + Drop, In: Source, Out: Sink>(
         (λ at. (result ≡ Status.Usage at) × (platform.new ≡ platform.old) × Keeps (In.left input.old) (In.left input.new) × Keeps (Out.written output.old) (Out.written output.new)) }
     ensures cause { HasCause result (form_of (map (λ word. word.now) words.now))
         (Rose (In.fault_count input.old) (In.fault_count input.new)) (Rose (Out.fault_count output.old) (Out.fault_count output.new)) }
-    ensures complete { IsOk (form_of (map (λ word. word.now) words.now)) → ¬ Rose (In.fault_count input.old) (In.fault_count input.new) → ¬ Rose (Out.fault_count output.old) (Out.fault_count output.new)
-        → result ≢ Status.NoMemory → result ≢ Status.JournalFull → result ≢ Status.Unsettled → EndsScript (In.left input.old) result }
+    ensures fault { MatchResult (form_of (map (λ word. word.now) words.now))
+        (λ manual. FaultsAt result (record { is_manual = manual; refuses = K.refuses }) (In.left input.old) (In.left input.new) platform.old platform.new (Out.written output.old) (Out.written output.new))
+        (λ at. ⊤) }
+    ensures read_faults { In.fault_count input.new ≡ read_faults_after (In.fault_count input.old) result }
+    ensures write_faults { Out.fault_count output.new ≡ write_faults_after (Out.fault_count output.old) result }
+    ensures complete { MatchResult (form_of (map (λ word. word.now) words.now))
+        (λ manual. ¬ Rose (In.fault_count input.old) (In.fault_count input.new) → ¬ Rose (Out.fault_count output.old) (Out.fault_count output.new)
+        → EndsScript (record { is_manual = manual; refuses = K.refuses }) (In.left input.old) platform.old result)
+        (λ at. ⊤) }
     ensures legal { IsLegal platform.new.limits.journal (history_of platform.new.journal) }
     ensures limits { platform.new.limits ≡ platform.old.limits }
 {
@@ -68,6 +78,9 @@ fn run_lines<K: Kinds + Drop, In: Source, Out: Sink>(
 ) -> Status
     ensures run { HasRunOver (record { is_manual = manual; refuses = K.refuses }) (In.left input.old) platform.old platform.new (Out.written output.old) (Out.written output.new) result }
     ensures cause { HasCause result (Ok manual) (Rose (In.fault_count input.old) (In.fault_count input.new)) (Rose (Out.fault_count output.old) (Out.fault_count output.new)) }
+    ensures fault { FaultsAt result (record { is_manual = manual; refuses = K.refuses }) (In.left input.old) (In.left input.new) platform.old platform.new (Out.written output.old) (Out.written output.new) }
+    ensures read_faults { In.fault_count input.new ≡ read_faults_after (In.fault_count input.old) result }
+    ensures write_faults { Out.fault_count output.new ≡ write_faults_after (Out.fault_count output.old) result }
 {
     let mut ahead = ReadAhead::new(alloc);
     let mut number = 1u64;

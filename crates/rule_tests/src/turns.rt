@@ -1,4 +1,5 @@
 //! Turns one by one and until nothing is due.
+ghost use Rattle.std.specs.Prelude.{◌≡◌, IfOk};
 
 use crate::samples::{site, text};
 use crate::{MemoryDesk, NumberedKind};
@@ -10,7 +11,9 @@ use std::test::Fail;
 use turn_runner::{DeskFault, SettleFault, TurnWork, run_turn, settle};
 
 // A turn of instance 1, which refuses its Activate.
-fn work(alloc: Global, number: u64, callback: Callback) -> Result<TurnWork, AllocError> {
+fn work(alloc: Global, number: u64, callback: Callback) -> Result<TurnWork, AllocError>
+    ensures { IfOk result (λ work. work.callback ≡ callback) }
+{
     Ok(TurnWork {
         number,
         callback,

@@ -118,7 +118,7 @@ module _ (v : InstanceView) where
       go false false = phase_due v.phase
 
 -- a Create that is due is that of a wanted key
-create_is_wanted : (views : List InstanceView) (keys : List Key) (key : Key) → first_due views keys ≡ Some (CreateDue key) → Contains keys key
+pub create_is_wanted : (views : List InstanceView) (keys : List Key) (key : Key) → first_due views keys ≡ Some (CreateDue key) → Contains keys key
 create_is_wanted [] [] key e = absurd cc
 create_is_wanted [] (k ∷ ks) key e = let same : k ≡ key = cc in subst (λ (x : Key). Contains (k ∷ ks) x) same (in_first k ks)
 create_is_wanted (v ∷ views) keys key e = go (due_of v) (view_due v) e (create_is_wanted views keys key)
@@ -128,7 +128,7 @@ create_is_wanted (v ∷ views) keys key e = go (due_of v) (view_due v) e (create
     go (Some d) none is later = absurd (none key is)
 
 -- an item of what is made of the first that a test finds
-of_found : {X Y : Type 0} (f : X → List Y) (test : X → Bool) (xs : List X) (y : Y) → Contains (option_map_or f (find test xs) []) y → (x : X) × (Contains xs x × ((test x ≡ true) × Contains (f x) y))
+pub of_found : {X Y : Type 0} (f : X → List Y) (test : X → Bool) (xs : List X) (y : Y) → Contains (option_map_or f (find test xs) []) y → (x : X) × (Contains xs x × ((test x ≡ true) × Contains (f x) y))
 of_found f test [] y h = absurd (in_none y h)
 of_found {X = X} f test (x ∷ xs) y h = go (test x) refl h (of_found f test xs y)
   where
@@ -136,7 +136,7 @@ of_found {X = X} f test (x ∷ xs) y h = go (test x) refl h (of_found f test xs 
     go true on k rest = (x, (in_first x xs, (on, k)))
     go false off k rest = let found = rest k in (found.0, (in_rest x xs found.0 found.1.0, found.1.1))
 
-wanted_is_open : (w : World) (key : Key) → Contains (wanted w) key → is_open w.open_periods key.configuration ≡ true
+pub wanted_is_open : (w : World) (key : Key) → Contains (wanted w) key → is_open w.open_periods key.configuration ≡ true
 wanted_is_open w key h =
     let c = joined_was (keys_for w (consumer_views w)) w.components key h in
     let p = of_found (keys_of w (consumer_views w) c.0) (λ (q : OpenPeriod). q.configuration == c.0.number) w.open_periods key c.1.1 in

@@ -44,7 +44,7 @@ module _ (r : BundleRow) (s : ℕ) (cs : List Configuration) where
       ap (λ xs. cond e xs [] ++ components_for_descriptions (record r { state = s }) cs (place + 1) ds es) (by_any place d d.configuration_policy)
       ∙ ap (λ xs. cond e (components_for_description r place d cs d.configuration_policy) [] ++ xs) (descriptions_any (place + 1) ds es)
 
-  of_bundle_any : (s == 32) ≡ (r.state == 32) → components_for_bundle cs (record r { state = s }) ≡ components_for_bundle cs r
+  pub of_bundle_any : (s == 32) ≡ (r.state == 32) → components_for_bundle cs (record r { state = s }) ≡ components_for_bundle cs r
   of_bundle_any same =
       ap (λ b. cond b (components_for_descriptions (record r { state = s }) cs 0 r.descriptions r.enabled) []) same
       ∙ ap (λ xs. cond (r.state == 32) xs []) (descriptions_any 0 r.descriptions r.enabled)

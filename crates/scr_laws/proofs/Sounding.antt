@@ -149,7 +149,7 @@ two rows n k up down = elim (cases_Bool (n == k)) [
 ]
 
 -- changes of rows leave a bundle up
-found_map : (f : BundleLife → BundleLife) → ((b : BundleLife) → (f b).number ≡ b.number) → (rows : List BundleLife) (number : ℕ) → bundle_of (map f rows) number ≡ option_map f (bundle_of rows number)
+pub found_map : (f : BundleLife → BundleLife) → ((b : BundleLife) → (f b).number ≡ b.number) → (rows : List BundleLife) (number : ℕ) → bundle_of (map f rows) number ≡ option_map f (bundle_of rows number)
 found_map f same [] number = refl
 found_map f same (b ∷ bs) number = ap (λ n. cond (n == number) (Some (f b)) (bundle_of (map f bs) number)) (same b) ∙ go (b.number == number) (found_map f same bs number)
   where
@@ -157,7 +157,7 @@ found_map f same (b ∷ bs) number = ap (λ n. cond (n == number) (Some (f b)) (
     go true rest = refl
     go false rest = rest
 
-up_mapped : (f : BundleLife → BundleLife) → ((b : BundleLife) → (f b).number ≡ b.number) → (rows : List BundleLife) (number : ℕ)
+pub up_mapped : (f : BundleLife → BundleLife) → ((b : BundleLife) → (f b).number ≡ b.number) → (rows : List BundleLife) (number : ℕ)
     → ((b : BundleLife) → bundle_of rows number ≡ Some b → up_bundle b ≡ true → up_bundle (f b) ≡ true) → is_up rows number ≡ true → is_up (map f rows) number ≡ true
 up_mapped f same rows number stays up = ap (λ o. option_map_or up_bundle o false) (found_map f same rows number) ∙ go (bundle_of rows number) refl up
   where
@@ -165,7 +165,7 @@ up_mapped f same rows number stays up = ap (λ o. option_map_or up_bundle o fals
     go None is h = cc
     go (Some b) is h = stays b is h
 
-found_number : (rows : List BundleLife) (number : ℕ) (b : BundleLife) → bundle_of rows number ≡ Some b → b.number ≡ number
+pub found_number : (rows : List BundleLife) (number : ℕ) (b : BundleLife) → bundle_of rows number ≡ Some b → b.number ≡ number
 found_number [] number b is = cc
 found_number (c ∷ cs) number b is = go (c.number == number) refl is (found_number cs number b)
   where
@@ -202,7 +202,7 @@ renamed_number k name version b = go (b.number == k)
     go true = refl
     go false = refl
 
-resolved_number : (ns : List ℕ) (b : BundleLife) → (resolved_among ns b).number ≡ b.number
+pub resolved_number : (ns : List ℕ) (b : BundleLife) → (resolved_among ns b).number ≡ b.number
 resolved_number ns b = go (has ns b.number)
   where
     go : (v : Bool) → (cond v (record b { state = Resolved }) b).number ≡ b.number
@@ -229,7 +229,7 @@ other_way : (n k : ℕ) → (n == k) ≡ false → (k == n) ≡ false
 other_way n k off = elim (cases_Bool (k == n)) [ inl same ↦ absurd (both_ways (n == k) off (eq-eqb n k (sym (eqb-true k n same)))) | inr other ↦ other ]
 
 -- a bundle that is up is up after a command
-up_commanded : (command : Command) (w : World) → MayCome w (Commanded command) → (n : ℕ) → is_up w.bundles.rows n ≡ true → is_up (bundles_by (Commanded command) w.bundles).rows n ≡ true
+pub up_commanded : (command : Command) (w : World) → MayCome w (Commanded command) → (n : ℕ) → is_up w.bundles.rows n ≡ true → is_up (bundles_by (Commanded command) w.bundles).rows n ≡ true
 up_commanded (Install doc) w may n up = up_added w.bundles.rows _ n up
 up_commanded (Update bundle doc) w may n up =
     up_mapped (renamed bundle doc.name doc.version) (renamed_number bundle doc.name doc.version) w.bundles.rows n
@@ -293,7 +293,7 @@ as_named documents a c bundle description is = (is.0, is.1, is.2 ∙ sym bundle,
 module _ (w : World) (numbered : are_numbered w.components ≡ true) (asked : IsAsked w) (scratch : IsOpenFromScratch w) (well : AreWell w.components w.components_numbered w.open_periods)
     (earlier : (p : OpenPeriod) → Contains w.open_periods p → p.opened < w.entries) (housed : AreHoused w.bundles.rows w.documents w.components w.instances) where
   -- what exists is of an active bundle
-  exists_up : (c : Component) → Contains w.components c → c.exists ≡ true → is_up w.bundles.rows c.bundle ≡ true
+  pub exists_up : (c : Component) → Contains w.components c → c.exists ≡ true → is_up w.bundles.rows c.bundle ≡ true
   exists_up c here on =
       let a = (kept_lives 0 (asked_in w) c (ap (λ (x : Component). x.exists) (asked.components.stand 0 c here) ∙ on)).1 in
       ap (is_up w.bundles.rows) a.2 ∙ active_up w.bundles.rows a.0.bundle (asked_was w.bundles.rows w.documents w.configurations a.0 a.1).1

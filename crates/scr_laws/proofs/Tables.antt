@@ -112,7 +112,7 @@ bundle_apart (Commanded (Stop bundle)) t below one = mapped_apart (λ (b : Bundl
 bundle_apart (Commanded (Uninstall bundle)) t below one = kept_apart (λ (b : BundleLife). b.number) (λ (b : BundleLife). not (b.number == bundle)) t.rows one
 bundle_apart _ t below one = one
 
-bundle_below : (step : Step) (t : BundleTable) → ((b : BundleLife) → Contains t.rows b → b.number ≤ t.numbered) → (b : BundleLife) → Contains (bundles_by step t).rows b → b.number ≤ (bundles_by step t).numbered
+pub bundle_below : (step : Step) (t : BundleTable) → ((b : BundleLife) → Contains t.rows b → b.number ≤ t.numbered) → (b : BundleLife) → Contains (bundles_by step t).rows b → b.number ≤ (bundles_by step t).numbered
 bundle_below (Commanded (Install doc)) t below b h = elim (in_either t.rows (record { number = t.numbered + 1; location = doc.location; name = doc.name; version = doc.version; state = Installed } ∷ []) b h) [
   | inl old ↦ omega (arith, below b old)
   | inr new ↦ (let e : t.numbered + 1 ≡ b.number = ap (λ (c : BundleLife). c.number) (single (record { number = t.numbered + 1; location = doc.location; name = doc.name; version = doc.version; state = Installed }) b new) in omega (arith, e))

@@ -1,1 +1,2 @@
+pub mod CutRows
 pub mod ToldRows

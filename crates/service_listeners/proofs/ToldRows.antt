@@ -1,12 +1,12 @@
 -- What telling leaves: who was told and then not, and numbers as they were.
-use Rattle.std.proofs.Common.{◌≡◌, ◌<◌, ◌≤◌, ℕ, List, [], ◌∷◌, ◌++◌, ap, sym, subst, ◌∙◌, refl, arith, length, get_or, append_assoc}
+use Rattle.std.proofs.Common.{◌≡◌, ◌<◌, ℕ, List, ◌++◌, ap, sym, subst, ◌∙◌, arith, length, get_or}
 use Rattle.std.proofs.Math.ListN.{set}
 use Rattle.std.proofs.lemmas.List.{get_or-map, get_or-set_same, length-map, set-get_or, set-set}
 use Rattle.std.proofs.lemmas.List.Elements.{All-map}
 use Rattle.std.specs.Prelude.{map, take, drop, OnOk, OnErr, Result, Ok, Err}
 use Rattle.std.specs.declared.alloc.AllocError.{AllocError}
 use Rattle.service_listeners.specs.declared.listener.Listener.{Listener}
-use Rattle.service_listeners.specs.Listening.{Change, ListenerTable, after_changes, with_changes}
+use Rattle.service_listeners.specs.Listening.{Change, with_changes}
 use Rattle.service_listeners.specs.Numbers.{AreNumbered, IsGiven}
 
 -- a row that was exchanged and then put back as it was

@@ -1,3 +1,4 @@
 pub mod Listening
 pub mod Numbers
 pub mod Refusals
+pub mod Saves

@@ -2,12 +2,15 @@
 //! the services that its filter matches.
 #![tactic(auto)]
 
+mod cutting;
 mod listen_fault;
 mod listener;
 mod rows;
+mod saved;
 mod table;
 mod telling;
 
 pub use listen_fault::ListenFault;
 pub use listener::{Listener, ServiceEvent};
+pub use saved::Saved;
 pub use table::Listeners;

@@ -1,13 +1,16 @@
 //! The table of listeners.
 ghost use Rattle.ldap_filter.specs.Trees.{Tree};
-ghost use Rattle.service_listeners.specs.Listening.{after_changes, after_listen, after_unlisten, listener_of, no_listeners, without_listeners_of};
+ghost use Rattle.service_listeners.specs.Listening.{after_changes, after_listen, after_unlisten, listener_of, ListenerTable, no_listeners, without_listeners_of};
+ghost use Rattle.service_listeners.specs.Numbers.{AreNumbered};
 ghost use Rattle.service_listeners.specs.Refusals.{IsRefusedBy, listen_refusal, no_listener};
+ghost use Rattle.service_listeners.specs.Saves.{HaveGrown, cut_to, saved_of};
 ghost use Rattle.service_listeners.specs.declared.listener.Listener.{Listener};
 ghost use Rattle.std.specs.Option.{option_copied, option_map_or};
 ghost use Rattle.std.specs.Prelude.{◌≡◌, ◌≤◌, ◌+◌, ◌↔◌, [], ◌∷◌, drop, length, IfOk, IsTrue, OnErr, OnOk};
 
+use crate::cutting::{counts_told, cut_rows};
 use crate::rows::{keep_others, place_of, tell_from};
-use crate::{ListenFault, Listener, ServiceEvent};
+use crate::{ListenFault, Listener, Saved, ServiceEvent};
 use ldap_filter::Filter;
 use prop_map::{List, OutOfMemory};
 use service_registry::ServiceRow;
@@ -142,6 +145,41 @@ impl Listeners {
             Err(fault) => Err(fault),
         }
     }
+
+    /// The table as it is now, to go back to. It holds how many events each listener was told, and no filter.
+    ///
+    /// # Errors
+    /// Only want of memory.
+    pub fn save(&self, alloc: Global) -> Result<Saved, OutOfMemory>
+        ensures { IfOk result (λ saved. saved ≡ saved_of self.now) }
+    {
+        Ok(Saved {
+            told: counts_told(alloc, self.rows.as_slice())?,
+            numbered: self.numbered,
+            alloc,
+        })
+    }
+
+    /// Makes the table what it was when it was saved, where listeners and events only came since. It takes no memory.
+    pub fn go_back(&mut self, saved: Saved)
+        requires { AreNumbered saved.numbered (cut_to self.old.rows saved.told) }
+        ensures { (before : ListenerTable) → saved ≡ saved_of before → HaveGrown before.rows self.old.rows → self.new ≡ before }
+    {
+        let Saved {
+            told,
+            numbered,
+            alloc,
+        } = saved;
+        cut_rows(&mut self.rows, told.as_slice(), alloc);
+        self.numbered = numbered;
+    }
+
+    /// For contracts alone: where listeners and events only came since a save, the table can go back to it.
+    #[tactic(auto, using(crate::proofs::CutRows::goes_back))]
+    pub fn note_go_back()
+        ensures { (before : ListenerTable) → (now : ListenerTable) → AreNumbered before.numbered before.rows → HaveGrown before.rows now.rows
+            → AreNumbered (saved_of before).numbered (cut_to now.rows (saved_of before).told) }
+    {}
 
     /// What a listener was told behind the first `position` events; nothing where there are no more. It takes no memory.
     ///

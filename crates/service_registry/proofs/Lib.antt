@@ -2,3 +2,4 @@ pub mod Best
 pub mod Found
 pub mod RankOrder
 pub mod Sorting
+pub mod Undone

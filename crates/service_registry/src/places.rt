@@ -1,9 +1,10 @@
 //! Where the service of a number stands among the rows.
-ghost use Rattle.row_places.specs.RowPlaces.{IsOnlyPlace, OnlyAt};
+ghost use Rattle.row_places.specs.RowPlaces.{IsOnlyPlace, IsPlaceOrGap, OnlyAt};
 ghost use Rattle.service_registry.specs.Registries.{has_number, refusal_for, row_of};
 ghost use Rattle.service_registry.specs.declared.row.ServiceRow.{ServiceRow};
-ghost use Rattle.std.specs.List.{AllPairs};
-ghost use Rattle.std.specs.Prelude.{◌≡◌, ◌<◌, length, IfOk, IfSome};
+ghost use Rattle.std.specs.List.{All, AllPairs};
+ghost use Rattle.std.specs.Ordering.{nat_cmp};
+ghost use Rattle.std.specs.Prelude.{◌≡◌, ◌<◌, ◌≤◌, ℕ, length, IfErr, IfOk, IfSome};
 ghost use Rattle.std.specs.Result.{result_err};
 
 use crate::{RegistryFault, ServiceRow};
@@ -15,6 +16,15 @@ pub(crate) fn place_of(rows: &[ServiceRow], service: u64) -> Option<usize>
     ensures within { IfSome result (λ place. place < length rows.now) }
 {
     rows.binary_search_by(|row| row.id.cmp(&service)).ok()
+}
+
+/// The place of the service of a number, or the gap where it would stand.
+pub(crate) fn place_or_gap(rows: &[ServiceRow], service: u64) -> Result<usize, usize>
+    requires { AllPairs (λ (a b : ServiceRow). a.id < b.id) rows.now }
+    ensures place { IsPlaceOrGap (λ (r : ServiceRow). nat_cmp r.id service) result rows.now }
+    ensures within { IfErr result (λ gap. gap ≤ length rows.now) }
+{
+    rows.binary_search_by(|row| row.id.cmp(&service))
 }
 
 /// The place of a bundle's service.
@@ -38,5 +48,17 @@ pub(crate) fn own_place(
             }
         }
         None => Err(RegistryFault::NoService { service }),
+    }
+}
+
+/// The highest number of the rows, 0 without rows.
+pub(crate) fn highest_number(rows: &[ServiceRow]) -> u64
+    requires { AllPairs (λ (a b : ServiceRow). a.id < b.id) rows.now }
+    ensures all { All (λ (r : ServiceRow). r.id ≤ result) rows.now }
+    ensures least { (number : ℕ) → All (λ (r : ServiceRow). r.id ≤ number) rows.now → result ≤ number }
+{
+    match rows.last() {
+        Some(row) => row.id,
+        None => 0,
     }
 }

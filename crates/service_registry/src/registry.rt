@@ -1,18 +1,22 @@
 //! The table of services.
-ghost use Rattle.service_registry.specs.Registries.{IsNumbered, IsRefusedBy, none_registered, refusal, registered, row_of, unregistered, with_numbers_given, with_properties};
+ghost use Rattle.service_registry.specs.Registries.{IsNumbered, IsRefusedBy, Registered, none_registered, refusal, registered, row_of, set_row, unregistered, with_numbers_given, with_properties};
 ghost use Rattle.service_registry.specs.Services.{best_first, best_of, has_interface, ids};
+ghost use Rattle.service_registry.specs.Undoing.{with_row, with_row_back};
+ghost use Rattle.prop_map.specs.declared.properties.Property.{Property};
 ghost use Rattle.service_registry.specs.declared.fault.RegistryFault.TheVariants.{OutOfMemory};
+ghost use Rattle.service_registry.specs.declared.row.ServiceRow.{ServiceRow};
 ghost use Rattle.std.specs.Option.{option_copied};
-ghost use Rattle.std.specs.Prelude.{◌≡◌, ◌+◌, filter, IfErr, IfOk, OnErr, OnOk};
+ghost use Rattle.std.specs.Prelude.{◌≡◌, ◌+◌, ◌++◌, ◌<◌, [], ◌∷◌, List, Some, None, filter, length, option_map, IfErr, IfOk, OnErr, OnOk};
 ghost use Rattle.std.specs.Result.{result_err};
 
 use crate::new_rows::{new_row, set_row};
-use crate::places::{own_place, place_of};
+use crate::places::{highest_number, own_place, place_of, place_or_gap};
 use crate::search::{best_with, numbers_with};
-use crate::{RegistryFault, Saved, ServiceRow};
+use crate::{RegistryFault, RowRoom, Saved, ServiceRow};
 use prop_map::{Copies, OutOfMemory, Properties, Str};
 use std::alloc::{AllocError, Global};
 use std::marker::Model;
+use std::mem;
 
 /// The services that are registered, and how many numbers were given. Numbers are given from 1 on, and none twice.
 #[derive(Drop)]
@@ -145,10 +149,79 @@ impl Registry {
         ensures ok { OnOk result (self.new ≡ with_properties service properties self.old) }
         ensures err { OnErr result (self.new ≡ self.old) }
     {
+        let row = self.changed_row(alloc, bundle, service, properties)?;
+        let _before = self.exchange(row);
+        Ok(())
+    }
+
+    /// The row of a bundle's service with other properties, as `set_properties` makes it. The table stays as it is.
+    ///
+    /// # Errors
+    /// As those of `set_properties`.
+    pub fn changed_row(
+        &self,
+        alloc: Global,
+        bundle: u64,
+        service: u64,
+        properties: Properties,
+    ) -> Result<ServiceRow, RegistryFault>
+        ensures refused { IsRefusedBy (refusal bundle service self.now) result }
+        ensures row { IfOk result (λ row. option_map (set_row properties) (row_of self.now.rows service) ≡ Some row) }
+        ensures number { IfOk result (λ row. row.id ≡ service) }
+    {
         let place = own_place(self.rows.as_slice(), bundle, service)?;
         let row = set_row(alloc, &self.rows[place], properties)?;
-        self.rows[place] = row;
-        Ok(())
+        Ok(row)
+    }
+
+    /// Puts a row in the place of the one of its number, which it hands out; to put that in its place again undoes it.
+    /// Where no row has the number nothing changes. It takes no memory.
+    pub fn exchange(&mut self, row: ServiceRow) -> Option<ServiceRow>
+        ensures was { result ≡ row_of self.old.rows row.id }
+        ensures now { self.new ≡ with_row row self.old }
+        ensures set { (given : List Property) → option_map (set_row given) (row_of self.old.rows row.id) ≡ Some row → self.new ≡ with_properties row.id given self.old }
+        ensures undone { (before : Registered) (other : ServiceRow) → IsNumbered before → other.id ≡ row.id → row_of before.rows row.id ≡ Some row → self.old ≡ with_row other before → self.new ≡ before }
+    {
+        match place_of(self.rows.as_slice(), row.id) {
+            Some(place) => Some(mem::replace(&mut self.rows[place], row)),
+            None => None,
+        }
+    }
+
+    /// Takes the registration that came last back, as if it had never come. It takes no memory.
+    pub fn undo_register(&mut self) -> Option<ServiceRow>
+        ensures taken { (before : Registered) (row : ServiceRow) → self.old ≡ record { rows = before.rows ++ row ∷ []; numbered = before.numbered + 1 } → (self.new ≡ before) × (result ≡ Some row) }
+        ensures empty { self.old.rows ≡ [] → (self.new ≡ self.old) × (result ≡ None) }
+    {
+        let row = self.rows.pop()?;
+        self.numbered = self.numbered.saturating_sub(1);
+        Some(row)
+    }
+
+    /// Room for the rows that stand, to be taken before one is unregistered that may have to be put back.
+    ///
+    /// # Errors
+    /// Only want of memory.
+    pub fn room(&self, alloc: Global) -> Result<RowRoom, OutOfMemory>
+        ensures { IfOk result (λ room. room ≡ length self.now.rows) }
+    {
+        RowRoom::of(alloc, self.rows.len())
+    }
+
+    /// Puts a row that was unregistered back at its place. It takes no memory. Where its number was never given, or a row
+    /// has it, nothing changes.
+    pub fn put_back(&mut self, row: ServiceRow, room: RowRoom)
+        requires room { length self.old.rows < room }
+        ensures back { self.new ≡ with_row_back row self.old }
+        ensures undone { (before : Registered) → IsNumbered before → row_of before.rows row.id ≡ Some row → self.old ≡ unregistered row.id before → self.new ≡ before }
+    {
+        if self.numbered < row.id {
+            return;
+        }
+        match place_or_gap(self.rows.as_slice(), row.id) {
+            Ok(_) => {}
+            Err(gap) => room.insert(&mut self.rows, gap, row),
+        }
     }
 
     /// Gives the next numbers, so many, to services whose rows stand elsewhere, and answers how many were given before.
@@ -164,6 +237,16 @@ impl Registry {
         let before = self.numbered;
         self.numbered = before.checked_add(count).ok_or(AllocError)?;
         Ok(before)
+    }
+
+    /// Takes so many numbers back that were given last, as if they had never been given. It takes no memory. The numbers
+    /// of rows that stand stay given.
+    pub fn give_back(&mut self, count: u64)
+        ensures rows { self.new.rows ≡ self.old.rows }
+        ensures undone { (before : Registered) → IsNumbered before → self.old ≡ with_numbers_given count before → self.new ≡ before }
+    {
+        let least = highest_number(self.rows.as_slice());
+        self.numbered = self.numbered.saturating_sub(count).max(least);
     }
 
     /// The table as it is, to go back to.

@@ -2,8 +2,8 @@
 
 use component_dto::{ConfigurationPolicy, Description, Scope};
 use component_state::{
-    BundleRow, BundleView, Component, WorldRows, components_after, components_for_bundles,
-    configurations_of,
+    BundleRow, BundleView, Component, WorldRows, are_more_than, components_after,
+    components_for_bundles, configurations_of,
 };
 use config_admin::Configuration;
 use prop_map::{List, Properties, Str, Value};
@@ -156,5 +156,26 @@ fn a_number_is_kept_until_it_ceases(rt: HostRuntime) -> Result<(), Fail> {
     assert!(rt; !third[0].exists);
     assert_eq!(rt; third[1].number, 2);
     assert_eq!(rt; third[1].pid, Some(text(alloc, "m~one")?));
+    Ok(())
+}
+
+// Three configurations of a factory make three.
+#[test]
+fn more_than_there_may_be_are_told(rt: HostRuntime) -> Result<(), Fail> {
+    let alloc = rt.alloc();
+    let rows = bundle(alloc, 1, 32, "m")?;
+    let bundles = [BundleView::of(
+        rows.id,
+        rows.state,
+        rows.descriptions.as_slice(),
+        rows.enabled.as_slice(),
+    )];
+    let configurations = [
+        of_factory(alloc, "m", "m~one", 3)?,
+        of_factory(alloc, "m", "m~two", 4)?,
+        of_factory(alloc, "m", "m~three", 5)?,
+    ];
+    assert!(rt; are_more_than(alloc, 2, &bundles, &configurations)?);
+    assert!(rt; !are_more_than(alloc, 3, &bundles, &configurations)?);
     Ok(())
 }

@@ -2,8 +2,13 @@
 //! bundle uses each service.
 #![tactic(auto)]
 
+mod changes;
+mod counting;
+mod rows;
+mod saved;
 mod table;
 mod uses;
 
+pub use saved::Saved;
 pub use table::UseCounts;
 pub use uses::{Holder, NotUsing, UseRow};

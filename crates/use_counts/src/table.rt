@@ -1,5 +1,14 @@
 //! The table of gets.
-use crate::UseRow;
+ghost use Rattle.std.specs.Prelude.{◌≡◌, ◌<◌, ◌+◌, ◌^◌, [], IfOk, OnErr, OnOk};
+ghost use Rattle.use_counts.specs.Refusals.{IsUngetRefused};
+ghost use Rattle.use_counts.specs.Uses.{after_get, after_unget, bundles_using, holder_count, use_count, without_service, without_uses_of};
+
+use crate::changes::{add_get, take_get};
+use crate::counting::{held_by, total};
+use crate::rows::{bundles_using, leave_bundle, leave_service, use_of};
+use crate::{Holder, NotUsing, Saved, UseRow};
+use prop_map::{Copies, OutOfMemory};
+use std::alloc::Global;
 use std::marker::Model;
 
 /// How often each bundle uses each service. Contracts see the rows, by service, then by bundle; each counts one get at least.
@@ -18,4 +27,115 @@ impl Model for UseCounts {
     ghost view = { λ u. u.rows.items };
 
     ghost invariant = { λ u. AreUses u.rows.items };
+}
+
+impl UseCounts {
+    /// A table without gets.
+    ///
+    /// # Errors
+    /// Only want of memory.
+    pub fn new(alloc: Global) -> Result<UseCounts, OutOfMemory>
+        ensures { IfOk result (λ uses. uses ≡ []) }
+    {
+        Ok(UseCounts {
+            rows: Vec::new(alloc),
+        })
+    }
+
+    /// The gets, by service, then by bundle.
+    pub fn rows(&self) -> &[UseRow]
+        ensures { result.now ≡ self.now }
+    {
+        self.rows.as_slice()
+    }
+
+    /// Counts one get more of a bundle and a service, and answers how many these are with it. `unget` takes it back
+    /// without memory.
+    ///
+    /// # Errors
+    /// Only want of memory. The table is then as it was.
+    pub fn get(&mut self, bundle: u64, service: u64, holder: Holder) -> Result<u32, OutOfMemory>
+        requires { use_count bundle service self.old + 1 < 2 ^ 32 }
+        ensures count { IfOk result (λ count. count ≡ use_count bundle service self.old + 1) }
+        ensures ok { OnOk result (self.new ≡ after_get bundle service holder self.old) }
+        ensures err { OnErr result (self.new ≡ self.old) }
+    {
+        add_get(&mut self.rows, bundle, service, holder)
+    }
+
+    /// Takes one get of a holder back, and answers how many gets of the bundle and the service are left. It takes no
+    /// memory.
+    ///
+    /// # Errors
+    /// `NotUsing` where the holder has none; the table is as it was.
+    pub fn unget(&mut self, bundle: u64, service: u64, holder: Holder) -> Result<u32, NotUsing>
+        ensures count { IfOk result (λ count. count + 1 ≡ use_count bundle service self.old) }
+        ensures ok { OnOk result (self.new ≡ after_unget bundle service holder self.old) }
+        ensures refused { IsUngetRefused bundle service holder self.old result }
+        ensures err { OnErr result (self.new ≡ self.old) }
+    {
+        take_get(&mut self.rows, bundle, service, holder)
+    }
+
+    /// How many gets of a service a bundle has.
+    pub fn count(&self, bundle: u64, service: u64) -> u32
+        ensures { result ≡ use_count bundle service self.now }
+    {
+        total(&use_of(self.rows.as_slice(), bundle, service))
+    }
+
+    /// How many of them a holder has.
+    pub fn count_of(&self, bundle: u64, service: u64, holder: Holder) -> u32
+        ensures { result ≡ holder_count holder bundle service self.now }
+    {
+        held_by(holder, &use_of(self.rows.as_slice(), bundle, service))
+    }
+
+    /// The bundles that use a service, by number.
+    ///
+    /// # Errors
+    /// Only want of memory.
+    pub fn using_bundles(&self, alloc: Global, service: u64) -> Result<Vec<u64>, OutOfMemory>
+        ensures { IfOk result (λ bundles. bundles.items ≡ bundles_using service self.now) }
+    {
+        bundles_using(alloc, self.rows.as_slice(), service)
+    }
+
+    /// Ends the gets of a service, as its leaving does. It takes no memory.
+    pub fn release_service(&mut self, service: u64)
+        ensures { self.new ≡ without_service service self.old }
+    {
+        leave_service(&mut self.rows, service);
+    }
+
+    /// Ends the gets of a bundle, as its stop does. It takes no memory.
+    pub fn release_bundle(&mut self, bundle: u64)
+        ensures { self.new ≡ without_uses_of bundle self.old }
+    {
+        leave_bundle(&mut self.rows, bundle);
+    }
+
+    /// The table as it is, to go back to.
+    ///
+    /// # Errors
+    /// Only want of memory.
+    pub fn save(&self, alloc: Global) -> Result<Saved, OutOfMemory>
+        ensures { IfOk result (λ saved. saved ≡ self.now) }
+    {
+        Ok(Saved::of(self.copy(alloc)?))
+    }
+
+    /// Leaves the table as it was when it was saved. It takes no memory.
+    pub fn go_back(&mut self, saved: Saved)
+        ensures { self.new ≡ saved }
+    {
+        *self = saved.table();
+    }
+}
+
+impl Copies for UseCounts {
+    fn copy(&self, alloc: Global) -> Result<UseCounts, OutOfMemory> {
+        let rows = Vec::from_slice(alloc, self.rows.as_slice())?;
+        Ok(UseCounts { rows })
+    }
 }

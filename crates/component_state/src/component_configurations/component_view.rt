@@ -7,7 +7,7 @@ ghost use Rattle.std.specs.Prelude.{◌≡◌, IfOk, None, true};
 
 use crate::{Component, ComponentRow};
 use component_dto::Description;
-use prop_map::{Copies, OutOfMemory, Properties, Str, Value};
+use prop_map::{Copies, OutOfMemory, Properties, Shared, Str, Value};
 use std::alloc::{AllocError, Global};
 use std::marker::Model;
 
@@ -99,7 +99,7 @@ impl<'d> ComponentView<'d> {
     {
         let properties = with_number(alloc, number, &self.properties)?;
         let pid = pid_of(alloc, self.pid)?;
-        let description = self.description.copy(alloc)?;
+        let description = Shared::of(alloc, self.description.copy(alloc)?)?;
         Ok(Component {
             number,
             bundle: self.bundle,

@@ -4,7 +4,7 @@ ghost use Rattle.prop_map.specs.Words.{is_empty};
 ghost use Rattle.config_admin.specs.declared.configuration.Configuration.{Configuration};
 ghost use Rattle.std.specs.List.{list_any};
 ghost use Rattle.std.specs.Option.{option_copied, option_map_or};
-ghost use Rattle.std.specs.Prelude.{◌≡◌, IfOk, map, not, false};
+ghost use Rattle.std.specs.Prelude.{◌≡◌, IfOk, false, length, map, not};
 ghost use Rattle.std.specs.Str.{bytes_eq};
 
 use config_admin::Configuration;
@@ -68,6 +68,13 @@ impl<'c> ConfigurationIndex<'c> {
     {
         with_factory(alloc, self.list, pid)
     }
+
+    /// How many configurations a factory has.
+    pub(crate) fn count_of_factory(&self, pid: &str) -> usize
+        ensures { result ≡ length (of_factory pid.now self.now) }
+    {
+        count_with_factory(self.list, pid)
+    }
 }
 
 fn with_pid<'c>(list: &'c [Configuration], pid: &str) -> Option<&'c Configuration>
@@ -111,4 +118,10 @@ fn with_factory<'c>(
         }
     }
     Ok(found)
+}
+
+fn count_with_factory(list: &[Configuration], pid: &str) -> usize
+    ensures { result ≡ length (of_factory pid.now list.now) }
+{
+    list.iter().filter(|c| is_of_factory(pid, c)).count()
 }

@@ -19,8 +19,9 @@ pub returns-then-not-has_room-clause-answer : goal.returns-then-not-has_room-cla
 returns-then-not-has_room-clause-answer c =
     let next : next_begin (world_in c.args.tables.now) ≡ Some c.in-Some.step = sym c.in_ok-step.ensures ∙ c.in-Some.is in
     let full : has_room c.args.limit (world_in c.args.tables.now) (needed_by c.in-Some.step) ≡ false =
-        ap (has_room c.args.limit (world_in c.args.tables.now)) (sym c.needed_by.ensures.value) ∙ (sym c.has_room.ensures ∙ c.if-not-has_room.true) in
-    (c.in-Some.step,
-     subst (λ (w : World). next_begin w ≡ Some c.in-Some.step) c.requires.keeps.world next,
-     subst (λ (w : World). has_room c.args.limit w (needed_by c.in-Some.step) ≡ false) c.requires.keeps.world full,
-     refl)
+    ap (has_room c.args.limit (world_in c.args.tables.now)) (sym c.needed_by.ensures.value) ∙ (sym c.has_room.ensures ∙ c.if-not-has_room.true) in (
+      c.in-Some.step,
+      subst (λ (w : World). next_begin w ≡ Some c.in-Some.step) c.requires.keeps.world next,
+      subst (λ (w : World). has_room c.args.limit w (needed_by c.in-Some.step) ≡ false) c.requires.keeps.world full,
+      refl,
+    )

@@ -1,6 +1,6 @@
-use Rattle.std.proofs.Common.{◌+◌, arith, [], Some, ap, drop, length, length-append, take}
+use Rattle.std.proofs.Common.{◌+◌, ◌∙◌, arith, [], Some, ap, drop, length, length-append, take}
 use Rattle.platform_shell.specs.Reading.{SameBytes, coming}
-use Rattle.platform_shell.proofs.ReadingLemmas.{last_line_found, long_line_found, next_line_found, same_bytes_end, same_bytes_trans, searched_all, searched_front}
+use Rattle.platform_shell.proofs.ReadingLemmas.{has_read_kept, has_read_more, last_line_found, line_read_found, long_line_found, next_line_found, same_bytes_end, same_bytes_read, same_bytes_trans, searched_all, searched_front}
 use Rattle.platform_shell.proofs.line_input.next_line.Goals as goal
 
 pub returns-in-Some-clause-step : goal.returns-in-Some-clause-step
@@ -9,6 +9,16 @@ returns-in-Some-clause-step g c =
     let now = c.loop-at.ahead.bytes.items in
     next_line_found (coming c.args.ahead.now.ended (g.In.Source.left c.args.input.now)) (coming c.loop-at.ahead.ended (g.In.Source.left c.loop-at.input)) c.args.ahead.now.bytes.items now (take c.in-Some.at now) (drop (c.in-Some.at + 1) now) c.take_line.new.bytes.items c.take_line.result
     c.loop-at.invariant.same found.1 found.2 c.take_line.ensures
+
+pub returns-in-Some-clause-taken : goal.returns-in-Some-clause-taken
+returns-in-Some-clause-taken g c = λ unended.
+    let found = rw c.deref.ensures.value at c.in-Some.ensures in
+    let now = c.loop-at.ahead.bytes.items in
+    let taken = c.loop-at.invariant.taken unended in (
+      taken.0,
+      line_read_found (g.In.Source.left c.args.input.now) (g.In.Source.left c.loop-at.input) c.args.ahead.now.bytes.items now (take c.in-Some.at now) (drop (c.in-Some.at + 1) now) c.take_line.new.bytes.items c.take_line.result
+          taken.1 found.1 found.2 c.take_line.ensures,
+    )
 
 pub returns-then-searched-gt-LONGEST_LINE-clause-step : goal.returns-then-searched-gt-LONGEST_LINE-clause-step
 returns-then-searched-gt-LONGEST_LINE-clause-step g c =
@@ -28,13 +38,17 @@ loop-at-preserved-in-Filled g c =
     let step = c.in-Filled.ensures.step in
     let before = c.loop-at.ahead.bytes.items in
     let now = c.fill.new.bytes.items in
+    let mid = g.In.Source.left c.loop-at.input in
+    let left = g.In.Source.left c.fill.new.input in
+    let taken = c.loop-at.invariant.taken c.if-ahead.false in
     record {
       same = rw c.if-ahead.false
-          (same_bytes_trans (coming c.args.ahead.now.ended (g.In.Source.left c.args.input.now)) (g.In.Source.left c.loop-at.input) (g.In.Source.left c.fill.new.input) c.args.ahead.now.bytes.items before now (rw c.if-ahead.false at c.loop-at.invariant.same) step.0);
-      within = omega (arith, length-append before step.3.0, ap length step.3.1);
-      none = searched_front before step.3.0 now c.len-searched.result (omega arith) step.3.1 none;
+          (same_bytes_trans (coming c.args.ahead.now.ended (g.In.Source.left c.args.input.now)) mid left c.args.ahead.now.bytes.items before now (rw c.if-ahead.false at c.loop-at.invariant.same) (same_bytes_read mid left before now step.0));
+      within = omega (arith, length-append before step.0.0, ap length step.0.2);
+      none = searched_front before step.0.0 now c.len-searched.result (omega arith) step.0.2 none;
       fewer = omega (arith, step.2);
-      later = omega (arith, c.fill.ensures.later);
+      taken = λ unended. (taken.0, has_read_more (g.In.Source.left c.args.input.now) mid left c.args.ahead.now.bytes.items before now taken.1 step.0);
+      faults = c.in-Filled.ensures.faults ∙ c.loop-at.invariant.faults;
     }
 
 pub loop-at-smaller : goal.loop-at-smaller
@@ -52,5 +66,15 @@ loop-at-preserved g c =
       within = omega (arith, ap length step.1);
       none = rw step.1 (searched_all before c.len-searched.result (omega arith) none);
       fewer = omega (arith, step.2, ap length step.1);
-      later = omega (arith, c.fill.ensures.later);
+      taken = λ unended. cc;
+      faults = c.in-AtEnd.ensures.faults ∙ c.loop-at.invariant.faults;
     }
+
+pub returns-in-ReadFailed-clause-taken : goal.returns-in-ReadFailed-clause-taken
+returns-in-ReadFailed-clause-taken g c = λ unended.
+    let none = rw c.deref.ensures.value at c.in_default.ensures in
+    let step = c.in-ReadFailed.ensures.step in
+    let taken = c.loop-at.invariant.taken c.if-ahead.false in (
+      taken.0,
+      (has_read_kept (g.In.Source.left c.args.input.now) (g.In.Source.left c.loop-at.input) (g.In.Source.left c.fill.new.input) c.args.ahead.now.bytes.items c.loop-at.ahead.bytes.items c.fill.new.bytes.items taken.1 step.0 step.1, rw step.1 none, omega (arith, ap length step.1)),
+    )

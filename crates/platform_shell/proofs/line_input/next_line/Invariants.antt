@@ -1,5 +1,5 @@
-use Rattle.std.proofs.Common.{◌≤◌, ◌+◌, length, take, if◌then◌else◌}
-use Rattle.platform_shell.specs.Reading.{SameBytes, NoLineFeed, coming}
+use Rattle.std.proofs.Common.{◌≡◌, ◌≤◌, ◌+◌, length, take, false, if◌then◌else◌}
+use Rattle.platform_shell.specs.Reading.{HasRead, SameBytes, NoLineFeed, coming}
 use Rattle.platform_shell.proofs.line_input.next_line.Given as goal
 
 abbrev pub invariant-loop-at : goal.invariant-loop-at
@@ -8,7 +8,8 @@ invariant-loop-at g l = record {
   within : l.searched ≤ length l.ahead.bytes.items;
   none : NoLineFeed (take l.searched l.ahead.bytes.items);
   fewer : g.In.Source.number l.input + length l.ahead.bytes.items ≤ g.In.Source.number l.initial.input + length l.initial.ahead.bytes.items;
-  later : g.In.Source.fault_count l.initial.input ≤ g.In.Source.fault_count l.input;
+  taken : l.ahead.ended ≡ false → (l.initial.ahead.ended ≡ false) × HasRead (g.In.Source.left l.initial.input) (g.In.Source.left l.input) l.initial.ahead.bytes.items l.ahead.bytes.items;
+  faults : g.In.Source.fault_count l.input ≡ g.In.Source.fault_count l.initial.input;
 }
 
 abbrev pub decreases-loop-at : goal.decreases-loop-at

@@ -1,4 +1,4 @@
-use Rattle.std.proofs.Common.{arith}
+use Rattle.std.proofs.Common.{◌∙◌, arith}
 use Rattle.platform_shell.proofs.Writing.{wrote_more}
 use Rattle.platform_shell.proofs.reply_output.write_all.Goals as goal
 
@@ -8,5 +8,5 @@ loop-at-preserved g c =
     record {
       within = omega (arith, taken.1);
       wrote = wrote_more (g.Out.Sink.written c.args.output.now) (g.Out.Sink.written c.loop-at.output) (g.Out.Sink.written c.write.new.self) c.args.bytes.now c.loop-at.at c.in-Took.count c.loop-at.invariant.wrote (rw c.split_at.ensures.back at taken.2);
-      later = omega (arith, c.write.ensures.later);
+      faults = c.in-Took.ensures.faults ∙ c.loop-at.invariant.faults;
     }

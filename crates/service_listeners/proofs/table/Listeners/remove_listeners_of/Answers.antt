@@ -1,5 +1,5 @@
 -- A filter leaves numbers as they rise.
-use Rattle.std.proofs.Common.{◌≡◌, ◌<◌, ap, sym, subst}
+use Rattle.std.proofs.Common.{◌<◌, ap, sym, subst}
 use Rattle.std.proofs.lemmas.List.Elements.{All-filter}
 use Rattle.std.proofs.lemmas.List.Kept.{AllPairs-filter}
 use Rattle.std.specs.Prelude.{◌==◌, not}

@@ -1,11 +1,10 @@
 -- What is left without the row at the place of a number is the filter that leaves it out.
-use Rattle.std.proofs.Common.{◌≡◌, arith, ap, sym, ◌∙◌, Option, Some, None}
+use Rattle.std.proofs.Common.{arith, ap, sym, ◌∙◌, Option}
 use Rattle.std.proofs.lemmas.Option.{slice_get-get_or}
 use Rattle.std.specs.Option.{is_none}
 use Rattle.row_places.proofs.RowPlaceLaws.{filter_only, find_none, find_only, only_within}
 use Rattle.service_listeners.specs.declared.listener.Listener.{Listener}
 use Rattle.service_listeners.specs.declared.listen_fault.ListenFault.TheVariants.{NoListener}
-use Rattle.service_listeners.specs.Listening.{ListenerTable}
 use Rattle.service_listeners.specs.Numbers.{has_number}
 use Rattle.service_listeners.specs.Refusals.{refuse_if}
 use Rattle.service_listeners.proofs.table.Listeners.unlisten.Goals as goal

@@ -1,0 +1,80 @@
+-- How far a run has come with what was read, where the end of the input wasn't seen.
+use Rattle.std.proofs.Common.{◌≡◌, ℕ, List, [], ◌∷◌, ◌++◌, ap, sym, ◌∙◌, refl, append_assoc, Bool, false, Ok}
+use Rattle.std.specs.declared.option.Option.{Option}
+use Rattle.std.specs.Io.KnownBytes.{Appends, Consumes}
+use Rattle.std.proofs.KnownBytes.{Consumes-nil, Consumes-trans}
+use Rattle.fault_count.specs.Steps.{next_count}
+use Rattle.first_core.specs.Cores.{CoreView}
+use Rattle.shell_lang.specs.declared.shell_reply.ShellReply.{ShellReply}
+use Rattle.shell_lang.specs.ShellLines.{shell_line, is_quit}
+use Rattle.platform_shell.specs.declared.line_input.LineStep.TheVariants.{Line as OfLine, Failed}
+use Rattle.platform_shell.specs.Asks.{Setting}
+use Rattle.platform_shell.specs.Carries.{RunsAsked}
+use Rattle.platform_shell.specs.Lines.{lines_of}
+use Rattle.platform_shell.specs.Reading.{LineRead, NextLine, coming}
+use Rattle.platform_shell.specs.Runs.{Faulted, as_list, script_lines, texts}
+use Rattle.platform_shell.proofs.Progress.{Progress, progress_line, progress_start, script_line}
+
+-- what was read is the lines that ran and the pending bytes, whatever comes behind
+pub record ReadSoFar (left now : Option (List ℕ)) (pending : List ℕ) (lines : List (List ℕ)) : Type 0 where
+  pub taken : List ℕ
+  pub read : Consumes left now taken
+  pub first : (more : List ℕ) → script_lines (lines_of (taken ++ more)) ≡ lines ++ script_lines (lines_of (pending ++ more))
+
+-- so far: the run has come here, and until the end of the input is seen this is what was read
+pub record Reached (s : Setting) (left now : Option (List ℕ)) (ended : Bool) (pending : List ℕ) (before after : CoreView) (written written' : Option (List ℕ)) (number : ℕ) : Type 0 where
+  pub progress : Progress s left (coming ended now) pending before after written written' number
+  pub read : ended ≡ false → ReadSoFar left now pending progress.lines
+
+-- nothing was read yet
+pub reached_start : (s : Setting) (left written : Option (List ℕ)) (before : CoreView) → Reached s left left false [] before before written written 1
+unfolding progress_start
+reached_start s left written before = record {
+  progress = progress_start s left written before;
+  read = λ unended. record { taken = []; read = Consumes-nil left; first = λ more. refl };
+}
+
+-- one line more was read
+line_more : (left now now' : Option (List ℕ)) (pending pending' : List ℕ) (lines : List (List ℕ)) (line : List ℕ) → ReadSoFar left now pending lines → LineRead now now' pending pending' (OfLine line)
+    → is_quit (shell_line line) ≡ false → ReadSoFar left now' pending' (lines ++ line ∷ [])
+line_more left now now' pending pending' lines line so_far (piece, size, got, short, is) other = record {
+  taken = so_far.taken ++ piece;
+  read = Consumes-trans left now now' so_far.taken piece so_far.read got;
+  first = λ more.
+      let step = script_line 0 (lines_of ((pending ++ piece) ++ more)) (lines_of (pending' ++ more)) (record { text = line; size = size }) (is more) short other in
+      ap (λ w. script_lines (lines_of w)) (append_assoc so_far.taken piece more) ∙ so_far.first (piece ++ more)
+      ∙ ap (λ w. lines ++ w) (ap (λ w. script_lines (lines_of w)) (sym (append_assoc pending piece more)) ∙ step.0) ∙ sym (append_assoc lines (line ∷ []) (script_lines (lines_of (pending' ++ more))));
+}
+
+-- a line ran, and its reply is written
+pub reached_line : {s : Setting} {left now : Option (List ℕ)} {ended : Bool} {pending : List ℕ} {first at : CoreView} {written written' : Option (List ℕ)} {number : ℕ} → Reached s left now ended pending first at written written' number
+    → (now' : Option (List ℕ)) (ended' : Bool) (pending' : List ℕ) (after : CoreView) (written'' : Option (List ℕ)) (line : List ℕ) (told : Option ShellReply)
+    → NextLine (coming ended now) (coming ended' now') pending pending' (OfLine line) → (ended' ≡ false → (ended ≡ false) × LineRead now now' pending pending' (OfLine line))
+    → is_quit (shell_line line) ≡ false → RunsAsked s (shell_line line) at (Ok told) after → Appends written' written'' (texts (as_list told))
+    → Reached s left now' ended' pending' first after written written'' (next_count number)
+unfolding progress_line
+reached_line {s} {left} {now} {ended} {pending} {first} {at} {written} {written'} {number} so_far now' ended' pending' after written'' line told next taken other runs wrote = record {
+  progress = progress_line so_far.progress (coming ended' now') pending' after written'' line told next other runs wrote;
+  read = λ unended. let here = taken unended in line_more left now now' pending pending' so_far.progress.lines line (so_far.read here.0) here.1 other;
+}
+
+-- the source failed
+pub reached_fault : {s : Setting} {left now : Option (List ℕ)} {ended : Bool} {pending : List ℕ} {first at : CoreView} {written written' : Option (List ℕ)} {number : ℕ} → Reached s left now ended pending first at written written' number
+    → (now' : Option (List ℕ)) (pending' : List ℕ) → (ended ≡ false) × LineRead now now' pending pending' Failed → Faulted s left now' first at written written'
+reached_fault {s} {left} {now} {ended} {pending} {first} {at} {written} {written'} {number} so_far now' pending' (unended, ((piece, got, is), none, short)) =
+    let before = so_far.read unended in
+    record {
+      taken = before.taken ++ piece;
+      pending = pending';
+      lines = so_far.progress.lines;
+      commands = so_far.progress.commands;
+      replies = so_far.progress.replies;
+      read = Consumes-trans left now now' before.taken piece before.read got;
+      first = λ more.
+          ap (λ w. script_lines (lines_of w)) (append_assoc before.taken piece more) ∙ before.first (piece ++ more)
+          ∙ ap (λ w. so_far.progress.lines ++ script_lines (lines_of w)) (sym (append_assoc pending piece more) ∙ ap (λ w. w ++ more) (sym is));
+      unended = none;
+      short = short;
+      ran = so_far.progress.ran;
+      wrote = so_far.progress.wrote;
+    }

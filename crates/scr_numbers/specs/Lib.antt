@@ -1,0 +1,3 @@
+pub mod GateKeys
+pub mod Numbers
+pub mod Slots

@@ -1,0 +1,13 @@
+pub mod AnswerLaws
+pub mod BundleEventLaws
+pub mod ComponentLimits
+pub mod ConsumerLaws
+pub mod FewerComponents
+pub mod KeyLaws
+pub mod LimitLaws
+pub mod OwnerLaws
+pub mod SlotLimits
+pub mod StopLaws
+pub mod StoppingLaws
+pub mod UseLaws
+pub mod WithinLaws

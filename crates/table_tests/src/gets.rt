@@ -1,0 +1,50 @@
+//! Gets of services.
+
+use std::test::Fail;
+use use_counts::{Holder, NotUsing, UseCounts};
+
+// A get, where there may be one more.
+fn get(uses: &mut UseCounts, bundle: u64, service: u64, holder: Holder) -> Option<u32> {
+    if uses.count(bundle, service) == u32::MAX {
+        return None;
+    }
+    uses.get(bundle, service, holder).ok()
+}
+
+#[test]
+fn gets_are_counted_by_holder(rt: HostRuntime) -> Result<(), Fail> {
+    let mut uses = UseCounts::new(rt.alloc())?;
+    assert_eq!(rt; get(&mut uses, 1, 5, Holder::Token), Some(1));
+    assert_eq!(rt; get(&mut uses, 1, 5, Holder::Shell), Some(2));
+    assert_eq!(rt; uses.count_of(1, 5, Holder::Token), 1);
+    assert_eq!(rt; uses.unget(1, 5, Holder::Shell), Ok(1));
+    assert_eq!(rt; uses.unget(1, 5, Holder::Shell), Err(NotUsing));
+    assert_eq!(rt; uses.count(1, 5), 1);
+    assert_eq!(rt; uses.unget(1, 5, Holder::Token), Ok(0));
+    assert!(rt; uses.rows().is_empty());
+    Ok(())
+}
+
+#[test]
+fn a_service_and_a_bundle_leave_no_gets(rt: HostRuntime) -> Result<(), Fail> {
+    let mut uses = UseCounts::new(rt.alloc())?;
+    for (bundle, service) in [(2, 5), (1, 5), (3, 5), (2, 4), (3, 6)] {
+        assert_eq!(rt; get(&mut uses, bundle, service, Holder::Shell), Some(1));
+    }
+    let saved = uses.save(rt.alloc())?;
+    assert_eq!(rt;
+        uses.using_bundles(rt.alloc(), 5)?.as_slice(),
+        [1, 2, 3].as_slice()
+    );
+    uses.release_bundle(2);
+    assert_eq!(rt;
+        uses.using_bundles(rt.alloc(), 5)?.as_slice(),
+        [1, 3].as_slice()
+    );
+    uses.release_service(5);
+    assert_eq!(rt; uses.using_bundles(rt.alloc(), 5)?.len(), 0);
+    assert_eq!(rt; uses.rows().len(), 1);
+    uses.go_back(saved);
+    assert_eq!(rt; uses.rows().len(), 5);
+    Ok(())
+}

@@ -1,0 +1,10 @@
+-- A filter leaves the rows in order and counted.
+use Rattle.std.proofs.Common.{subst, sym}
+use Rattle.std.specs.Prelude.{◌==◌, not}
+use Rattle.use_counts.specs.declared.uses.UseRow.{UseRow}
+use Rattle.use_counts.specs.Refusals.{AreUses}
+use Rattle.use_counts.proofs.UseRows.{uses_filtered}
+use Rattle.use_counts.proofs.table.UseCounts.release_service.Goals as goal
+
+pub invariant_of-self : goal.invariant_of-self
+invariant_of-self c = subst AreUses (sym c.leave_service.ensures) (uses_filtered (λ (u : UseRow). not (u.service == c.args.service)) c.self.inside.rows.items c.self.invariant)

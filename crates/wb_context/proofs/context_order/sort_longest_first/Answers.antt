@@ -1,0 +1,11 @@
+use Rattle.std.proofs.Common.{◌≡◌, rules}
+use Rattle.std.specs.Ordering.{is_lt}
+use Rattle.std.proofs.lemmas.List.Sorted.{answers_always}
+use Rattle.wb_context.specs.ContextOrder.{has_longer_path}
+use Rattle.wb_context.proofs.OrderLaws.{length_ranks}
+use Rattle.wb_context.proofs.StableOrder.{on_ok, sorted_stably}
+use Rattle.wb_context.proofs.context_order.sort_longest_first.Goals as goal
+
+pub returns : goal.returns
+returns c =
+    on_ok c.sort_by.result (λ sorted. sorted_stably has_longer_path length_ranks c.args.contexts.now.items c.sort_by.new.self.items (sorted has_longer_path length_ranks (answers_always _ (λ a r. is_lt r ≡ has_longer_path a.0.now a.1.0.now) _ (λ f a r f' k. search rules))) (c.sort_by.ensures.stable has_longer_path length_ranks (answers_always _ (λ a r. is_lt r ≡ has_longer_path a.0.now a.1.0.now) _ (λ f a r f' k. search rules)))) c.sort_by.ensures.sorted
