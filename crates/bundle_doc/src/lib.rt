@@ -9,6 +9,7 @@ mod fields;
 mod headers;
 mod names;
 mod reading;
+mod shared_texts;
 mod text_list;
 mod texts;
 
@@ -16,4 +17,5 @@ pub use built::is_built;
 pub use document::BundleDoc;
 pub use fault::DocFault;
 pub use reading::read_bundle;
+pub use shared_texts::with_shared_texts;
 pub use texts::{note_clauses, note_versions};

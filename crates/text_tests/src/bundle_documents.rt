@@ -1,4 +1,4 @@
-use bundle_doc::{is_built, read_bundle};
+use bundle_doc::{is_built, read_bundle, with_shared_texts};
 use prop_map::Copies;
 use std::test::Fail;
 
@@ -48,5 +48,18 @@ fn faults_of_documents_are_printed(rt: HostRuntime) -> Result<(), Fail> {
         let shown = format!(in rt.alloc(); "{fault}")?;
         assert_eq!(rt; shown.as_str(), expected, "{text}");
     }
+    Ok(())
+}
+
+#[test]
+fn a_document_with_shared_texts_is_the_same(rt: HostRuntime) -> Result<(), Fail> {
+    let alloc = rt.alloc();
+    let text = b"{\"location\":\"x\",\"components\":{\"e\":{\"implementationClass\":\"C\",\"modified\":\"m\",\
+        \"serviceInterfaces\":[\"I\"],\"references\":[{\"interfaceName\":\"J\",\"target\":\"(a=b)\"}]}}}";
+    let document = read_bundle(alloc, text).ok().ok_or("a document")?;
+    let expected = document.copy(alloc)?;
+    let shared = with_shared_texts(alloc, document)?;
+    assert!(rt; shared == expected);
+    assert!(rt; shared.copy(alloc)? == expected);
     Ok(())
 }
