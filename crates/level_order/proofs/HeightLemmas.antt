@@ -1,11 +1,12 @@
 -- That heights stay right while more become known, and that they are the levels.
-use Rattle.std.proofs.Common.{◌≡◌, ◌<◌, ◌≤◌, ℕ, zero, suc, ◌+◌, List, [], ◌∷◌, length, get_or, drop, drop-cons, add-one, ap, sym, ◌∙◌, refl, true, false, arith, inl, inr, subst, Option, Some, None}
+use Rattle.std.proofs.Common.{◌≡◌, ◌<◌, ◌≤◌, ℕ, zero, suc, ◌+◌, List, [], ◌∷◌, ◌++◌, length, get_or, drop, drop-cons, add-one, ap, sym, ◌∙◌, refl, true, false, arith, inl, inr, subst, Option, Some, None}
 use Rattle.std.proofs.Math.ListN.{set, get_or-map}
+use Rattle.std.proofs.Math.Seq.{get_or-append_seam}
 use Rattle.std.specs.Prelude.{max, map, ◌==◌, nat_lt}
 use Rattle.std.specs.List.{filter}
 use Rattle.std.specs.Option.{is_some}
 use Rattle.std.proofs.lemmas.Bool.{cases_lt, eqb-true, eq-eqb, or_cases, false≢true, lt-ltb, le-ltb}
-use Rattle.std.proofs.lemmas.List.{length-map, length-set, get_or-set_same, get_or-set_other, get_or_past}
+use Rattle.std.proofs.lemmas.List.{length-map, length-set, get_or-set_same, get_or-set_other, get_or_append_left}
 use Rattle.std.proofs.lemmas.Grind.{same_number_lists}
 use Rattle.component_dto.specs.declared.description.Description.{Description}
 use Rattle.level_order.specs.Heights.{AreHeights, AreKnown, AreSound, IsOpen, IsRaised, height_over, higher, rise_at}
@@ -257,3 +258,12 @@ unknown_cyclic ds onward back heights links all i below none acyclic = descend (
       let next = stuck way.0 1 (high_rise (length ds) way.0 facts.0) facts.1 way.2 in
       let within = links.descriptions way.0 next.0 facts.0 next.1 in
       descend n next.0 (omega (arith, low, level_is ds acyclic.0 acyclic.1 i, above_has (get_or (all_uses ds) i []) acyclic.0 next.0 (links.consumed i way.0 next.0 below way.1 next.1))) within next.2
+
+-- one more height is known
+pub known_more : (heights : List (Option ℕ)) (known : List ℕ) (place h : ℕ) → length known ≡ place → ((p : ℕ) → p < place → get_or heights p None ≡ Some (get_or known p 0)) → get_or heights place None ≡ Some h
+    → (p : ℕ) → p < place + 1 → get_or heights p None ≡ Some (get_or (known ++ h ∷ []) p 0)
+known_more heights known place h long so_far here p below = elim (cases_lt p place) [
+  | inl before ↦ (so_far p before ∙ ap Some (sym (get_or_append_left known (h ∷ []) 0 p (omega (arith, before, long)))))
+  | inr from ↦ (let same : p ≡ place = omega (arith, from, below) in
+      ap (λ w. get_or heights w None) same ∙ here ∙ ap Some (sym (ap (λ w. get_or (known ++ h ∷ []) w 0) (omega (arith, same, long)) ∙ get_or-append_seam known h [] 0)))
+]

@@ -11,4 +11,5 @@ pub mod PathLemmas
 pub mod RankLemmas
 pub mod SpreadLemmas
 pub mod ToldLemmas
+pub mod TurnedLemmas
 pub mod WayLemmas

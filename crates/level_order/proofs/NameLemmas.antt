@@ -1,5 +1,5 @@
 -- That texts have the same number among names in byte order exactly where they are the same.
-use Rattle.std.proofs.Common.{◌≡◌, ◌<◌, ◌≤◌, ℕ, zero, suc, ◌+◌, List, [], ◌∷◌, ◌++◌, length, get_or, ap, sym, ◌∙◌, refl, Bool, true, false, cond, ◌||◌, arith, inl, inr, subst}
+use Rattle.std.proofs.Common.{◌≡◌, ◌<◌, ◌≤◌, ℕ, zero, suc, ◌+◌, List, [], ◌∷◌, ◌++◌, length, get_or, take, ap, sym, ◌∙◌, refl, Bool, true, false, cond, ◌||◌, arith, inl, inr, subst}
 use Rattle.std.specs.Prelude.{map, ◌==◌}
 use Rattle.std.specs.Cmp.{both_ways}
 use Rattle.std.specs.Cmp.Lexicographic.{slice_cmp}
@@ -135,3 +135,12 @@ pub named_among : (ds : List Description) (i : ℕ) (d : Description) (t : List 
 named_among [] i d t within there = absurd (omega arith)
 named_among (e ∷ ds) zero d t within there = list_any-append (λ n. bytes_eq n t) (named_by e) (flat_map named_by ds) ∙ or_first (has_text (named_by e) t) (has_text (flat_map named_by ds) t) there
 named_among (e ∷ ds) (suc i) d t within there = list_any-append (λ n. bytes_eq n t) (named_by e) (flat_map named_by ds) ∙ or_later (has_text (named_by e) t) (has_text (flat_map named_by ds) t) (named_among ds i d t (omega arith) there)
+
+-- at the end of the loop all names are there
+pub all_taken : (ds : List Description) (i : ℕ) (names : List (List ℕ)) → length ds ≤ i → names ≡ flat_map named_by (take i ds) → names ≡ flat_map named_by ds
+all_taken ds i names past is = is ∙ ap (flat_map named_by) (take_all ds i past) where
+  take_all : (xs : List Description) (n : ℕ) → length xs ≤ n → take n xs ≡ xs
+  take_all [] zero past = refl
+  take_all [] (suc n) past = refl
+  take_all (x ∷ xs) zero past = absurd (omega (arith, past))
+  take_all (x ∷ xs) (suc n) past = ap (λ w. x ∷ w) (take_all xs n (omega (arith, past)))

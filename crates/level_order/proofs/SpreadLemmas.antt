@@ -12,10 +12,10 @@ use Rattle.level_order.specs.Links.{comes_from}
 use Rattle.level_order.specs.Spread.{AreMarked, IsKept, marked}
 use Rattle.level_order.specs.Ways.{has, is_at}
 
-apart : (m n : ℕ) → (m ≡ n → ⊥) → (m == n) ≡ false
+pub apart : (m n : ℕ) → (m ≡ n → ⊥) → (m == n) ≡ false
 apart m n different = both_ways (m == n) false (λ e. absurd (different (eqb-true m n e))) (λ e. absurd (false≢true e))
 
-apart_or_same : (m n : ℕ) → (m ≡ n) ⊎ ((m ≡ n → ⊥))
+pub apart_or_same : (m n : ℕ) → (m ≡ n) ⊎ ((m ≡ n → ⊥))
 apart_or_same m n = elim (cases_lt m n) [
   | inl below ↦ inr (λ same. omega (arith, same, below))
   | inr from ↦ elim (cases_lt n m) [
@@ -97,14 +97,14 @@ mark_known k place steps known = record {
 pub kept_new : (back : List (List ℕ)) (seen : List Bool) (steps : List (Option ℕ)) (found : List ℕ) (k place : ℕ) → IsKept back seen steps found k → place < length steps → get_or steps place None ≡ None → IsKept back seen (set steps place (Some k)) (found ++ place ∷ []) k
 kept_new back seen steps found k place kept within none = record {
   long = kept.long;
-  seen = λ x p looked below there. elim (apart_or_same place p) [
+  reached = λ x p looked below there. elim (apart_or_same place p) [
     | inl here ↦ ap is_some (ap (λ w. get_or (set steps place (Some k)) w None) (sym here) ∙ get_or-set_same steps place (Some k) None within)
-    | inr other ↦ ap is_some (get_or-set_other steps place p (Some k) None (λ same. other (sym same))) ∙ kept.seen x p looked (omega (arith, below, length-set steps place (Some k))) there
+    | inr other ↦ ap is_some (get_or-set_other steps place p (Some k) None (λ same. other (sym same))) ∙ kept.reached x p looked (omega (arith, below, length-set steps place (Some k))) there
   ];
-  found = λ p. has_append found place p ∙ elim (apart_or_same place p) [
+  last = λ p. has_append found place p ∙ elim (apart_or_same place p) [
     | inl here ↦ (ap (λ b. has found p || b) (eq-eqb place p here) ∙ or_true (has found p)
       ∙ sym (ap (λ o. is_at o k) (ap (λ w. get_or (set steps place (Some k)) w None) (sym here) ∙ get_or-set_same steps place (Some k) None within) ∙ itself_at k))
-    | inr other ↦ (ap (λ b. has found p || b) (apart place p other) ∙ or_false (has found p) ∙ kept.found p
+    | inr other ↦ (ap (λ b. has found p || b) (apart place p other) ∙ or_false (has found p) ∙ kept.last p
       ∙ sym (ap (λ o. is_at o k) (get_or-set_other steps place p (Some k) None (λ same. other (sym same)))))
   ];
 }
@@ -116,7 +116,7 @@ pub skip_seen : (back : List (List ℕ)) (seen : List Bool) (steps : List (Optio
 skip_seen back seen steps found k x kept looked = record {
   same = refl;
   at = λ p below. sym (marked_known k (has (get_or back x []) p) (get_or steps p None) (λ there. elim (cases_lt x (length back)) [
-    | inl within ↦ kept.seen x p (looked within) below there
+    | inl within ↦ kept.reached x p (looked within) below there
     | inr past ↦ absurd (false≢true (sym (ap (λ w. has w p) (get_or_past back x [] past)) ∙ there))
   ]));
 }
@@ -124,11 +124,11 @@ skip_seen back seen steps found k x kept looked = record {
 pub kept_seen : (back : List (List ℕ)) (seen : List Bool) (old steps : List (Option ℕ)) (found : List ℕ) (k x : ℕ) → IsKept back seen steps found k → AreMarked k (λ p. has (get_or back x []) p) old steps → x < length seen → IsKept back (set seen x true) steps found k
 kept_seen back seen old steps found k x kept marks within = record {
   long = length-set seen x true ∙ kept.long;
-  seen = λ y p looked below there. elim (apart_or_same x y) [
+  reached = λ y p looked below there. elim (apart_or_same x y) [
     | inl here ↦ (ap is_some (marks.at p (omega (arith, below, marks.same)) ∙ ap (λ b. marked k b (get_or old p None)) (ap (λ w. has (get_or back w []) p) here ∙ there)) ∙ marked_some k (get_or old p None))
-    | inr other ↦ kept.seen y p (sym (get_or-set_other seen x y true false (λ same. other (sym same))) ∙ looked) below there
+    | inr other ↦ kept.reached y p (sym (get_or-set_other seen x y true false (λ same. other (sym same))) ∙ looked) below there
   ];
-  found = kept.found;
+  last = kept.last;
 }
 
 -- one more of a list

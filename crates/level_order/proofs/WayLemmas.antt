@@ -48,8 +48,8 @@ known (Some m) e = (m, refl)
 pub nothing_kept : (back : List (List ℕ)) (count n : ℕ) (seen : List Bool) (steps : List (Option ℕ)) → seen ≡ replicate (length back) false → steps ≡ replicate n None → IsKept back seen steps [] count
 nothing_kept back count n seen steps seen_is steps_is = record {
   long = ap length seen_is ∙ length-replicate (length back) false;
-  seen = λ x p looked below there. absurd (false≢true (sym (unseen (length back) x) ∙ sym (ap (λ w. get_or w x false) seen_is) ∙ looked));
-  found = λ p. sym (ap (λ o. is_at o count) (ap (λ w. get_or w p None) steps_is ∙ unknown n p));
+  reached = λ x p looked below there. absurd (false≢true (sym (unseen (length back) x) ∙ sym (ap (λ w. get_or w x false) seen_is) ∙ looked));
+  last = λ p. sym (ap (λ o. is_at o count) (ap (λ w. get_or w p None) steps_is ∙ unknown n p));
 } where
   unseen : (n x : ℕ) → get_or (replicate n false) x false ≡ false
   unseen zero x = refl
@@ -92,8 +92,8 @@ first_round ds onward back to steps next links within is marks = within_direct (
 pub kept_next : (back : List (List ℕ)) (seen : List Bool) (uses : List (List ℕ)) (to k old : ℕ) (steps : List (Option ℕ)) (found : List ℕ) → Within uses to k steps → IsKept back seen steps found old → IsKept back seen steps [] k
 kept_next back seen uses to k old steps found within kept = record {
   long = kept.long;
-  seen = kept.seen;
-  found = λ p. sym (none p (get_or steps p None) refl);
+  reached = kept.reached;
+  last = λ p. sym (none p (get_or steps p None) refl);
 } where
   none : (p : ℕ) (o : Option ℕ) → get_or steps p None ≡ o → is_at (get_or steps p None) k ≡ false
   none p None is = ap (λ o. is_at o k) is
@@ -114,7 +114,7 @@ next_round ds onward back seen to k steps next from links within kept marks =
     forth : list_any (λ w. comes_from back w i) from ≡ true → list_any (λ p. is_some (get_or steps p None)) (get_or (all_uses ds) i []) ≡ true
     forth any =
         let some = any_has (λ w. comes_from back w i) from any in
-        let last = is_at_some (get_or steps some.0 None) (k - 1) (sym (kept.found some.0) ∙ some.1) in
+        let last = is_at_some (get_or steps some.0 None) (k - 1) (sym (kept.last some.0) ∙ some.1) in
         let low_some : some.0 < length ds = known_within some.0 (k - 1) last in
         has_any (λ p. is_some (get_or steps p None)) (get_or (all_uses ds) i []) some.0 (sym (links.turned i some.0 low low_some) ∙ some.2) (ap is_some last) where
       known_within : (p m : ℕ) → get_or steps p None ≡ Some m → p < length ds
@@ -132,7 +132,7 @@ next_round ds onward back seen to k steps next from links within kept marks =
         elim (cases_lt (length (some.0 ∷ way.0)) k) [
           | inl early ↦ (let old = within.complete i (some.0 ∷ way.0) (and_from (has (get_or (all_uses ds) i []) some.0) (leads_by (all_uses ds) some.0 way.0 to) some.1 way.2) early in absurd (none_some (sym is ∙ old.1)))
           | inr late ↦ (let last : m.0 ≡ k - 1 = omega (arith, late, way.1, way.3) in
-              has_any (λ w. comes_from back w i) from some.0 (kept.found some.0 ∙ some_is_at (get_or steps some.0 None) (k - 1) (m.1 ∙ ap Some last)) (links.turned i some.0 low low_some ∙ some.1))
+              has_any (λ w. comes_from back w i) from some.0 (kept.last some.0 ∙ some_is_at (get_or steps some.0 None) (k - 1) (m.1 ∙ ap Some last)) (links.turned i some.0 low low_some ∙ some.1))
         ]
 
 -- where a round finds some, the search goes on
@@ -142,7 +142,7 @@ round_on ds back seen to k steps next [] within is kept some = absurd (omega (ar
 round_on ds back seen to k steps next (p ∷ found) within is kept some = within_grown (all_uses ds) to k steps within next is (λ same. elim (wider_counts k steps (all_uses ds) steps within.same) [
   | inl more ↦ omega (arith, more, ap known_count is, same)
   | inr stays ↦ (
-      let new : get_or next p None ≡ Some k = is_at_some (get_or next p None) k (sym (kept.found p) ∙ first_of p found) in
+      let new : get_or next p None ≡ Some k = is_at_some (get_or next p None) k (sym (kept.last p) ∙ first_of p found) in
       let old = within.sound p k (ap (λ w. get_or w p None) (sym (is ∙ stays)) ∙ new) in
       omega (arith, old.3))
 ]) where
@@ -165,4 +165,4 @@ round_end ds back seen to k steps next among within is kept marks =
   stays : next ≡ steps
   stays = same_lists next steps marks.same (λ i below.
       let at = marks.at i (omega (arith, below, marks.same)) in
-      at ∙ unmarked (among i) (get_or steps i None) (ap (λ o. is_at o k) (sym at) ∙ sym (kept.found i)))
+      at ∙ unmarked (among i) (get_or steps i None) (ap (λ o. is_at o k) (sym at) ∙ sym (kept.last i)))

@@ -1,7 +1,6 @@
 -- Numbers for the names of interfaces. Our own words.
 use Rattle.std.specs.Prelude.{ℕ, List, ◌++◌, map, Bool}
 use Rattle.std.specs.List.{count_by}
-use Rattle.std.specs.List.Sorted.{IsSorted}
 use Rattle.std.specs.Cmp.Lexicographic.{slice_cmp}
 use Rattle.std.specs.Ordering.{is_lt, nat_cmp}
 use Rattle.component_dto.specs.declared.description.Description.{Description}
@@ -14,10 +13,6 @@ named_by d = d.service_interfaces ++ map (λ (r : Reference). r.interface_name) 
 -- one text stands before another in byte order
 abbrev pub is_before : List ℕ → List ℕ → Bool
 is_before one other = is_lt (slice_cmp nat_cmp one other)
-
--- the texts stand in byte order
-abbrev pub AreSorted : List (List ℕ) → Type 0
-AreSorted texts = IsSorted (slice_cmp nat_cmp) texts
 
 -- how many of the names stand before this one
 abbrev pub number_of : List (List ℕ) → List ℕ → ℕ

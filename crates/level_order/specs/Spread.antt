@@ -15,5 +15,5 @@ pub record AreMarked (count : ℕ) (among : ℕ → Bool) (old new : List (Optio
 -- all that an interface seen before leads to are reached, and those reached in this round are the ones found
 pub record IsKept (back : List (List ℕ)) (seen : List Bool) (steps : List (Option ℕ)) (found : List ℕ) (count : ℕ) : Type 0 where
   pub long : length seen ≡ length back
-  pub seen : (x place : ℕ) → get_or seen x false ≡ true → place < length steps → has (get_or back x []) place ≡ true → is_some (get_or steps place None) ≡ true
-  pub found : (place : ℕ) → has found place ≡ is_at (get_or steps place None) count
+  pub reached : (x place : ℕ) → get_or seen x false ≡ true → place < length steps → has (get_or back x []) place ≡ true → is_some (get_or steps place None) ≡ true
+  pub last : (place : ℕ) → has found place ≡ is_at (get_or steps place None) count

@@ -1,5 +1,5 @@
 //! How high places stand above those that they lead to.
-ghost use Rattle.std.specs.Prelude.{◌≡◌, ◌<◌, ◌≤◌, ℕ, [], None, IfOk, OnOk, MatchOption, get_or, length, replicate};
+ghost use Rattle.std.specs.Prelude.{◌≡◌, ◌+◌, ◌<◌, ℕ, [], None, IfOk, OnOk, MatchOption, get_or, length};
 ghost use Rattle.level_order.specs.Heights.{AreHeights, AreSound, IsOpen, IsRaised, height_over, rise_at};
 ghost use Rattle.level_order.specs.Ways.{known_count};
 

@@ -1,8 +1,11 @@
 //! Numbers for the names of interfaces.
 ghost use Rattle.std.specs.Prelude.{◌≡◌, ◌++◌, ℕ, List, true, IfOk, OnOk, map};
+ghost use Rattle.std.specs.Cmp.Lexicographic.{slice_cmp};
 ghost use Rattle.std.specs.List.{flat_map};
+ghost use Rattle.std.specs.List.Sorted.{IsSorted};
+ghost use Rattle.std.specs.Ordering.{nat_cmp};
 ghost use Rattle.component_dto.specs.TextLists.{has_text};
-ghost use Rattle.level_order.specs.InterfaceNames.{AreSorted, named_by, number_of};
+ghost use Rattle.level_order.specs.InterfaceNames.{named_by, number_of};
 
 use component_dto::Description;
 use prop_map::OutOfMemory;
@@ -14,7 +17,7 @@ pub(crate) fn names_in<'d>(
     descriptions: &'d [Description],
 ) -> Result<Vec<&'d str>, OutOfMemory>
     ensures all { IfOk result (λ v. (text : List ℕ) → has_text (flat_map named_by descriptions.now) text ≡ true → has_text (map (λ t. t.now) v.items) text ≡ true) }
-    ensures sorted { IfOk result (λ v. AreSorted (map (λ t. t.now) v.items)) }
+    ensures sorted { IfOk result (λ v. IsSorted (λ a b. slice_cmp nat_cmp a.now b.now) v.items) }
 {
     let mut names = Vec::new(alloc);
     for description in descriptions {
@@ -41,7 +44,7 @@ fn push_names<'d>(
 
 /// How many of the names stand before this one.
 pub(crate) fn number_of(names: &[&str], name: &str) -> usize
-    requires { AreSorted (map (λ t. t.now) names.now) }
+    requires { IsSorted (λ a b. slice_cmp nat_cmp a.now b.now) names.now }
     ensures { result ≡ number_of (map (λ t. t.now) names.now) name.now }
 {
     names.partition_point(|other| *other < name)

@@ -1,6 +1,8 @@
 //! How descriptions are joined by the interfaces that they name.
 ghost use Rattle.std.specs.Prelude.{◌≡◌, ◌+◌, ◌++◌, ◌<◌, ◌^◌, IfOk, length, map};
-ghost use Rattle.level_order.specs.InterfaceNames.{AreSorted, number_of};
+ghost use Rattle.std.specs.Cmp.Lexicographic.{slice_cmp};
+ghost use Rattle.std.specs.List.Sorted.{IsSorted};
+ghost use Rattle.std.specs.Ordering.{nat_cmp};
 ghost use Rattle.level_order.specs.Links.{AreLinks, needs_of, gives_of};
 
 use crate::interface_names::{names_in, number_of};
@@ -44,7 +46,7 @@ fn all_needs(
     first: usize,
     descriptions: &[Description],
 ) -> Result<Vec<List<usize>>, OutOfMemory>
-    requires sorted { AreSorted (map (λ t. t.now) names.now) }
+    requires sorted { IsSorted (λ a b. slice_cmp nat_cmp a.now b.now) names.now }
     requires fits { first + length names.now < 2 ^ 64 }
     ensures { IfOk result (λ v. v.items ≡ map (needs_of (map (λ t. t.now) names.now) first) descriptions.now) }
 {
@@ -61,7 +63,7 @@ fn needs_of(
     first: usize,
     description: &Description,
 ) -> Result<List<usize>, OutOfMemory>
-    requires sorted { AreSorted (map (λ t. t.now) names.now) }
+    requires sorted { IsSorted (λ a b. slice_cmp nat_cmp a.now b.now) names.now }
     requires fits { first + length names.now < 2 ^ 64 }
     ensures { IfOk result (λ numbers. numbers ≡ needs_of (map (λ t. t.now) names.now) first description.now) }
 {
@@ -78,7 +80,7 @@ fn all_gives(
     first: usize,
     descriptions: &[Description],
 ) -> Result<Vec<List<usize>>, OutOfMemory>
-    requires sorted { AreSorted (map (λ t. t.now) names.now) }
+    requires sorted { IsSorted (λ a b. slice_cmp nat_cmp a.now b.now) names.now }
     requires fits { first + length names.now < 2 ^ 64 }
     ensures { IfOk result (λ v. v.items ≡ map (gives_of (map (λ t. t.now) names.now) first) descriptions.now) }
 {
@@ -95,7 +97,7 @@ fn gives_of(
     first: usize,
     description: &Description,
 ) -> Result<List<usize>, OutOfMemory>
-    requires sorted { AreSorted (map (λ t. t.now) names.now) }
+    requires sorted { IsSorted (λ a b. slice_cmp nat_cmp a.now b.now) names.now }
     requires fits { first + length names.now < 2 ^ 64 }
     ensures { IfOk result (λ numbers. numbers ≡ gives_of (map (λ t. t.now) names.now) first description.now) }
 {
