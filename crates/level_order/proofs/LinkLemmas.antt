@@ -1,12 +1,12 @@
 -- That descriptions consume each other exactly where an interface's place lies between them.
-use Rattle.std.proofs.Common.{◌≡◌, ◌<◌, ◌≤◌, ℕ, zero, suc, ◌+◌, ◌-◌, List, [], ◌∷◌, ◌++◌, length, get_or, ap, sym, ◌∙◌, refl, Bool, true, false, cond, ◌||◌, arith, inl, inr, subst, length-append, Option}
+use Rattle.std.proofs.Common.{◌≡◌, ◌<◌, ◌≤◌, ℕ, zero, suc, ◌+◌, ◌-◌, List, [], ◌∷◌, ◌++◌, length, get_or, take, ap, sym, ◌∙◌, refl, Bool, true, false, cond, ◌||◌, arith, inl, inr, subst, length-append, Option}
 use Rattle.std.specs.Prelude.{map, ◌==◌}
 use Rattle.std.specs.Cmp.{both_ways}
 use Rattle.std.specs.List.{list_any, flat_map, slice_get}
 use Rattle.std.specs.Option.{option_map_or}
 use Rattle.std.specs.Str.{bytes_eq}
 use Rattle.std.proofs.lemmas.Bool.{cases_lt, eq-eqb, eqb-true, or_cases, false≢true}
-use Rattle.std.proofs.lemmas.List.{get_or_past, get_or_append_left, get_or-append_right, length-map}
+use Rattle.std.proofs.lemmas.List.{get_or_past, get_or_append_left, get_or-append_right, length-map, map-append, take_more}
 use Rattle.std.proofs.lemmas.List.Folds.{list_any-append}
 use Rattle.std.proofs.lemmas.Option.{slice_get-get_or}
 use Rattle.std.proofs.lemmas.Slice.Eq.{bytes_eq-Decides}
@@ -136,16 +136,16 @@ linked ds names needs gives givers needers built = record {
       ]);
   turned = λ i j below_i below_j. both_ways (comes_from (gives ++ needers) j i) (has (get_or (all_uses ds) i []) j)
       (λ back. (
-        let found = any_has (λ x. has (get_or (gives ++ needers) x []) i) (get_or (gives ++ needers) j []) back in
-        let given : has (get_or gives j []) found.0 ≡ true = sym (ap (λ w. has w found.0) (back_at j below_j)) ∙ found.1 in
-        let facts = give_bounds j found.0 below_j given in
-        let need : has (get_or needs i []) found.0 ≡ true = sym (back_over found.0 i facts.0 facts.1) ∙ found.2 in
-        uses_any i j below_i below_j ∙ has_any (λ x. has (get_or gives j []) x) (get_or needs i []) found.0 need given))
+      let found = any_has (λ x. has (get_or (gives ++ needers) x []) i) (get_or (gives ++ needers) j []) back in
+      let given : has (get_or gives j []) found.0 ≡ true = sym (ap (λ w. has w found.0) (back_at j below_j)) ∙ found.1 in
+      let facts = give_bounds j found.0 below_j given in
+      let need : has (get_or needs i []) found.0 ≡ true = sym (back_over found.0 i facts.0 facts.1) ∙ found.2 in
+      uses_any i j below_i below_j ∙ has_any (λ x. has (get_or gives j []) x) (get_or needs i []) found.0 need given))
       (λ used. (
-        let found = any_has (λ x. has (get_or gives j []) x) (get_or needs i []) (sym (uses_any i j below_i below_j) ∙ used) in
-        let facts = need_bounds i found.0 below_i found.1 in
-        has_any (λ x. has (get_or (gives ++ needers) x []) i) (get_or (gives ++ needers) j []) found.0
-        (ap (λ w. has w found.0) (back_at j below_j) ∙ found.2) (back_over found.0 i facts.0 facts.1 ∙ found.1)));
+      let found = any_has (λ x. has (get_or gives j []) x) (get_or needs i []) (sym (uses_any i j below_i below_j) ∙ used) in
+      let facts = need_bounds i found.0 below_i found.1 in
+      has_any (λ x. has (get_or (gives ++ needers) x []) i) (get_or (gives ++ needers) j []) found.0
+      (ap (λ w. has w found.0) (back_at j below_j) ∙ found.2) (back_over found.0 i facts.0 facts.1 ∙ found.1)));
 } where
   long_needs : length needs ≡ length ds
   long_needs = ap length built.needs_are ∙ length-map ds (needs_of names (length ds))
@@ -209,3 +209,11 @@ linked ds names needs gives givers needers built = record {
   within i j used =
       let at = sym (has_all_uses ds i j) ∙ used in
       (within_list ds (λ d. option_map_or (λ e. consumes d e) (slice_get ds j) false) i at, consumes_at_within ds i j at)
+
+-- one more place of a name
+pub placed_more : {A : Type 0} (text : A → List ℕ) (names : List (List ℕ)) (first : ℕ) (xs ys : List A) (i : ℕ) (items : List ℕ) (x : A) (t : List ℕ) (n : ℕ) → xs ≡ ys → i < length xs → x ≡ get_or xs i x → t ≡ text x → n ≡ number_of names t
+    → items ≡ map (λ a. first + number_of names (text a)) (take i ys) → items ++ (first + n) ∷ [] ≡ map (λ a. first + number_of names (text a)) (take (i + 1) ys)
+placed_more {A} text names first xs ys i items x t n same within is is_t is_n so_far =
+    let here : n ≡ number_of names (text (get_or ys i x)) = is_n ∙ ap (number_of names) (is_t ∙ ap text (is ∙ ap (λ (w : List A). get_or w i x) same)) in
+    ap (λ w. w ++ (first + n) ∷ []) so_far ∙ ap (λ w. map (λ a. first + number_of names (text a)) (take i ys) ++ (first + w) ∷ []) here
+    ∙ sym (ap (map (λ a. first + number_of names (text a))) (take_more ys i x (omega (arith, within, ap length same))) ∙ map-append (λ a. first + number_of names (text a)) (take i ys) (get_or ys i x ∷ []))

@@ -3,7 +3,7 @@ use Rattle.std.proofs.Common.{◌≡◌, ◌<◌, ◌≤◌, ℕ, zero, suc, ◌
 use Rattle.std.specs.Prelude.{map, ◌==◌}
 use Rattle.std.specs.Cmp.{both_ways}
 use Rattle.std.specs.Cmp.Lexicographic.{slice_cmp}
-use Rattle.std.specs.List.{count_by, list_any, flat_map}
+use Rattle.std.specs.List.{list_any, flat_map}
 use Rattle.std.specs.List.Sorted.{IsSorted, IsPartitionedBy, IsPartitionPoint}
 use Rattle.std.specs.Ordering.{is_lt, is_eq, nat_cmp, ordering_reverse}
 use Rattle.std.specs.Str.{bytes_eq}
@@ -35,24 +35,20 @@ module _ {X : Type 0} (text : X → List ℕ) where
   sorted_parts xs t sorted i zero d low within below = subst (λ n. is_before (text (get_or xs n d)) t ≡ true) (omega (arith, low)) below
   sorted_parts xs t sorted i (suc j) d low within below = elim (cases_lt i (suc j)) [
     | inl earlier ↦ sorted_parts xs t sorted i j d (omega arith) (omega arith)
-      (not_greater (text (get_or xs j d)) (text (get_or xs (suc j) d)) t (slice_cmp nat_cmp (text (get_or xs j d)) (text (get_or xs (suc j) d))) refl
-      (subst (λ n. is_lt (slice_cmp nat_cmp (text (get_or xs n d)) (text (get_or xs j d))) ≡ false) (omega arith) (sorted j d (omega arith) (omega arith))) below)
+        (not_greater (text (get_or xs j d)) (text (get_or xs (suc j) d)) t (slice_cmp nat_cmp (text (get_or xs j d)) (text (get_or xs (suc j) d))) refl
+        (subst (λ n. is_lt (slice_cmp nat_cmp (text (get_or xs n d)) (text (get_or xs j d))) ≡ false) (omega arith) (sorted j d (omega arith) (omega arith))) below)
     | inr here ↦ subst (λ n. is_before (text (get_or xs n d)) t ≡ true) (omega (arith, low, here)) below
   ]
 
-  -- where the first ones pass a test and the others don't, so many pass it
-  pub count_point : (p : X → Bool) (xs : List X) (i : ℕ) → i ≤ length xs → IsPartitionPoint (λ y. p y ≡ true) (λ y. p y ≡ false) xs i → count_by p xs ≡ i
-  count_point p [] i within point = omega (arith, within)
-  count_point p (x ∷ xs) zero within point = rw (point.1 0 x (omega arith) (omega arith)) (count_point p xs zero (omega arith) ((λ k d low high. point.0 (suc k) d (omega arith) (omega arith)), (λ k d low high. point.1 (suc k) d (omega arith) (omega arith))))
-  count_point p (x ∷ xs) (suc i) within point = rw (point.0 0 x (omega arith) (omega arith)) (omega (arith, count_point p xs i (omega arith) ((λ k d low high. point.0 (suc k) d (omega arith) (omega arith)), (λ k d low high. point.1 (suc k) d (omega arith) (omega arith)))))
-
-  pub counted : (xs : List X) (t : List ℕ) → count_by (λ x. is_before (text x) t) xs ≡ count_by (λ n. is_before n t) (map text xs)
-  counted [] t = refl
-  counted (x ∷ xs) t = ap (λ w. cond (is_before (text x) t) (1 + w) w) (counted xs t)
+  -- the place where the names before it end is its number
+  pub point_number : (xs : List X) (t : List ℕ) (i : ℕ) → i ≤ length xs → IsPartitionPoint (λ x. is_before (text x) t ≡ true) (λ x. is_before (text x) t ≡ false) xs i → i ≡ number_of (map text xs) t
+  point_number [] t i within point = omega (arith, within)
+  point_number (x ∷ xs) t zero within point = rw (point.1 0 x (omega arith) (omega arith)) (point_number xs t zero (omega arith) ((λ k d low high. point.0 (suc k) d (omega arith) (omega arith)), (λ k d low high. point.1 (suc k) d (omega arith) (omega arith))))
+  point_number (x ∷ xs) t (suc i) within point = rw (point.0 0 x (omega arith) (omega arith)) (ap suc (point_number xs t i (omega arith) ((λ k d low high. point.0 (suc k) d (omega arith) (omega arith)), (λ k d low high. point.1 (suc k) d (omega arith) (omega arith)))))
 
 -- ---- numbers of names
 
-bit : (a b : Bool) (m n : ℕ) → (a ≡ true → b ≡ true) → m ≤ n → cond a (1 + m) m ≤ cond b (1 + n) n
+bit : (a b : Bool) (m n : ℕ) → (a ≡ true → b ≡ true) → m ≤ n → cond a (suc m) m ≤ cond b (suc n) n
 bit true b m n step le = rw (step refl) (omega (arith, le))
 bit false true m n step le = omega (arith, le)
 bit false false m n step le = le
@@ -82,9 +78,9 @@ number_less (n ∷ names) t u low there = elim (or_cases (bytes_eq n t) (has_tex
       let no : is_before n t ≡ false = ap is_lt (not_before n t here) in
       let yes : is_before n u ≡ true = ap is_lt (nat_list_cmp_total.congr n t u (not_before n t here) ∙ low) in
       rw (no, yes) (omega (arith, number_le names t u low)))
-  | inr later ↦ omega (arith, bit (is_before n t) (is_before n u) (1 + number_of names t) (number_of names u) (less_before n t u low) (omega (arith, number_less names t u low later)), more (is_before n t) (number_of names t))
+  | inr later ↦ omega (arith, bit (is_before n t) (is_before n u) (suc (number_of names t)) (number_of names u) (less_before n t u low) (omega (arith, number_less names t u low later)), more (is_before n t) (number_of names t))
 ] where
-  more : (b : Bool) (m : ℕ) → cond b (1 + (1 + m)) (1 + m) ≡ 1 + cond b (1 + m) m
+  more : (b : Bool) (m : ℕ) → cond b (suc (suc m)) (suc m) ≡ suc (cond b (suc m) m)
   more true m = refl
   more false m = refl
 
@@ -95,14 +91,14 @@ number_within (n ∷ names) t there = elim (or_cases (bytes_eq n t) (has_text na
   | inl here ↦ (let no : is_before n t ≡ false = ap is_lt (not_before n t here) in rw no (omega (arith, most names)))
   | inr later ↦ (let rest : number_of names t < length names = number_within names t later in bound (is_before n t) (number_of names t) (length names) rest)
 ] where
-  bound : (b : Bool) (m k : ℕ) → m < k → cond b (1 + m) m < suc k
+  bound : (b : Bool) (m k : ℕ) → m < k → cond b (suc m) m < suc k
   bound true m k low = omega (arith, low)
   bound false m k low = omega (arith, low)
 
   most : (ns : List (List ℕ)) → number_of ns t ≤ length ns
   most [] = omega arith
   most (m ∷ ns) = (let rest : number_of ns t ≤ length ns = most ns in le_one (is_before m t) (number_of ns t) (length ns) rest) where
-    le_one : (b : Bool) (x k : ℕ) → x ≤ k → cond b (1 + x) x ≤ suc k
+    le_one : (b : Bool) (x k : ℕ) → x ≤ k → cond b (suc x) x ≤ suc k
     le_one true x k low = omega (arith, low)
     le_one false x k low = omega (arith, low)
 

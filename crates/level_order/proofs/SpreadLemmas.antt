@@ -82,9 +82,9 @@ mark_new k place steps within none = record {
   same = length-set steps place (Some k);
   at = λ p below. elim (apart_or_same place p) [
     | inl here ↦ (ap (λ w. get_or (set steps place (Some k)) w None) (sym here) ∙ get_or-set_same steps place (Some k) None within
-      ∙ sym (ap (λ b. marked k b (get_or steps p None)) (eq-eqb place p here) ∙ ap (marked k true) (ap (λ w. get_or steps w None) (sym here) ∙ none)))
+        ∙ sym (ap (λ b. marked k b (get_or steps p None)) (eq-eqb place p here) ∙ ap (marked k true) (ap (λ w. get_or steps w None) (sym here) ∙ none)))
     | inr other ↦ (get_or-set_other steps place p (Some k) None (λ same. other (sym same))
-      ∙ sym (ap (λ b. marked k b (get_or steps p None)) (apart place p other) ∙ marked_no k (get_or steps p None)))
+        ∙ sym (ap (λ b. marked k b (get_or steps p None)) (apart place p other) ∙ marked_no k (get_or steps p None)))
   ];
 }
 
@@ -103,9 +103,9 @@ kept_new back seen steps found k place kept within none = record {
   ];
   last = λ p. has_append found place p ∙ elim (apart_or_same place p) [
     | inl here ↦ (ap (λ b. has found p || b) (eq-eqb place p here) ∙ or_true (has found p)
-      ∙ sym (ap (λ o. is_at o k) (ap (λ w. get_or (set steps place (Some k)) w None) (sym here) ∙ get_or-set_same steps place (Some k) None within) ∙ itself_at k))
+        ∙ sym (ap (λ o. is_at o k) (ap (λ w. get_or (set steps place (Some k)) w None) (sym here) ∙ get_or-set_same steps place (Some k) None within) ∙ itself_at k))
     | inr other ↦ (ap (λ b. has found p || b) (apart place p other) ∙ or_false (has found p) ∙ kept.last p
-      ∙ sym (ap (λ o. is_at o k) (get_or-set_other steps place p (Some k) None (λ same. other (sym same)))))
+        ∙ sym (ap (λ o. is_at o k) (get_or-set_other steps place p (Some k) None (λ same. other (sym same)))))
   ];
 }
 

@@ -77,9 +77,9 @@ turned_more lists now new first count place so_far added k p below =
             ∙ sym (ap (λ b. b && has (get_or lists p []) (first + k)) (lt-ltb p (place + 1) (omega (arith, upto)))))
       ]
     ] where
-  or_false : (b : Bool) → (b || false) ≡ b
-  or_false true = refl
-  or_false false = refl
+      or_false : (b : Bool) → (b || false) ≡ b
+      or_false true = refl
+      or_false false = refl
 
 pub turned_all : (lists turned : List (List ℕ)) (first count place : ℕ) → length lists ≤ place → Turned lists turned first count place → (k p : ℕ) → k < count → has (get_or turned k []) p ≡ has (get_or lists p []) (first + k)
 turned_all lists turned first count place past all k p below = all k p below ∙ elim (cases_lt p place) [

@@ -67,24 +67,24 @@ pub first_round : (ds : List Description) (onward back : List (List ℕ)) (to : 
     → AreMarked 0 (λ p. list_any (λ w. comes_from back w p) (to ∷ [])) steps next → Within (all_uses ds) to 1 next
 first_round ds onward back to steps next links within is marks = within_direct (all_uses ds) to next (same_lists next (direct to (all_uses ds))
     (marks.same ∙ long ∙ sym (length-map (all_uses ds) (λ places. cond (has places to) (Some 0) None) ∙ long_uses ds)) each) where
-  long : length steps ≡ length ds
-  long = ap length is ∙ length-replicate (length ds) None
+      long : length steps ≡ length ds
+      long = ap length is ∙ length-replicate (length ds) None
 
-  or_false : (b : Bool) → cond (b) (Some 0) None ≡ marked 0 b None
-  or_false true = refl
-  or_false false = refl
+      or_false : (b : Bool) → cond (b) (Some 0) None ≡ marked 0 b None
+      or_false true = refl
+      or_false false = refl
 
-  one : (b : Bool) → list_any (λ (w : Bool). w) (b ∷ []) ≡ b
-  one true = refl
-  one false = refl
+      one : (b : Bool) → list_any (λ (w : Bool). w) (b ∷ []) ≡ b
+      one true = refl
+      one false = refl
 
-  each : (i : ℕ) → i < length next → get_or next i None ≡ get_or (direct to (all_uses ds)) i None
-  each i below =
-      let low : i < length ds = omega (arith, below, marks.same, long) in
-      marks.at i (omega (arith, low, long))
-      ∙ ap (λ o. marked 0 (list_any (λ w. comes_from back w i) (to ∷ [])) o) (ap (λ w. get_or w i None) is ∙ get_or-replicate (length ds) i None None low)
-      ∙ ap (λ b. marked 0 b None) (one (comes_from back to i) ∙ links.turned i to low within)
-      ∙ sym (or_false (has (get_or (all_uses ds) i []) to)) ∙ sym (direct_at to (all_uses ds) i)
+      each : (i : ℕ) → i < length next → get_or next i None ≡ get_or (direct to (all_uses ds)) i None
+      each i below =
+          let low : i < length ds = omega (arith, below, marks.same, long) in
+          marks.at i (omega (arith, low, long))
+          ∙ ap (λ o. marked 0 (list_any (λ w. comes_from back w i) (to ∷ [])) o) (ap (λ w. get_or w i None) is ∙ get_or-replicate (length ds) i None None low)
+          ∙ ap (λ b. marked 0 b None) (one (comes_from back to i) ∙ links.turned i to low within)
+          ∙ sym (or_false (has (get_or (all_uses ds) i []) to)) ∙ sym (direct_at to (all_uses ds) i)
 
 -- ---- a round more
 
@@ -104,36 +104,36 @@ pub next_round : (ds : List Description) (onward back : List (List ℕ)) (seen :
 next_round ds onward back seen to k steps next from links within kept marks =
     same_lists next (wider k steps (all_uses ds) steps) (marks.same ∙ within.same ∙ sym (length-wider k steps (all_uses ds) steps within.same))
     (λ i below. marks.at i (omega (arith, below, marks.same)) ∙ by_known i (omega (arith, below, marks.same, within.same, long_uses ds)) (get_or steps i None) refl ∙ sym (wider-at k steps (all_uses ds) steps i within.same)) where
-  by_known : (i : ℕ) → i < length ds → (o : Option ℕ) → get_or steps i None ≡ o
-      → marked k (list_any (λ w. comes_from back w i) from) (get_or steps i None) ≡ wider_at k steps (get_or (all_uses ds) i []) (get_or steps i None)
-  by_known i low (Some m) is = ap (λ o. marked k (list_any (λ w. comes_from back w i) from) o) is ∙ sym (ap (λ o. wider_at k steps (get_or (all_uses ds) i []) o) is)
-  by_known i low None is =
-      ap (λ o. marked k (list_any (λ w. comes_from back w i) from) o) is
-      ∙ ap (λ b. cond b (Some k) None) (both_ways (list_any (λ w. comes_from back w i) from) (list_any (λ p. is_some (get_or steps p None)) (get_or (all_uses ds) i [])) forth back_again)
-      ∙ sym (ap (λ o. wider_at k steps (get_or (all_uses ds) i []) o) is) where
-    forth : list_any (λ w. comes_from back w i) from ≡ true → list_any (λ p. is_some (get_or steps p None)) (get_or (all_uses ds) i []) ≡ true
-    forth any =
-        let some = any_has (λ w. comes_from back w i) from any in
-        let last = is_at_some (get_or steps some.0 None) (k - 1) (sym (kept.last some.0) ∙ some.1) in
-        let low_some : some.0 < length ds = known_within some.0 (k - 1) last in
-        has_any (λ p. is_some (get_or steps p None)) (get_or (all_uses ds) i []) some.0 (sym (links.turned i some.0 low low_some) ∙ some.2) (ap is_some last) where
-      known_within : (p m : ℕ) → get_or steps p None ≡ Some m → p < length ds
-      known_within p m e = elim (cases_lt p (length steps)) [
-        | inl below ↦ omega (arith, below, within.same, long_uses ds)
-        | inr past ↦ absurd (none_some (sym (get_or_past steps p None past) ∙ e))
-      ]
+      by_known : (i : ℕ) → i < length ds → (o : Option ℕ) → get_or steps i None ≡ o
+          → marked k (list_any (λ w. comes_from back w i) from) (get_or steps i None) ≡ wider_at k steps (get_or (all_uses ds) i []) (get_or steps i None)
+      by_known i low (Some m) is = ap (λ o. marked k (list_any (λ w. comes_from back w i) from) o) is ∙ sym (ap (λ o. wider_at k steps (get_or (all_uses ds) i []) o) is)
+      by_known i low None is =
+          ap (λ o. marked k (list_any (λ w. comes_from back w i) from) o) is
+          ∙ ap (λ b. cond b (Some k) None) (both_ways (list_any (λ w. comes_from back w i) from) (list_any (λ p. is_some (get_or steps p None)) (get_or (all_uses ds) i [])) forth back_again)
+          ∙ sym (ap (λ o. wider_at k steps (get_or (all_uses ds) i []) o) is) where
+            forth : list_any (λ w. comes_from back w i) from ≡ true → list_any (λ p. is_some (get_or steps p None)) (get_or (all_uses ds) i []) ≡ true
+            forth any =
+                let some = any_has (λ w. comes_from back w i) from any in
+                let last = is_at_some (get_or steps some.0 None) (k - 1) (sym (kept.last some.0) ∙ some.1) in
+                let low_some : some.0 < length ds = known_within some.0 (k - 1) last in
+                has_any (λ p. is_some (get_or steps p None)) (get_or (all_uses ds) i []) some.0 (sym (links.turned i some.0 low low_some) ∙ some.2) (ap is_some last) where
+                  known_within : (p m : ℕ) → get_or steps p None ≡ Some m → p < length ds
+                  known_within p m e = elim (cases_lt p (length steps)) [
+                    | inl below ↦ omega (arith, below, within.same, long_uses ds)
+                    | inr past ↦ absurd (none_some (sym (get_or_past steps p None past) ∙ e))
+                  ]
 
-    back_again : list_any (λ p. is_some (get_or steps p None)) (get_or (all_uses ds) i []) ≡ true → list_any (λ w. comes_from back w i) from ≡ true
-    back_again any =
-        let some = any_has (λ p. is_some (get_or steps p None)) (get_or (all_uses ds) i []) any in
-        let m = known (get_or steps some.0 None) some.2 in
-        let way = within.sound some.0 m.0 m.1 in
-        let low_some = used_within ds i some.0 some.1 in
-        elim (cases_lt (length (some.0 ∷ way.0)) k) [
-          | inl early ↦ (let old = within.complete i (some.0 ∷ way.0) (and_from (has (get_or (all_uses ds) i []) some.0) (leads_by (all_uses ds) some.0 way.0 to) some.1 way.2) early in absurd (none_some (sym is ∙ old.1)))
-          | inr late ↦ (let last : m.0 ≡ k - 1 = omega (arith, late, way.1, way.3) in
-              has_any (λ w. comes_from back w i) from some.0 (kept.last some.0 ∙ some_is_at (get_or steps some.0 None) (k - 1) (m.1 ∙ ap Some last)) (links.turned i some.0 low low_some ∙ some.1))
-        ]
+            back_again : list_any (λ p. is_some (get_or steps p None)) (get_or (all_uses ds) i []) ≡ true → list_any (λ w. comes_from back w i) from ≡ true
+            back_again any =
+                let some = any_has (λ p. is_some (get_or steps p None)) (get_or (all_uses ds) i []) any in
+                let m = known (get_or steps some.0 None) some.2 in
+                let way = within.sound some.0 m.0 m.1 in
+                let low_some = used_within ds i some.0 some.1 in
+                elim (cases_lt (length (some.0 ∷ way.0)) k) [
+                  | inl early ↦ (let old = within.complete i (some.0 ∷ way.0) (and_from (has (get_or (all_uses ds) i []) some.0) (leads_by (all_uses ds) some.0 way.0 to) some.1 way.2) early in absurd (none_some (sym is ∙ old.1)))
+                  | inr late ↦ (let last : m.0 ≡ k - 1 = omega (arith, late, way.1, way.3) in
+                      has_any (λ w. comes_from back w i) from some.0 (kept.last some.0 ∙ some_is_at (get_or steps some.0 None) (k - 1) (m.1 ∙ ap Some last)) (links.turned i some.0 low low_some ∙ some.1))
+                ]
 
 -- where a round finds some, the search goes on
 pub round_on : (ds : List Description) (back : List (List ℕ)) (seen : List Bool) (to k : ℕ) (steps next : List (Option ℕ)) (found : List ℕ) → Within (all_uses ds) to k steps → next ≡ wider k steps (all_uses ds) steps → IsKept back seen next found k
@@ -157,12 +157,12 @@ pub round_end : (ds : List Description) (back : List (List ℕ)) (seen : List Bo
     → AreMarked k among steps next → Measures (all_uses ds) to next
 round_end ds back seen to k steps next among within is kept marks =
     subst (λ w. Measures (all_uses ds) to w) (sym stays) (within_all (all_uses ds) to k steps within next is (ap known_count stays)) where
-  unmarked : (b : Bool) (o : Option ℕ) → is_at (marked k b o) k ≡ false → marked k b o ≡ o
-  unmarked b (Some m) e = refl
-  unmarked false None e = refl
-  unmarked true None e = absurd (false≢true (sym e ∙ eq-eqb k k refl))
+      unmarked : (b : Bool) (o : Option ℕ) → is_at (marked k b o) k ≡ false → marked k b o ≡ o
+      unmarked b (Some m) e = refl
+      unmarked false None e = refl
+      unmarked true None e = absurd (false≢true (sym e ∙ eq-eqb k k refl))
 
-  stays : next ≡ steps
-  stays = same_lists next steps marks.same (λ i below.
-      let at = marks.at i (omega (arith, below, marks.same)) in
-      at ∙ unmarked (among i) (get_or steps i None) (ap (λ o. is_at o k) (sym at) ∙ sym (kept.last i)))
+      stays : next ≡ steps
+      stays = same_lists next steps marks.same (λ i below.
+          let at = marks.at i (omega (arith, below, marks.same)) in
+          at ∙ unmarked (among i) (get_or steps i None) (ap (λ o. is_at o k) (sym at) ∙ sym (kept.last i)))

@@ -1,6 +1,5 @@
 -- Numbers for the names of interfaces. Our own words.
-use Rattle.std.specs.Prelude.{ℕ, List, ◌++◌, map, Bool}
-use Rattle.std.specs.List.{count_by}
+use Rattle.std.specs.Prelude.{ℕ, suc, List, [], ◌∷◌, ◌++◌, map, Bool, if◌then◌else◌}
 use Rattle.std.specs.Cmp.Lexicographic.{slice_cmp}
 use Rattle.std.specs.Ordering.{is_lt, nat_cmp}
 use Rattle.component_dto.specs.declared.description.Description.{Description}
@@ -16,4 +15,5 @@ is_before one other = is_lt (slice_cmp nat_cmp one other)
 
 -- how many of the names stand before this one
 abbrev pub number_of : List (List ℕ) → List ℕ → ℕ
-number_of names name = count_by (λ other. is_before other name) names
+number_of [] name = 0
+number_of (other ∷ names) name = if is_before other name then suc (number_of names name) else number_of names name

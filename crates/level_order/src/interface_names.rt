@@ -27,10 +27,7 @@ pub(crate) fn names_in<'d>(
     Ok(names)
 }
 
-fn push_names<'d>(
-    names: &mut Vec<&'d str>,
-    description: &'d Description,
-) -> Result<(), OutOfMemory>
+fn push_names<'d>(names: &mut Vec<&'d str>, description: &'d Description) -> Result<(), OutOfMemory>
     ensures { OnOk result (map (λ t. t.now) names.new.items ≡ map (λ t. t.now) names.old.items ++ named_by description.now) }
 {
     for interface in description.service_interfaces.as_slice() {

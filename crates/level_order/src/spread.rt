@@ -76,12 +76,7 @@ impl Search {
     }
 
     // Of a place that was found before nothing changes.
-    fn mark(
-        &mut self,
-        back: &[List<usize>],
-        place: usize,
-        count: usize,
-    ) -> Result<(), OutOfMemory>
+    fn mark(&mut self, back: &[List<usize>], place: usize, count: usize) -> Result<(), OutOfMemory>
         requires { IsKept back.now self.old.seen.items self.old.steps.items self.old.found.items count }
         ensures kept { OnOk result (IsKept back.now self.new.seen.items self.new.steps.items self.new.found.items count) }
         ensures seen { OnOk result (self.new.seen.items ≡ self.old.seen.items) }

@@ -54,7 +54,8 @@ fn faults_of_documents_are_printed(rt: HostRuntime) -> Result<(), Fail> {
 #[test]
 fn a_document_with_shared_texts_is_the_same(rt: HostRuntime) -> Result<(), Fail> {
     let alloc = rt.alloc();
-    let text = b"{\"location\":\"x\",\"components\":{\"e\":{\"implementationClass\":\"C\",\"modified\":\"m\",\
+    let text =
+        b"{\"location\":\"x\",\"components\":{\"e\":{\"implementationClass\":\"C\",\"modified\":\"m\",\
         \"serviceInterfaces\":[\"I\"],\"references\":[{\"interfaceName\":\"J\",\"target\":\"(a=b)\"}]}}}";
     let document = read_bundle(alloc, text).ok().ok_or("a document")?;
     let expected = document.copy(alloc)?;
