@@ -16,6 +16,7 @@ use Rattle.level_order.specs.Uses.{all_uses, uses_of, level_above, levels_above}
 use Rattle.level_order.specs.Ways.{has, known_count}
 use Rattle.level_order.proofs.LeastLemmas.{level_is, above_has, attained}
 use Rattle.level_order.proofs.StepLemmas.{known_le, or_first, or_later}
+use Rattle.level_order.proofs.SpreadLemmas.{apart_or_same}
 use Rattle.level_order.proofs.UsesLemmas.{levels_above_uses}
 
 none_some : {X : Type 0} {x : X} → None ≡ Some x → ⊥
@@ -111,43 +112,41 @@ raised_none first links heights sound = record { sound = sound; stays = λ place
 pub raised_more : (first : ℕ) (links : List (List ℕ)) (a b c : List (Option ℕ)) → IsRaised first links a b → IsRaised first links b c → IsRaised first links a c
 raised_more first links a b c one two = record { sound = two.sound; stays = λ place h e. two.stays place h (one.stays place h e) }
 
+-- what lies over a place, and the heights with that one
+abbrev pub over_of : ℕ → List (List ℕ) → List (Option ℕ) → ℕ → Option ℕ
+over_of first links heights place = height_over (rise_at first place) (get_or links place []) heights
+
+abbrev pub with_over : ℕ → List (List ℕ) → List (Option ℕ) → ℕ → List (Option ℕ)
+with_over first links heights place = set heights place (over_of first links heights place)
+
+over_here : (first : ℕ) (links : List (List ℕ)) (heights : List (Option ℕ)) (place : ℕ) → AreSound first links heights → place < length links → get_or (with_over first links heights place) place None ≡ over_of first links heights place
+over_here first links heights place sound within = get_or-set_same heights place (over_of first links heights place) None (omega (arith, within, sound.same))
+
+over_there : (first : ℕ) (links : List (List ℕ)) (heights : List (Option ℕ)) (place p : ℕ) → (p ≡ place → ⊥) → get_or (with_over first links heights place) p None ≡ get_or heights p None
+over_there first links heights place p other = get_or-set_other heights place p (over_of first links heights place) None other
+
+over_keeps : (first : ℕ) (links : List (List ℕ)) (heights : List (Option ℕ)) (place : ℕ) → get_or heights place None ≡ None → (p h : ℕ) → get_or heights p None ≡ Some h → get_or (with_over first links heights place) p None ≡ Some h
+over_keeps first links heights place none p h e = elim (apart_or_same p place) [
+  | inl same ↦ absurd (none_some (sym none ∙ ap (λ w. get_or heights w None) (sym same) ∙ e))
+  | inr other ↦ over_there first links heights place p other ∙ e
+]
+
+over_sound : (first : ℕ) (links : List (List ℕ)) (heights : List (Option ℕ)) (place : ℕ) → AreSound first links heights → place < length links → (p h : ℕ) → get_or (with_over first links heights place) p None ≡ Some h → over_of first links heights p ≡ Some h
+over_sound first links heights place sound within p h e = elim (apart_or_same p place) [
+  | inl same ↦ (ap (over_of first links heights) same ∙ sym (over_here first links heights place sound within) ∙ ap (λ w. get_or (with_over first links heights place) w None) (sym same) ∙ e)
+  | inr other ↦ sound.sound p h (sym (over_there first links heights place p other) ∙ e)
+]
+
 -- a place without a height is given the one over those that it leads to
 pub raised_one : (first : ℕ) (links : List (List ℕ)) (heights : List (Option ℕ)) (place : ℕ) → AreSound first links heights → place < length links → get_or heights place None ≡ None
     → IsRaised first links heights (set heights place (height_over (rise_at first place) (get_or links place []) heights))
 raised_one first links heights place sound within none = record {
   sound = record {
-    same = length-set heights place over ∙ sound.same;
-    sound = λ p h e. over_stays (rise_at first p) (get_or links p []) heights new stays h (old_over p h e);
+    same = length-set heights place (over_of first links heights place) ∙ sound.same;
+    sound = λ p h e. over_stays (rise_at first p) (get_or links p []) heights (with_over first links heights place) (over_keeps first links heights place none) h (over_sound first links heights place sound within p h e);
   };
-  stays = stays;
-} where
-  over : Option ℕ
-  abbrev over = height_over (rise_at first place) (get_or links place []) heights
-
-  new : List (Option ℕ)
-  abbrev new = set heights place (height_over (rise_at first place) (get_or links place []) heights)
-
-  here : get_or new place None ≡ over
-  here = get_or-set_same heights place over None (omega (arith, within, sound.same))
-
-  stays : (p h : ℕ) → get_or heights p None ≡ Some h → get_or new p None ≡ Some h
-  stays p h e = elim (cases_lt p place) [
-    | inl below ↦ get_or-set_other heights place p over None (λ same. omega (arith, same, below)) ∙ e
-    | inr from ↦ elim (cases_lt place p) [
-      | inl above ↦ get_or-set_other heights place p over None (λ same. omega (arith, same, above)) ∙ e
-      | inr upto ↦ absurd (none_some (sym none ∙ ap (λ w. get_or heights w None) (omega (arith, from, upto)) ∙ e))
-    ]
-  ]
-
-  old_over : (p h : ℕ) → get_or new p None ≡ Some h → height_over (rise_at first p) (get_or links p []) heights ≡ Some h
-  old_over p h e = elim (cases_lt p place) [
-    | inl below ↦ sound.sound p h (sym (get_or-set_other heights place p over None (λ same. omega (arith, same, below))) ∙ e)
-    | inr from ↦ elim (cases_lt place p) [
-      | inl above ↦ sound.sound p h (sym (get_or-set_other heights place p over None (λ same. omega (arith, same, above))) ∙ e)
-      | inr upto ↦ (let same : p ≡ place = omega (arith, from, upto) in
-          ap (λ w. height_over (rise_at first w) (get_or links w []) heights) same ∙ sym here ∙ ap (λ w. get_or new w None) (sym same) ∙ e)
-    ]
-  ]
+  stays = over_keeps first links heights place none;
+}
 
 known_none : (steps : List (Option ℕ)) → known_count (None ∷ steps) ≡ known_count steps
 known_none steps = omega arith
@@ -208,38 +207,38 @@ known_levels ds onward back heights levels links all known =
     same_number_lists levels (levels_above (all_uses ds) levels) (known.same ∙ sym (length-map ds (λ d. uses_of d ds)) ∙ sym (length-map (all_uses ds) (λ places. level_above places levels)))
     (λ i within. level i (omega (arith, within, known.same)) ∙ sym (get_or-map (λ places. level_above places levels) (all_uses ds) i []))
     ∙ levels_above_uses ds ds levels (sym known.same) where
-  level_of : (i h : ℕ) → i < length ds → get_or heights i None ≡ Some h → get_or levels i 0 ≡ h
-  level_of i h below e = some_same (sym (known.at i below) ∙ e)
+      level_of : (i h : ℕ) → i < length ds → get_or heights i None ≡ Some h → get_or levels i 0 ≡ h
+      level_of i h below e = some_same (sym (known.at i below) ∙ e)
 
-  over : (place rise h : ℕ) → rise_at (length ds) place ≡ rise → get_or heights place None ≡ Some h → height_over rise (get_or onward place []) heights ≡ Some h
-  over = over_at (length ds) onward heights all.sound
+      over : (place rise h : ℕ) → rise_at (length ds) place ≡ rise → get_or heights place None ≡ Some h → height_over rise (get_or onward place []) heights ≡ Some h
+      over = over_at (length ds) onward heights all.sound
 
-  not_above : (i : ℕ) → i < length ds → get_or levels i 0 ≤ level_above (get_or (all_uses ds) i []) levels
-  not_above i below = elim (cases_lt 0 (get_or levels i 0)) [
-    | inl some ↦ (
-        let top = over_some 0 (get_or onward i []) heights (get_or levels i 0) (over i 0 (get_or levels i 0) (low_rise (length ds) i below) (known.at i below)) some in
-        let over_ds = (links.interfaces i top.0 below top.1).0 in
-        let next = over_some 1 (get_or onward top.0 []) heights top.2 (over top.0 1 top.2 (high_rise (length ds) top.0 over_ds) top.3) (omega (arith, some, top.4)) in
-        let within = links.descriptions top.0 next.0 over_ds next.1 in
-        omega (arith, top.4, next.4, level_of next.0 next.2 within next.3, above_has (get_or (all_uses ds) i []) levels next.0 (links.consumed i top.0 next.0 below top.1 next.1)))
-    | inr none ↦ omega (arith, none)
-  ]
+      not_above : (i : ℕ) → i < length ds → get_or levels i 0 ≤ level_above (get_or (all_uses ds) i []) levels
+      not_above i below = elim (cases_lt 0 (get_or levels i 0)) [
+        | inl some ↦ (
+            let top = over_some 0 (get_or onward i []) heights (get_or levels i 0) (over i 0 (get_or levels i 0) (low_rise (length ds) i below) (known.at i below)) some in
+            let over_ds = (links.interfaces i top.0 below top.1).0 in
+            let next = over_some 1 (get_or onward top.0 []) heights top.2 (over top.0 1 top.2 (high_rise (length ds) top.0 over_ds) top.3) (omega (arith, some, top.4)) in
+            let within = links.descriptions top.0 next.0 over_ds next.1 in
+            omega (arith, top.4, next.4, level_of next.0 next.2 within next.3, above_has (get_or (all_uses ds) i []) levels next.0 (links.consumed i top.0 next.0 below top.1 next.1)))
+        | inr none ↦ omega (arith, none)
+      ]
 
-  not_below : (i : ℕ) → i < length ds → level_above (get_or (all_uses ds) i []) levels ≤ get_or levels i 0
-  not_below i below = elim (cases_lt 0 (level_above (get_or (all_uses ds) i []) levels)) [
-    | inl some ↦ (
-        let best = attained (get_or (all_uses ds) i []) levels some in
-        let way = links.between i best.0 best.1 in
-        let over_ds = (links.interfaces i way.0 below way.1).0 in
-        let top = over_has 0 (get_or onward i []) heights (get_or levels i 0) way.0 (over i 0 (get_or levels i 0) (low_rise (length ds) i below) (known.at i below)) way.1 in
-        let next = over_has 1 (get_or onward way.0 []) heights top.0 best.0 (over way.0 1 top.0 (high_rise (length ds) way.0 over_ds) top.1) way.2 in
-        let within = links.descriptions way.0 best.0 over_ds way.2 in
-        omega (arith, best.2, top.2, next.2, level_of best.0 next.0 within next.1))
-    | inr none ↦ omega (arith, none)
-  ]
+      not_below : (i : ℕ) → i < length ds → level_above (get_or (all_uses ds) i []) levels ≤ get_or levels i 0
+      not_below i below = elim (cases_lt 0 (level_above (get_or (all_uses ds) i []) levels)) [
+        | inl some ↦ (
+            let best = attained (get_or (all_uses ds) i []) levels some in
+            let way = links.between i best.0 best.1 in
+            let over_ds = (links.interfaces i way.0 below way.1).0 in
+            let top = over_has 0 (get_or onward i []) heights (get_or levels i 0) way.0 (over i 0 (get_or levels i 0) (low_rise (length ds) i below) (known.at i below)) way.1 in
+            let next = over_has 1 (get_or onward way.0 []) heights top.0 best.0 (over way.0 1 top.0 (high_rise (length ds) way.0 over_ds) top.1) way.2 in
+            let within = links.descriptions way.0 best.0 over_ds way.2 in
+            omega (arith, best.2, top.2, next.2, level_of best.0 next.0 within next.1))
+        | inr none ↦ omega (arith, none)
+      ]
 
-  level : (i : ℕ) → i < length ds → get_or levels i 0 ≡ level_above (get_or (all_uses ds) i []) levels
-  level i below = omega (arith, not_above i below, not_below i below)
+      level : (i : ℕ) → i < length ds → get_or levels i 0 ≡ level_above (get_or (all_uses ds) i []) levels
+      level i below = omega (arith, not_above i below, not_below i below)
 
 -- a description without a height stands above another one without, and so on, which levels don't allow
 pub unknown_cyclic : (ds : List Description) (onward back : List (List ℕ)) (heights : List (Option ℕ)) → AreLinks ds onward back → AreHeights (length ds) onward heights → (i : ℕ) → i < length ds → get_or heights i None ≡ None → ¬ IsAcyclic ds
