@@ -1,12 +1,12 @@
 -- That heights stay right while more become known, and that they are the levels.
-use Rattle.std.proofs.Common.{◌≡◌, ◌<◌, ◌≤◌, ℕ, zero, suc, ◌+◌, List, [], ◌∷◌, ◌++◌, length, get_or, drop, drop-cons, add-one, ap, sym, ◌∙◌, refl, true, false, arith, inl, inr, subst, Option, Some, None}
+use Rattle.std.proofs.Common.{◌≡◌, ◌<◌, ◌≤◌, ℕ, zero, suc, ◌+◌, List, [], ◌∷◌, ◌++◌, length, get_or, drop, drop-cons, add-one, ap, sym, ◌∙◌, refl, Bool, true, false, not, arith, inl, inr, subst, Option, Some, None}
 use Rattle.std.proofs.Math.ListN.{set, get_or-map}
 use Rattle.std.proofs.Math.Seq.{get_or-append_seam}
 use Rattle.std.specs.Prelude.{max, map, ◌==◌, nat_lt}
 use Rattle.std.specs.List.{filter}
 use Rattle.std.specs.Option.{is_some}
 use Rattle.std.proofs.lemmas.Bool.{cases_lt, eqb-true, eq-eqb, or_cases, false≢true, lt-ltb, le-ltb}
-use Rattle.std.proofs.lemmas.List.{length-map, length-set, get_or-set_same, get_or-set_other, get_or_append_left}
+use Rattle.std.proofs.lemmas.List.{length-map, length-set, get_or-set_same, get_or-set_other, get_or_append_left, get_or_default}
 use Rattle.std.proofs.lemmas.Grind.{same_number_lists}
 use Rattle.component_dto.specs.declared.description.Description.{Description}
 use Rattle.level_order.specs.Heights.{AreHeights, AreKnown, AreSound, IsOpen, IsRaised, height_over, higher, rise_at}
@@ -70,11 +70,11 @@ over_some rise (x ∷ places) heights h e some =
 -- where one of the places has no height, none lies over them
 over_none : (rise : ℕ) (places : List ℕ) (heights : List (Option ℕ)) → height_over rise places heights ≡ None → (p : ℕ) × (has places p ≡ true) × (get_or heights p None ≡ None)
 over_none rise [] heights e = absurd (none_some (sym e))
-over_none rise (x ∷ places) heights e = cases (get_or heights x None) (height_over rise places heights) refl refl e where
-  cases : (o r : Option ℕ) → get_or heights x None ≡ o → height_over rise places heights ≡ r → higher rise o r ≡ None → (p : ℕ) × (has (x ∷ places) p ≡ true) × (get_or heights p None ≡ None)
-  cases None r is rest e = (x, or_first (x == x) (has places x) (eq-eqb x x refl), is)
-  cases (Some a) None is rest e = (let later = over_none rise places heights rest in (later.0, or_later (x == later.0) (has places later.0) later.1, later.2))
-  cases (Some a) (Some b) is rest e = absurd (none_some (sym e))
+over_none rise (x ∷ places) heights e = cases (over_none rise places heights) (get_or heights x None) (height_over rise places heights) refl refl e where
+  cases : (height_over rise places heights ≡ None → (p : ℕ) × (has places p ≡ true) × (get_or heights p None ≡ None)) → (o r : Option ℕ) → get_or heights x None ≡ o → height_over rise places heights ≡ r → higher rise o r ≡ None → (p : ℕ) × (has (x ∷ places) p ≡ true) × (get_or heights p None ≡ None)
+  cases rec None r is rest e = (x, or_first (x == x) (has places x) (eq-eqb x x refl), is)
+  cases rec (Some a) None is rest e = (let later = rec rest in (later.0, or_later (x == later.0) (has places later.0) later.1, later.2))
+  cases rec (Some a) (Some b) is rest e = absurd (none_some (sym e))
 
 -- the higher of a height and what lies over the rest
 abbrev pub joined : ℕ → Option ℕ → Option ℕ
@@ -196,7 +196,7 @@ low_rise : (first place : ℕ) → place < first → rise_at first place ≡ 0
 low_rise first place below = rw (lt-ltb place first below) refl
 
 high_rise : (first place : ℕ) → first ≤ place → rise_at first place ≡ 1
-high_rise first place above = rw (le-ltb first place above) refl
+high_rise first place above = rw (le-ltb place first above) refl
 
 -- what lies over a place, by its rise
 over_at : (first : ℕ) (links : List (List ℕ)) (heights : List (Option ℕ)) → AreSound first links heights → (place rise h : ℕ) → rise_at first place ≡ rise → get_or heights place None ≡ Some h → height_over rise (get_or links place []) heights ≡ Some h
@@ -266,3 +266,49 @@ known_more heights known place h long so_far here p below = elim (cases_lt p pla
   | inr from ↦ (let same : p ≡ place = omega (arith, from, below) in
       ap (λ w. get_or heights w None) same ∙ here ∙ ap Some (sym (ap (λ w. get_or (known ++ h ∷ []) w 0) (omega (arith, same, long)) ∙ get_or-append_seam known h [] 0)))
 ]
+
+-- ---- what the code sees
+
+is_none_at : (o : Option ℕ) (b : Bool) → is_some o ≡ not b → b ≡ true → o ≡ None
+is_none_at None b is yes = refl
+is_none_at (Some h) b is yes = absurd (false≢true (sym (is ∙ ap not yes)))
+
+is_some_at : (o : Option ℕ) (b : Bool) → b ≡ is_some o → b ≡ true → (h : ℕ) × (o ≡ Some h)
+is_some_at None b is yes = absurd (false≢true (sym is ∙ yes))
+is_some_at (Some h) b is yes = (h, refl)
+
+pub over_is : (first place : ℕ) (links : List (List ℕ)) (heights : List (Option ℕ)) (rise : ℕ) (places item : List ℕ) (o : Option ℕ) → place < length links → o ≡ height_over rise places heights → rise ≡ rise_at first place → places ≡ item → item ≡ get_or links place item
+    → o ≡ over_of first links heights place
+over_is first place links heights rise places item o within is is_rise same at =
+    is ∙ ap (λ r. height_over r places heights) is_rise ∙ ap (λ w. height_over (rise_at first place) w heights) (same ∙ at ∙ get_or_default links place item [] within)
+
+pub is_open : (first : ℕ) (links : List (List ℕ)) (heights : List (Option ℕ)) (place : ℕ) (height over : Option ℕ) (n s : Bool) → height ≡ get_or heights place None → is_some height ≡ not n → n ≡ true → over ≡ over_of first links heights place → s ≡ is_some over → s ≡ true → IsOpen first links heights place
+is_open first links heights place height over n s at none_is none over_at some_is some =
+    let found = is_some_at over s some_is some in
+    record { none = sym at ∙ is_none_at height n none_is none; height = found.0; over = sym over_at ∙ found.1 }
+
+pub not_open_known : (first : ℕ) (links : List (List ℕ)) (heights : List (Option ℕ)) (place : ℕ) (height : Option ℕ) (n : Bool) → height ≡ get_or heights place None → is_some height ≡ not n → n ≡ false → IsOpen first links heights place → ⊥
+not_open_known first links heights place height n at none_is known there = false≢true (sym (ap is_some (at ∙ there.none)) ∙ none_is ∙ ap not known)
+
+pub not_open_over : (first : ℕ) (links : List (List ℕ)) (heights : List (Option ℕ)) (place : ℕ) (over : Option ℕ) (s : Bool) → over ≡ over_of first links heights place → s ≡ is_some over → s ≡ false → IsOpen first links heights place → ⊥
+not_open_over first links heights place over s over_at some_is none there = false≢true (sym none ∙ some_is ∙ ap is_some (over_at ∙ there.over))
+
+pub open_before : (first : ℕ) (links : List (List ℕ)) (heights : List (Option ℕ)) (place : ℕ) → ((p : ℕ) → p < place → ¬ IsOpen first links heights p) → ¬ IsOpen first links heights place → (p : ℕ) → p < place + 1 → ¬ IsOpen first links heights p
+open_before first links heights place before here p below there = elim (cases_lt p place) [
+  | inl earlier ↦ before p earlier there
+  | inr from ↦ here (subst (λ w. IsOpen first links heights w) (omega (arith, from, below)) there)
+]
+
+pub raised_at : (first : ℕ) (links : List (List ℕ)) (heights : List (Option ℕ)) (place : ℕ) (height old : Option ℕ) (n : Bool) → AreSound first links heights → place < length links → height ≡ over_of first links heights place → old ≡ get_or heights place None → is_some old ≡ not n → n ≡ true
+    → IsRaised first links heights (set heights place height)
+raised_at first links heights place height old n sound within is at none_is none =
+    subst (λ w. IsRaised first links heights (set heights place w)) (sym is) (raised_one first links heights place sound within (sym at ∙ is_none_at old n none_is none))
+
+pub raised_grows : (first : ℕ) (links : List (List ℕ)) (heights : List (Option ℕ)) (place : ℕ) (height : Option ℕ) → AreSound first links heights → place < length links → height ≡ over_of first links heights place → IsRaised first links heights (set heights place height)
+    → IsOpen first links heights place → known_count heights < known_count (set heights place height)
+raised_grows first links heights place height sound within is raised there =
+    count_grows heights (set heights place height) (length-set heights place height) raised.stays place there.height there.none
+    (get_or-set_same heights place height None (omega (arith, within, sound.same)) ∙ is ∙ there.over)
+
+pub raised_count : (first : ℕ) (links : List (List ℕ)) (old new : List (Option ℕ)) → AreSound first links old → IsRaised first links old new → known_count old ≤ known_count new
+raised_count first links old new sound raised = count_stays old new (raised.sound.same ∙ sym sound.same) raised.stays

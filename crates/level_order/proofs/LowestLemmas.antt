@@ -60,33 +60,33 @@ lower_second (Some a) (Some b) p q e low = (min a b, refl, omega (arith, some_sa
 
 in_sound : (steps : List (Option ℕ)) (left : ℕ) (places : List ℕ) (p : ℕ) → lowest_in steps left places ≡ Some p → (has places p ≡ true) × (is_at (get_or steps p None) left ≡ true)
 in_sound steps left [] p e = absurd (none_some e)
-in_sound steps left (x ∷ places) p e = cases (is_at (get_or steps x None) left) refl e where
-  later : lowest_in steps left places ≡ Some p → (has (x ∷ places) p ≡ true) × (is_at (get_or steps p None) left ≡ true)
-  later is = (let rest = in_sound steps left places p is in (or_later (x == p) (has places p) rest.0, rest.1))
+in_sound steps left (x ∷ places) p e = cases (λ is. later (in_sound steps left places p is)) (is_at (get_or steps x None) left) refl e where
+  later : (has places p ≡ true) × (is_at (get_or steps p None) left ≡ true) → (has (x ∷ places) p ≡ true) × (is_at (get_or steps p None) left ≡ true)
+  later rest = (or_later (x == p) (has places p) rest.0, rest.1)
 
-  cases : (b : Bool) → is_at (get_or steps x None) left ≡ b → cond b (lower (Some x) (lowest_in steps left places)) (lowest_in steps left places) ≡ Some p → (has (x ∷ places) p ≡ true) × (is_at (get_or steps p None) left ≡ true)
-  cases true at is = elim (lower_of (Some x) (lowest_in steps left places) p is) [
+  cases : (lowest_in steps left places ≡ Some p → (has (x ∷ places) p ≡ true) × (is_at (get_or steps p None) left ≡ true)) → (b : Bool) → is_at (get_or steps x None) left ≡ b → cond b (lower (Some x) (lowest_in steps left places)) (lowest_in steps left places) ≡ Some p → (has (x ∷ places) p ≡ true) × (is_at (get_or steps p None) left ≡ true)
+  cases rec true at is = elim (lower_of (Some x) (lowest_in steps left places) p is) [
     | inl here ↦ (let same = some_same here in (or_first (x == p) (has places p) (eq-eqb x p same), ap (λ w. is_at (get_or steps w None) left) (sym same) ∙ at))
-    | inr rest ↦ later rest
+    | inr rest ↦ rec rest
   ]
-  cases false at is = later is
+  cases rec false at is = rec is
 
 in_least : (steps : List (Option ℕ)) (left : ℕ) (places : List ℕ) (q : ℕ) → has places q ≡ true → is_at (get_or steps q None) left ≡ true → (p : ℕ) × (lowest_in steps left places ≡ Some p) × (p ≤ q)
 in_least steps left [] q among at = absurd (false≢true among)
-in_least steps left (x ∷ places) q among at = cases (is_at (get_or steps x None) left) refl where
-  cases : (b : Bool) → is_at (get_or steps x None) left ≡ b → (p : ℕ) × (lowest_in steps left (x ∷ places) ≡ Some p) × (p ≤ q)
-  cases true is =
+in_least steps left (x ∷ places) q among at = cases (λ there. in_least steps left places q there at) (is_at (get_or steps x None) left) refl where
+  cases : (has places q ≡ true → (p : ℕ) × (lowest_in steps left places ≡ Some p) × (p ≤ q)) → (b : Bool) → is_at (get_or steps x None) left ≡ b → (p : ℕ) × (lowest_in steps left (x ∷ places) ≡ Some p) × (p ≤ q)
+  cases rec true is =
       let whole : lowest_in steps left (x ∷ places) ≡ lower (Some x) (lowest_in steps left places) = ap (λ b. cond b (lower (Some x) (lowest_in steps left places)) (lowest_in steps left places)) is in
       elim (or_cases (x == q) (has places q) among) [
         | inl here ↦ (let found = lower_first (Some x) (lowest_in steps left places) x q refl (omega (arith, eqb-true x q here)) in (found.0, whole ∙ found.1, found.2))
-        | inr there ↦ (let rest = in_least steps left places q there at in
+        | inr there ↦ (let rest = rec there in
             let found = lower_second (Some x) (lowest_in steps left places) rest.0 q rest.1 rest.2 in (found.0, whole ∙ found.1, found.2))
       ]
-  cases false is =
+  cases rec false is =
       let whole : lowest_in steps left (x ∷ places) ≡ lowest_in steps left places = ap (λ b. cond b (lower (Some x) (lowest_in steps left places)) (lowest_in steps left places)) is in
       elim (or_cases (x == q) (has places q) among) [
         | inl here ↦ absurd (false≢true (sym is ∙ ap (λ w. is_at (get_or steps w None) left) (eqb-true x q here) ∙ at))
-        | inr there ↦ (let rest = in_least steps left places q there at in (rest.0, whole ∙ rest.1, rest.2))
+        | inr there ↦ (let rest = rec there in (rest.0, whole ∙ rest.1, rest.2))
       ]
 
 -- ---- the lowest over some interfaces
@@ -111,10 +111,10 @@ over_least onward steps left (y ∷ xs) x q among there at = elim (or_cases (y =
 
 first_sound : (steps : List (Option ℕ)) (left : ℕ) (places : List ℕ) (q : ℕ) → first_at steps left places ≡ Some q → (has places q ≡ true) × (is_at (get_or steps q None) left ≡ true)
 first_sound steps left [] q e = absurd (none_some e)
-first_sound steps left (x ∷ places) q e = cases (is_at (get_or steps x None) left) refl e where
-  cases : (b : Bool) → is_at (get_or steps x None) left ≡ b → cond b (Some x) (first_at steps left places) ≡ Some q → (has (x ∷ places) q ≡ true) × (is_at (get_or steps q None) left ≡ true)
-  cases true at is = (let same = some_same is in (or_first (x == q) (has places q) (eq-eqb x q same), ap (λ w. is_at (get_or steps w None) left) (sym same) ∙ at))
-  cases false at is = (let rest = first_sound steps left places q is in (or_later (x == q) (has places q) rest.0, rest.1))
+first_sound steps left (x ∷ places) q e = cases (first_sound steps left places q) (is_at (get_or steps x None) left) refl e where
+  cases : (first_at steps left places ≡ Some q → (has places q ≡ true) × (is_at (get_or steps q None) left ≡ true)) → (b : Bool) → is_at (get_or steps x None) left ≡ b → cond b (Some x) (first_at steps left places) ≡ Some q → (has (x ∷ places) q ≡ true) × (is_at (get_or steps q None) left ≡ true)
+  cases rec true at is = (let same = some_same is in (or_first (x == q) (has places q) (eq-eqb x q same), ap (λ w. is_at (get_or steps w None) left) (sym same) ∙ at))
+  cases rec false at is = (let rest = rec is in (or_later (x == q) (has places q) rest.0, rest.1))
 
 pub lowest_first : (ds : List Description) (onward back : List (List ℕ)) (steps : List (Option ℕ)) (left at : ℕ) → AreLinks ds onward back → at < length ds → lowest_over onward steps left (get_or onward at []) ≡ first_at steps left (get_or (all_uses ds) at [])
 lowest_first ds onward back steps left at links within = by_found (lowest_over onward steps left (get_or onward at [])) (first_at steps left (get_or (all_uses ds) at [])) refl refl where
@@ -146,3 +146,9 @@ lowest_in-more steps left places i within = ap (lowest_in steps left) (drop-cons
 pub lowest_over-more : (onward : List (List ℕ)) (steps : List (Option ℕ)) (left : ℕ) (xs : List ℕ) (i : ℕ) → i < length xs
     → lowest_over onward steps left (drop i xs) ≡ lower (lowest_in steps left (get_or onward (get_or xs i 0) [])) (lowest_over onward steps left (drop (i + 1) xs))
 lowest_over-more onward steps left xs i within = ap (lowest_over onward steps left) (drop-cons xs i 0 within) ∙ rw (add-one i) refl
+
+-- what the code finds is the first
+pub first_is : (ds : List Description) (onward back : List (List ℕ)) (steps : List (Option ℕ)) (left at : ℕ) (found : Option ℕ) (one other : List (List ℕ)) (xs : List ℕ) → AreLinks ds onward back → at < length ds → found ≡ lowest_over one steps left xs → xs ≡ get_or other at [] → one ≡ onward → other ≡ onward
+    → found ≡ first_at steps left (get_or (all_uses ds) at [])
+first_is ds onward back steps left at found one other xs links within is is_xs is_one is_other =
+    is ∙ ap (λ w. lowest_over one steps left w) (is_xs ∙ ap (λ w. get_or w at []) is_other) ∙ ap (λ w. lowest_over w steps left (get_or onward at [])) is_one ∙ lowest_first ds onward back steps left at links within

@@ -33,10 +33,10 @@ fn raise_all(
     links: &[List<usize>],
     first: usize,
     order: &[usize],
-    heights: &mut [Option<u32>],
+    heights: &mut Vec<Option<u32>>,
 ) -> Result<(), OutOfMemory>
-    requires { AreSound first links.now heights.old }
-    ensures { OnOk result (IsRaised first links.now heights.old heights.new) }
+    requires { AreSound first links.now heights.old.items }
+    ensures { OnOk result (IsRaised first links.now heights.old.items heights.new.items) }
 {
     for &place in order {
         raise(links, first, place, heights)?;
@@ -49,13 +49,13 @@ fn raise(
     links: &[List<usize>],
     first: usize,
     place: usize,
-    heights: &mut [Option<u32>],
+    heights: &mut Vec<Option<u32>>,
 ) -> Result<(), OutOfMemory>
-    requires { AreSound first links.now heights.old }
-    ensures raised { OnOk result (IsRaised first links.now heights.old heights.new) }
-    ensures more { OnOk result (IsOpen first links.now heights.old place → known_count heights.old < known_count heights.new) }
+    requires { AreSound first links.now heights.old.items }
+    ensures raised { OnOk result (IsRaised first links.now heights.old.items heights.new.items) }
+    ensures more { OnOk result (place < length links.now → IsOpen first links.now heights.old.items place → known_count heights.old.items < known_count heights.new.items) }
 {
-    if place < links.len() && place < heights.len() && heights[place].is_none() {
+    if place < links.len() && place < heights.len() && height_at(heights, place).is_none() {
         let height = height_over(links[place].as_slice(), rise_at(first, place), heights)?;
         heights[place] = height;
     }

@@ -1,5 +1,5 @@
 //! Numbers for the names of interfaces.
-ghost use Rattle.std.specs.Prelude.{◌≡◌, ◌++◌, ℕ, List, true, IfOk, OnOk, map};
+ghost use Rattle.std.specs.Prelude.{◌≡◌, ◌++◌, ◌≤◌, ℕ, List, true, IfOk, OnOk, length, map};
 ghost use Rattle.std.specs.Cmp.Lexicographic.{slice_cmp};
 ghost use Rattle.std.specs.List.{flat_map};
 ghost use Rattle.std.specs.List.Sorted.{IsSorted};
@@ -42,7 +42,8 @@ fn push_names<'d>(names: &mut Vec<&'d str>, description: &'d Description) -> Res
 /// How many of the names stand before this one.
 pub(crate) fn number_of(names: &[&str], name: &str) -> usize
     requires { IsSorted (λ a b. slice_cmp nat_cmp a.now b.now) names.now }
-    ensures { result ≡ number_of (map (λ t. t.now) names.now) name.now }
+    ensures number { result ≡ number_of (map (λ t. t.now) names.now) name.now }
+    ensures within { result ≤ length names.now }
 {
     names.partition_point(|other| *other < name)
 }

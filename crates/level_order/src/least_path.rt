@@ -5,7 +5,7 @@ ghost use Rattle.level_order.specs.Lowest.{lower, lowest_in, lowest_over};
 ghost use Rattle.level_order.specs.Uses.{all_uses};
 ghost use Rattle.level_order.specs.Ways.{first_at, is_at, least_path};
 
-use crate::links::Links;
+use crate::links::{Links, places_at};
 use crate::ways::steps_at;
 use component_dto::Description;
 use prop_map::{List, OutOfMemory};
@@ -52,15 +52,6 @@ fn first_at(
         lowest_over(&links.onward, steps, left, places_at(&links.onward, at))
     } else {
         None
-    }
-}
-
-fn places_at(lists: &[List<usize>], at: usize) -> &[usize]
-    ensures { result.now ≡ get_or lists.now at [] }
-{
-    match lists.get(at) {
-        Some(places) => places.as_slice(),
-        None => &[],
     }
 }
 

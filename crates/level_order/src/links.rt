@@ -1,5 +1,5 @@
 //! How descriptions are joined by the interfaces that they name.
-ghost use Rattle.std.specs.Prelude.{◌≡◌, ◌+◌, ◌++◌, ◌<◌, ◌^◌, IfOk, length, map};
+ghost use Rattle.std.specs.Prelude.{◌≡◌, ◌+◌, ◌++◌, ◌<◌, ◌^◌, [], IfOk, get_or, length, map};
 ghost use Rattle.std.specs.Cmp.Lexicographic.{slice_cmp};
 ghost use Rattle.std.specs.List.Sorted.{IsSorted};
 ghost use Rattle.std.specs.Ordering.{nat_cmp};
@@ -116,4 +116,14 @@ fn joined(
 {
     front.append(&mut back)?;
     Ok(front)
+}
+
+/// Where a place leads to by these lists.
+pub(crate) fn places_at(lists: &[List<usize>], at: usize) -> &[usize]
+    ensures { result.now ≡ get_or lists.now at [] }
+{
+    match lists.get(at) {
+        Some(places) => places.as_slice(),
+        None => &[],
+    }
 }

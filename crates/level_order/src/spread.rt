@@ -5,6 +5,7 @@ ghost use Rattle.level_order.specs.Links.{comes_from};
 ghost use Rattle.level_order.specs.Spread.{AreMarked, IsKept};
 ghost use Rattle.level_order.specs.Ways.{has};
 
+use crate::links::places_at;
 use prop_map::{List, OutOfMemory};
 
 /// What a search has found so far.
@@ -31,9 +32,7 @@ impl Search {
         ensures marked { OnOk result (AreMarked count (λ place. list_any (λ to. comes_from back.now to place) from.now) self.old.steps.items self.new.steps.items) }
     {
         for &place in from {
-            if place < back.len() {
-                self.spread_from(back, back[place].as_slice(), count)?;
-            }
+            self.spread_from(back, places_at(back, place), count)?;
         }
         Ok(())
     }
@@ -50,10 +49,25 @@ impl Search {
         ensures marked { OnOk result (AreMarked count (λ place. list_any (λ x. has (get_or back.now x []) place) interfaces.now) self.old.steps.items self.new.steps.items) }
     {
         for &interface in interfaces {
-            if interface < back.len() && interface < self.seen.len() && !self.seen[interface] {
-                self.mark_all(back, back[interface].as_slice(), count)?;
-                self.seen[interface] = true;
-            }
+            self.spread_over(back, interface, count)?;
+        }
+        Ok(())
+    }
+
+    // One that was looked at before leads to no more.
+    fn spread_over(
+        &mut self,
+        back: &[List<usize>],
+        interface: usize,
+        count: usize,
+    ) -> Result<(), OutOfMemory>
+        requires { IsKept back.now self.old.seen.items self.old.steps.items self.old.found.items count }
+        ensures kept { OnOk result (IsKept back.now self.new.seen.items self.new.steps.items self.new.found.items count) }
+        ensures marked { OnOk result (AreMarked count (λ place. has (get_or back.now interface []) place) self.old.steps.items self.new.steps.items) }
+    {
+        if interface < self.seen.len() && !self.seen[interface] {
+            self.mark_all(back, places_at(back, interface), count)?;
+            self.seen[interface] = true;
         }
         Ok(())
     }
