@@ -270,12 +270,12 @@ known_more heights known place h long so_far here p below = elim (cases_lt p pla
 -- ---- what the code sees
 
 is_none_at : (o : Option ℕ) (b : Bool) → is_some o ≡ not b → b ≡ true → o ≡ None
-is_none_at None b is yes = refl
-is_none_at (Some h) b is yes = absurd (false≢true (sym (is ∙ ap not yes)))
+is_none_at None b is sure = refl
+is_none_at (Some h) b is sure = absurd (false≢true (sym (is ∙ ap not sure)))
 
 is_some_at : (o : Option ℕ) (b : Bool) → b ≡ is_some o → b ≡ true → (h : ℕ) × (o ≡ Some h)
-is_some_at None b is yes = absurd (false≢true (sym is ∙ yes))
-is_some_at (Some h) b is yes = (h, refl)
+is_some_at None b is sure = absurd (false≢true (sym is ∙ sure))
+is_some_at (Some h) b is sure = (h, refl)
 
 pub over_is : (first place : ℕ) (links : List (List ℕ)) (heights : List (Option ℕ)) (rise : ℕ) (places item : List ℕ) (o : Option ℕ) → place < length links → o ≡ height_over rise places heights → rise ≡ rise_at first place → places ≡ item → item ≡ get_or links place item
     → o ≡ over_of first links heights place

@@ -1,11 +1,11 @@
 -- That the rounds of a search find the shortest ways.
 use Rattle.std.proofs.Common.{◌≡◌, ◌<◌, ◌≤◌, ℕ, zero, suc, ◌+◌, ◌-◌, List, [], ◌∷◌, length, get_or, ap, sym, ◌∙◌, refl, Bool, true, false, cond, ◌||◌, arith, inl, inr, subst, Option, Some, None}
-use Rattle.std.specs.Prelude.{map, replicate, ◌==◌}
+use Rattle.std.specs.Prelude.{map, ◌==◌}
 use Rattle.std.specs.Cmp.{both_ways}
 use Rattle.std.specs.List.{list_any}
 use Rattle.std.specs.Option.{is_some}
 use Rattle.std.proofs.lemmas.Bool.{cases_lt, eq-eqb, eqb-true, and_from, false≢true}
-use Rattle.std.proofs.lemmas.List.{length-map, get_or-replicate, get_or_past, length-replicate}
+use Rattle.std.proofs.lemmas.List.{length-map, get_or_past}
 use Rattle.component_dto.specs.declared.description.Description.{Description}
 use Rattle.level_order.specs.Links.{AreLinks, comes_from}
 use Rattle.level_order.specs.Spread.{AreMarked, IsKept, marked}
@@ -23,8 +23,8 @@ same_lists [] (y ∷ ys) same each = absurd (omega (arith, same))
 same_lists (x ∷ xs) [] same each = absurd (omega (arith, same))
 same_lists (x ∷ xs) (y ∷ ys) same each = ap (λ w. w ∷ xs) (each 0 (omega arith)) ∙ ap (λ w. y ∷ w) (same_lists xs ys (omega (arith, same)) (λ i within. each (suc i) (omega (arith, within))))
 
-long_uses : (ds : List Description) → length (all_uses ds) ≡ length ds
-long_uses ds = length-map ds (λ d. uses_of d ds)
+pub uses_length : (ds : List Description) → length (all_uses ds) ≡ length ds
+uses_length ds = length-map ds (λ d. uses_of d ds)
 
 used_within : (ds : List Description) (i j : ℕ) → has (get_or (all_uses ds) i []) j ≡ true → j < length ds
 used_within ds i j used = consumes_at_within ds i j (sym (has_all_uses ds i j) ∙ used)
@@ -45,31 +45,19 @@ known (Some m) e = (m, refl)
 
 -- ---- before the first round
 
-pub nothing_kept : (back : List (List ℕ)) (count n : ℕ) (seen : List Bool) (steps : List (Option ℕ)) → seen ≡ replicate (length back) false → steps ≡ replicate n None → IsKept back seen steps [] count
-nothing_kept back count n seen steps seen_is steps_is = record {
-  long = ap length seen_is ∙ length-replicate (length back) false;
-  reached = λ x p looked below there. absurd (false≢true (sym (unseen (length back) x) ∙ sym (ap (λ w. get_or w x false) seen_is) ∙ looked));
-  last = λ p. sym (ap (λ o. is_at o count) (ap (λ w. get_or w p None) steps_is ∙ unknown n p));
-} where
-  unseen : (n x : ℕ) → get_or (replicate n false) x false ≡ false
-  unseen zero x = refl
-  unseen (suc n) zero = refl
-  unseen (suc n) (suc x) = unseen n x
-
-  unknown : (n x : ℕ) → get_or {A = Option ℕ} (replicate {A = Option ℕ} n None) x None ≡ None
-  unknown zero x = refl
-  unknown (suc n) zero = refl
-  unknown (suc n) (suc x) = unknown n x
+pub nothing_kept : (back : List (List ℕ)) (count : ℕ) (seen : List Bool) (steps : List (Option ℕ)) → length seen ≡ length back → ((k : ℕ) → get_or seen k false ≡ false) → ((k : ℕ) → get_or steps k None ≡ None) → IsKept back seen steps [] count
+nothing_kept back count seen steps long unseen unknown = record {
+  long = long;
+  reached = λ x p looked below there. absurd (false≢true (sym (unseen x) ∙ looked));
+  last = λ p. sym (ap (λ o. is_at o count) (unknown p));
+}
 
 -- ---- the first round
 
-pub first_round : (ds : List Description) (onward back : List (List ℕ)) (to : ℕ) (steps next : List (Option ℕ)) → AreLinks ds onward back → to < length ds → steps ≡ replicate (length ds) None
+pub first_round : (ds : List Description) (onward back : List (List ℕ)) (to : ℕ) (steps next : List (Option ℕ)) → AreLinks ds onward back → to < length ds → length steps ≡ length ds → ((k : ℕ) → get_or steps k None ≡ None)
     → AreMarked 0 (λ p. list_any (λ w. comes_from back w p) (to ∷ [])) steps next → Within (all_uses ds) to 1 next
-first_round ds onward back to steps next links within is marks = within_direct (all_uses ds) to next (same_lists next (direct to (all_uses ds))
-    (marks.same ∙ long ∙ sym (length-map (all_uses ds) (λ places. cond (has places to) (Some 0) None) ∙ long_uses ds)) each) where
-      long : length steps ≡ length ds
-      long = ap length is ∙ length-replicate (length ds) None
-
+first_round ds onward back to steps next links within long unknown marks = within_direct (all_uses ds) to next (same_lists next (direct to (all_uses ds))
+    (marks.same ∙ long ∙ sym (length-map (all_uses ds) (λ places. cond (has places to) (Some 0) None) ∙ uses_length ds)) each) where
       or_false : (b : Bool) → cond (b) (Some 0) None ≡ marked 0 b None
       or_false true = refl
       or_false false = refl
@@ -82,7 +70,7 @@ first_round ds onward back to steps next links within is marks = within_direct (
       each i below =
           let low : i < length ds = omega (arith, below, marks.same, long) in
           marks.at i (omega (arith, low, long))
-          ∙ ap (λ o. marked 0 (list_any (λ w. comes_from back w i) (to ∷ [])) o) (ap (λ w. get_or w i None) is ∙ get_or-replicate (length ds) i None None low)
+          ∙ ap (λ o. marked 0 (list_any (λ w. comes_from back w i) (to ∷ [])) o) (unknown i)
           ∙ ap (λ b. marked 0 b None) (one (comes_from back to i) ∙ links.turned i to low within)
           ∙ sym (or_false (has (get_or (all_uses ds) i []) to)) ∙ sym (direct_at to (all_uses ds) i)
 
@@ -103,7 +91,7 @@ pub next_round : (ds : List Description) (onward back : List (List ℕ)) (seen :
     → AreMarked k (λ p. list_any (λ w. comes_from back w p) from) steps next → next ≡ wider k steps (all_uses ds) steps
 next_round ds onward back seen to k steps next from links within kept marks =
     same_lists next (wider k steps (all_uses ds) steps) (marks.same ∙ within.same ∙ sym (length-wider k steps (all_uses ds) steps within.same))
-    (λ i below. marks.at i (omega (arith, below, marks.same)) ∙ by_known i (omega (arith, below, marks.same, within.same, long_uses ds)) (get_or steps i None) refl ∙ sym (wider-at k steps (all_uses ds) steps i within.same)) where
+    (λ i below. marks.at i (omega (arith, below, marks.same)) ∙ by_known i (omega (arith, below, marks.same, within.same, uses_length ds)) (get_or steps i None) refl ∙ sym (wider-at k steps (all_uses ds) steps i within.same)) where
       by_known : (i : ℕ) → i < length ds → (o : Option ℕ) → get_or steps i None ≡ o
           → marked k (list_any (λ w. comes_from back w i) from) (get_or steps i None) ≡ wider_at k steps (get_or (all_uses ds) i []) (get_or steps i None)
       by_known i low (Some m) is = ap (λ o. marked k (list_any (λ w. comes_from back w i) from) o) is ∙ sym (ap (λ o. wider_at k steps (get_or (all_uses ds) i []) o) is)
@@ -119,7 +107,7 @@ next_round ds onward back seen to k steps next from links within kept marks =
                 has_any (λ p. is_some (get_or steps p None)) (get_or (all_uses ds) i []) some.0 (sym (links.turned i some.0 low low_some) ∙ some.2) (ap is_some last) where
                   known_within : (p m : ℕ) → get_or steps p None ≡ Some m → p < length ds
                   known_within p m e = elim (cases_lt p (length steps)) [
-                    | inl below ↦ omega (arith, below, within.same, long_uses ds)
+                    | inl below ↦ omega (arith, below, within.same, uses_length ds)
                     | inr past ↦ absurd (none_some (sym (get_or_past steps p None past) ∙ e))
                   ]
 
@@ -166,3 +154,15 @@ round_end ds back seen to k steps next among within is kept marks =
       stays = same_lists next steps marks.same (λ i below.
           let at = marks.at i (omega (arith, below, marks.same)) in
           at ∙ unmarked (among i) (get_or steps i None) (ap (λ o. is_at o k) (sym at) ∙ sym (kept.last i)))
+
+empty_at : (n : ℕ) → (n == 0) ≡ true → n ≡ 0
+empty_at n e = eqb-true n 0 e
+
+-- nothing was found
+pub none_found : (found : List ℕ) (n : ℕ) (b : Bool) → length found ≡ n → b ≡ (n == 0) → b ≡ true → found ≡ []
+none_found [] n b long is sure = refl
+none_found (p ∷ found) n b long is sure = absurd (omega (arith, long, empty_at n (sym is ∙ sure)))
+
+pub some_found : (found : List ℕ) (n : ℕ) (b : Bool) → length found ≡ n → b ≡ (n == 0) → b ≡ false → 0 < length found
+some_found [] n b long is wrong = absurd (false≢true (sym wrong ∙ is ∙ eq-eqb n 0 (sym long)))
+some_found (p ∷ found) n b long is wrong = omega arith

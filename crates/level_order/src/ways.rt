@@ -1,5 +1,5 @@
 //! How many places the shortest ways to a place pass, each description leading to those that it consumes.
-ghost use Rattle.std.specs.Prelude.{◌≡◌, ◌<◌, None, IfOk, get_or, length};
+ghost use Rattle.std.specs.Prelude.{◌≡◌, ◌<◌, ℕ, None, false, IfOk, get_or, length};
 ghost use Rattle.level_order.specs.Links.{AreLinks};
 ghost use Rattle.level_order.specs.Uses.{all_uses};
 ghost use Rattle.level_order.specs.Ways.{Measures};
@@ -24,8 +24,8 @@ pub(crate) fn all_steps(
     ensures { IfOk result (λ v. Measures (all_uses descriptions.now) to v.items) }
 {
     let mut search = Search {
-        steps: vec![in alloc; None; descriptions.len()]?,
-        seen: vec![in alloc; false; links.back.len()]?,
+        steps: nothing(alloc, descriptions.len())?,
+        seen: unseen(alloc, links.back.len())?,
         found: Vec::new(alloc),
     };
     search.spread(&links.back, &[to], 0)?;
@@ -37,6 +37,28 @@ pub(crate) fn all_steps(
         }
     }
     Ok(search.steps)
+}
+
+fn nothing(alloc: Global, count: usize) -> Result<Vec<Option<usize>>, OutOfMemory>
+    ensures long { IfOk result (λ v. length v.items ≡ count) }
+    ensures unknown { IfOk result (λ v. (k : ℕ) → get_or v.items k None ≡ None) }
+{
+    let mut steps = Vec::new(alloc);
+    for _at in 0..count {
+        steps.push(None)?;
+    }
+    Ok(steps)
+}
+
+fn unseen(alloc: Global, count: usize) -> Result<Vec<bool>, OutOfMemory>
+    ensures long { IfOk result (λ v. length v.items ≡ count) }
+    ensures unseen { IfOk result (λ v. (k : ℕ) → get_or v.items k false ≡ false) }
+{
+    let mut seen = Vec::new(alloc);
+    for _at in 0..count {
+        seen.push(false)?;
+    }
+    Ok(seen)
 }
 
 // How many places a shortest way from there passes.
