@@ -13,7 +13,7 @@ use Rattle.level_order.proofs.PlaceLemmas.{has_all_uses}
 use Rattle.level_order.proofs.StepLemmas.{or_first, or_later}
 use Rattle.level_order.proofs.UsesLemmas.{levels_above_uses}
 
-above_has : (places levels : List ℕ) (p : ℕ) → has places p ≡ true → get_or levels p 0 < level_above places levels
+pub above_has : (places levels : List ℕ) (p : ℕ) → has places p ≡ true → get_or levels p 0 < level_above places levels
 above_has [] levels p among = absurd (false≢true among)
 above_has (x ∷ xs) levels p among = elim (or_cases (x == p) (has xs p) among) [
   | inl here ↦ omega (arith, ap (λ w. get_or levels w 0) (eqb-true x p here))
@@ -21,14 +21,14 @@ above_has (x ∷ xs) levels p among = elim (or_cases (x == p) (has xs p) among) 
 ]
 
 -- a level above 0 is 1 more than that of some place
-attained : (places levels : List ℕ) → 0 < level_above places levels → (p : ℕ) × (has places p ≡ true) × (level_above places levels ≡ get_or levels p 0 + 1)
+pub attained : (places levels : List ℕ) → 0 < level_above places levels → (p : ℕ) × (has places p ≡ true) × (level_above places levels ≡ get_or levels p 0 + 1)
 attained [] levels some = absurd (omega arith)
 attained (x ∷ xs) levels some = elim (cases_lt (get_or levels x 0 + 1) (level_above xs levels)) [
   | inl above ↦ (let later = attained xs levels (omega (arith, above)) in (later.0, or_later (x == later.0) (has xs later.0) later.1, omega (arith, later.2, above)))
   | inr below ↦ (x, or_first (x == x) (has xs x) (eq-eqb x x refl), omega (arith, below))
 ]
 
-level_is : (ds : List Description) (levels : List ℕ) → AreLevels ds levels → (i : ℕ) → get_or levels i 0 ≡ level_above (get_or (all_uses ds) i []) levels
+pub level_is : (ds : List Description) (levels : List ℕ) → AreLevels ds levels → (i : ℕ) → get_or levels i 0 ≡ level_above (get_or (all_uses ds) i []) levels
 level_is ds levels are i =
     let same : length ds ≡ length levels = sym (ap length are ∙ length-map ds (λ d. level_from d ds levels)) in
     ap (λ w. get_or w i 0) (are ∙ sym (levels_above_uses ds ds levels same)) ∙ get_or-map (λ places. level_above places levels) (all_uses ds) i []

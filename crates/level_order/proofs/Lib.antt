@@ -1,8 +1,15 @@
+pub mod CycleLemmas
+pub mod HeightLemmas
 pub mod LeastLemmas
-pub mod LevelLemmas
+pub mod LinkLemmas
+pub mod LowestLemmas
+pub mod NameLemmas
 pub mod UsesLemmas
 pub mod PlaceLemmas
 pub mod StepLemmas
 pub mod PathLemmas
 pub mod RankLemmas
+pub mod SpreadLemmas
 pub mod ToldLemmas
+pub mod TurnedLemmas
+pub mod WayLemmas

@@ -89,7 +89,7 @@ rising_has low (x ∷ xs) p rising found = elim (or_cases (x == p) (has xs p) fo
 
 -- ---- places are within the list
 
-within_list : (ds : List Description) (f : Description → Bool) (j : ℕ) → option_map_or f (slice_get ds j) false ≡ true → j < length ds
+pub within_list : (ds : List Description) (f : Description → Bool) (j : ℕ) → option_map_or f (slice_get ds j) false ≡ true → j < length ds
 within_list [] f j found = absurd (false≢true found)
 within_list (d ∷ ds) f zero found = omega arith
 within_list (d ∷ ds) f (suc j) found = omega (arith, within_list ds f j found)

@@ -6,7 +6,7 @@ use Rattle.std.specs.Option.{is_some}
 use Rattle.std.proofs.Math.ListN.{get_or-map}
 use Rattle.std.proofs.lemmas.Bool.{eq-eqb, eqb-true, or_cases, and_parts, and_from, false≢true, cases_lt}
 use Rattle.std.proofs.lemmas.List.{length-map}
-use Rattle.level_order.specs.Ways.{has, leads_by, Measures, direct, wider_at, wider}
+use Rattle.level_order.specs.Ways.{has, leads_by, Measures, direct, wider_at, wider, known_count}
 
 -- ---- tests of a list of places
 
@@ -41,7 +41,7 @@ some_since : (o : Option ℕ) → is_some o ≡ true → (m : ℕ) × (o ≡ Som
 some_since None e = absurd (false≢true e)
 some_since (Some m) e = (m, refl)
 
-wider-at : (count : ℕ) (known : List (Option ℕ)) (uses : List (List ℕ)) (steps : List (Option ℕ)) (i : ℕ) → length steps ≡ length uses
+pub wider-at : (count : ℕ) (known : List (Option ℕ)) (uses : List (List ℕ)) (steps : List (Option ℕ)) (i : ℕ) → length steps ≡ length uses
     → get_or (wider count known uses steps) i None ≡ wider_at count known (get_or uses i []) (get_or steps i None)
 wider-at count known [] [] i same = refl
 wider-at count known [] (s ∷ steps) i same = absurd (omega (arith, same))
@@ -49,14 +49,12 @@ wider-at count known (places ∷ uses) [] i same = absurd (omega (arith, same))
 wider-at count known (places ∷ uses) (s ∷ steps) zero same = refl
 wider-at count known (places ∷ uses) (s ∷ steps) (suc i) same = wider-at count known uses steps i (omega (arith, same))
 
-length-wider : (count : ℕ) (known : List (Option ℕ)) (uses : List (List ℕ)) (steps : List (Option ℕ)) → length steps ≡ length uses → length (wider count known uses steps) ≡ length uses
+pub length-wider : (count : ℕ) (known : List (Option ℕ)) (uses : List (List ℕ)) (steps : List (Option ℕ)) → length steps ≡ length uses → length (wider count known uses steps) ≡ length uses
 length-wider count known [] steps same = refl
 length-wider count known (places ∷ uses) [] same = absurd (omega (arith, same))
 length-wider count known (places ∷ uses) (s ∷ steps) same = omega (arith, length-wider count known uses steps (omega (arith, same)))
 
 -- a round that makes no more known changes nothing
-abbrev pub known_count : List (Option ℕ) → ℕ
-known_count steps = length (filter is_some steps)
 
 known_some : (m : ℕ) (steps : List (Option ℕ)) → known_count (Some m ∷ steps) ≡ 1 + known_count steps
 known_some m steps = omega arith
@@ -72,7 +70,7 @@ none_first : (old new : List (Option ℕ)) → (known_count old < known_count ne
 none_first old new (inl more) = inl (omega (arith, more, known_none old, known_none new))
 none_first old new (inr is) = inr (ap (λ w. None ∷ w) is)
 
-known_le : (steps : List (Option ℕ)) → known_count steps ≤ length steps
+pub known_le : (steps : List (Option ℕ)) → known_count steps ≤ length steps
 known_le [] = omega arith
 known_le (None ∷ steps) = omega (arith, known_le steps)
 known_le (Some m ∷ steps) = omega (arith, known_le steps)
@@ -81,7 +79,7 @@ one_more : (m : ℕ) (old new : List (Option ℕ)) → (known_count old < known_
 one_more m old new (inl more) = inl (omega (arith, more, known_none old, known_some m new))
 one_more m old new (inr is) = inl (omega (arith, ap known_count is, known_none old, known_some m new))
 
-wider_counts : (count : ℕ) (known : List (Option ℕ)) (uses : List (List ℕ)) (steps : List (Option ℕ)) → length steps ≡ length uses
+pub wider_counts : (count : ℕ) (known : List (Option ℕ)) (uses : List (List ℕ)) (steps : List (Option ℕ)) → length steps ≡ length uses
     → (known_count steps < known_count (wider count known uses steps)) ⊎ (wider count known uses steps ≡ steps)
 wider_counts count known [] [] same = inr refl
 wider_counts count known [] (s ∷ steps) same = absurd (omega (arith, same))
@@ -104,7 +102,7 @@ pub record Within (uses : List (List ℕ)) (to k : ℕ) (steps : List (Option �
   pub complete : (from : ℕ) (path : List ℕ) → leads_by uses from path to ≡ true → length path < k → (m : ℕ) × (get_or steps from None ≡ Some m) × (m ≤ length path)
   pub count : k ≤ known_count steps + 1
 
-direct_at : (to : ℕ) (uses : List (List ℕ)) (i : ℕ) → get_or (direct to uses) i None ≡ cond (has (get_or uses i []) to) (Some 0) None
+pub direct_at : (to : ℕ) (uses : List (List ℕ)) (i : ℕ) → get_or (direct to uses) i None ≡ cond (has (get_or uses i []) to) (Some 0) None
 direct_at to uses i = get_or-map (λ places. cond (has places to) (Some 0) None) uses i []
 
 pub within_direct : (uses : List (List ℕ)) (to : ℕ) (steps : List (Option ℕ)) → steps ≡ direct to uses → Within uses to 1 steps

@@ -20,9 +20,9 @@ length-all_uses : (ds : List Description) → length (all_uses ds) ≡ length ds
 length-all_uses ds = length-map ds (λ d. uses_of d ds)
 
 -- where no place lies on a cycle there are levels
-pub none_acyclic : (ds : List Description) → ((place : ℕ) → place < length (all_uses ds) → OnNone (all_uses ds) place) → IsAcyclic ds
+pub none_acyclic : (ds : List Description) → ((place : ℕ) → place < length ds → OnNone (all_uses ds) place) → IsAcyclic ds
 none_acyclic ds none =
-    let found = acyclic_levels (all_uses ds) (λ i p there. omega (arith, length-all_uses ds, consumes_at_within ds i p (sym (has_all_uses ds i p) ∙ there))) none in
+    let found = acyclic_levels (all_uses ds) (λ i p there. omega (arith, length-all_uses ds, consumes_at_within ds i p (sym (has_all_uses ds i p) ∙ there))) (λ place low. none place (omega (arith, low, length-all_uses ds))) in
     let same : length ds ≡ length found.0 = sym (ap length found.1 ∙ length-map (all_uses ds) (λ places. level_above places found.0) ∙ length-all_uses ds) in
     (found.0, found.1 ∙ levels_above_uses ds ds found.0 same)
 

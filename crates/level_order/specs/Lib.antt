@@ -1,6 +1,12 @@
 pub mod Answers
+pub mod Cycles
+pub mod Heights
+pub mod InterfaceNames
 pub mod LeastLevels
 pub mod Levels
+pub mod Links
+pub mod Lowest
+pub mod Ranks
+pub mod Spread
 pub mod Uses
-pub mod Cycles
 pub mod Ways

@@ -1,7 +1,7 @@
 -- Ways over the places that each description consumes, and how short they are.
 use Rattle.std.specs.Prelude.{◌≡◌, ℕ, zero, suc, ◌==◌, ◌<◌, ◌≤◌, ◌&&◌, List, [], ◌∷◌, ◌++◌, map, get_or, Bool, true, false, length, Option, Some, None, if◌then◌else◌}
 use Rattle.std.specs.Option.{is_some, option_map_or}
-use Rattle.std.specs.List.{list_any}
+use Rattle.std.specs.List.{filter, list_any}
 
 abbrev pub has : List ℕ → ℕ → Bool
 has places place = list_any (λ p. p == place) places
@@ -49,6 +49,18 @@ first_at steps left (p ∷ places) = if is_at (get_or steps p None) left then So
 abbrev pub least_path : List (List ℕ) → List (Option ℕ) → ℕ → ℕ → List ℕ
 least_path uses steps from zero = []
 least_path uses steps from (suc left) = option_map_or (λ p. p ∷ least_path uses steps p left) (first_at steps left (get_or uses from [])) []
+
+-- how many of the places are known to have a way
+abbrev pub known_count : List (Option ℕ) → ℕ
+known_count steps = length (filter is_some steps)
+
+-- the place, the least shortest way from it back to it, and the place again
+pub record IsCycleFrom (uses : List (List ℕ)) (first : ℕ) (places : List ℕ) : Type 0 where
+  pub count : ℕ
+  pub steps : List (Option ℕ)
+  pub measures : Measures uses first steps
+  pub on_one : get_or steps first None ≡ Some count
+  pub is : places ≡ first ∷ least_path uses steps first count ++ first ∷ []
 
 -- the first place that lies on a cycle, the way from it back to it, and the place again
 pub record IsFoundCycle (uses : List (List ℕ)) (places : List ℕ) : Type 0 where

@@ -3,11 +3,18 @@
 
 mod consuming;
 mod fault;
+mod heights;
+mod interface_names;
 mod least_levels;
+mod least_path;
 mod level_list;
-mod steps;
+mod links;
+mod order;
+mod ranks;
+mod spread;
 mod told_cycle;
-mod uses;
+mod turned;
+mod ways;
 
 pub use consuming::{consumes, provides};
 pub use fault::LevelFault;

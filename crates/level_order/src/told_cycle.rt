@@ -1,11 +1,15 @@
 //! The cycle that is told where some description has no level.
-ghost use Rattle.std.specs.Prelude.{◌≡◌, ◌<◌, ◌∷◌, ◌++◌, [], ℕ, None, IfOk, MatchOption, get_or, length};
+ghost use Rattle.std.specs.Prelude.{◌≡◌, ◌<◌, ℕ, IfOk, MatchOption, length};
 ghost use Rattle.level_order.specs.Cycles.{TellsCycle, names_at};
 ghost use Rattle.level_order.specs.Levels.{IsAcyclic};
+ghost use Rattle.level_order.specs.Links.{AreLinks};
 ghost use Rattle.level_order.specs.Uses.{all_uses};
-ghost use Rattle.level_order.specs.Ways.{IsFoundCycle, OnNone, first_at, is_at, least_path};
+ghost use Rattle.level_order.specs.Ways.{IsCycleFrom, IsFoundCycle, OnNone};
 
-use crate::steps::{all_steps, steps_at};
+use crate::least_path::push_least_path;
+use crate::links::Links;
+use crate::ranks::{never_fall, ranks_of, rise_at};
+use crate::ways::{all_steps, steps_at};
 use component_dto::Description;
 use prop_map::{Copies, List, OutOfMemory, Str};
 use std::alloc::Global;
@@ -14,100 +18,61 @@ use std::alloc::Global;
 pub(crate) fn told_names(
     alloc: Global,
     descriptions: &[Description],
-    uses: &[List<usize>],
+    links: &Links,
 ) -> Result<List<Str>, OutOfMemory>
-    requires theirs { uses.now ≡ all_uses descriptions.now }
+    requires linked { AreLinks descriptions.now links.now.onward.items links.now.back.items }
     requires cyclic { ¬ IsAcyclic descriptions.now }
     ensures { IfOk result (λ names. TellsCycle descriptions.now names) }
 {
-    match found_cycle(alloc, uses)? {
+    match found_cycle(alloc, descriptions, links)? {
         Some(places) => names_at(alloc, descriptions, &places),
         None => Ok(List::of(Vec::new(alloc))),
     }
 }
 
-fn found_cycle(alloc: Global, uses: &[List<usize>]) -> Result<Option<Vec<usize>>, OutOfMemory>
-    ensures { IfOk result (λ found. MatchOption found ((place : ℕ) → place < length uses.now → OnNone uses.now place) (λ v. IsFoundCycle uses.now v.items)) }
+// Most places are passed by for their ranks, so that one search is made where ranks are as good as they can be.
+fn found_cycle(
+    alloc: Global,
+    descriptions: &[Description],
+    links: &Links,
+) -> Result<Option<Vec<usize>>, OutOfMemory>
+    requires { AreLinks descriptions.now links.now.onward.items links.now.back.items }
+    ensures { IfOk result (λ found. MatchOption found ((place : ℕ) → place < length descriptions.now → OnNone (all_uses descriptions.now) place) (λ v. IsFoundCycle (all_uses descriptions.now) v.items)) }
 {
-    for place in 0..uses.len() {
-        let steps = all_steps(alloc, uses, place)?;
-        match steps_at(&steps, place) {
-            Some(count) => return Ok(Some(cycle_at(alloc, uses, &steps, place, count)?)),
-            None => {}
+    let ranks = ranks_of(alloc, &links.onward, &links.back)?;
+    let are_good = never_fall(&links.onward, &ranks);
+    for place in 0..descriptions.len() {
+        if are_good && rise_at(&links.onward, &ranks, place) {
+            continue;
+        }
+        if let Some(places) = cycle_from(alloc, descriptions, links, place)? {
+            return Ok(Some(places));
         }
     }
     Ok(None)
 }
 
-fn cycle_at(
+// The way from a place back to itself, where there is one.
+fn cycle_from(
     alloc: Global,
-    uses: &[List<usize>],
-    steps: &[Option<usize>],
+    descriptions: &[Description],
+    links: &Links,
     first: usize,
-    count: usize,
-) -> Result<Vec<usize>, OutOfMemory>
-    ensures { IfOk result (λ v. v.items ≡ first ∷ least_path uses.now steps.now first count ++ first ∷ []) }
+) -> Result<Option<Vec<usize>>, OutOfMemory>
+    requires linked { AreLinks descriptions.now links.now.onward.items links.now.back.items }
+    requires within { first < length descriptions.now }
+    ensures { IfOk result (λ found. MatchOption found (OnNone (all_uses descriptions.now) first) (λ v. IsCycleFrom (all_uses descriptions.now) first v.items)) }
 {
-    let mut places = Vec::new(alloc);
-    places.push(first)?;
-    let mut path = least_path(alloc, uses, steps, first, count)?;
-    places.append(&mut path)?;
-    places.push(first)?;
-    Ok(places)
-}
-
-// Always on to the first place that is nearer.
-fn least_path(
-    alloc: Global,
-    uses: &[List<usize>],
-    steps: &[Option<usize>],
-    from: usize,
-    count: usize,
-) -> Result<Vec<usize>, OutOfMemory>
-    ensures { IfOk result (λ v. v.items ≡ least_path uses.now steps.now from count) }
-{
-    let mut path = Vec::new(alloc);
-    let mut at = from;
-    let mut left = count;
-    while left > 0 {
-        left -= 1;
-        match first_at(steps, left, uses_at(uses, at)) {
-            Some(place) => {
-                path.push(place)?;
-                at = place;
-            }
-            None => return Ok(path),
+    let steps = all_steps(alloc, descriptions, links, first)?;
+    match steps_at(&steps, first) {
+        Some(count) => {
+            let mut places = Vec::new(alloc);
+            places.push(first)?;
+            push_least_path(&mut places, descriptions, links, &steps, first, count)?;
+            places.push(first)?;
+            Ok(Some(places))
         }
-    }
-    Ok(path)
-}
-
-fn uses_at(uses: &[List<usize>], place: usize) -> &[usize]
-    ensures { result.now ≡ get_or uses.now place [] }
-{
-    match uses.get(place) {
-        Some(places) => places.as_slice(),
-        None => &[],
-    }
-}
-
-fn first_at(steps: &[Option<usize>], left: usize, places: &[usize]) -> Option<usize>
-    ensures { result ≡ first_at steps.now left places.now }
-{
-    for &place in places {
-        if is_at(steps_at(steps, place), left) {
-            return Some(place);
-        }
-    }
-    None
-}
-
-fn is_at(steps: Option<usize>, left: usize) -> bool
-    ensures { result ≡ is_at steps left }
-{
-    match steps {
-        Some(count) => count == left,
-        None => false,
+        None => Ok(None),
     }
 }
 
