@@ -1,0 +1,6 @@
+pub mod OrderLaws
+pub mod OwnerLemmas
+pub mod RouteLemmas
+pub mod SelectLemmas
+pub mod StepLemmas
+pub mod TableLemmas

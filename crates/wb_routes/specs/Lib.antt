@@ -1,0 +1,5 @@
+pub mod Servlets
+pub mod Candidates
+pub mod Choices
+pub mod Listing
+pub mod Tables
