@@ -1,0 +1,5 @@
+pub mod LastGenerations
+pub mod LivingLaws
+pub mod NothingShut
+pub mod OpenServices
+pub mod TurnCallbacks
