@@ -4,7 +4,7 @@ use Rattle.std.specs.Prelude.{map, max, min, replicate, ◌==◌}
 use Rattle.std.proofs.lemmas.Bool.{eqb-true, eq-eqb, and_parts, and_from, cases_Bool}
 use Rattle.component_dto.specs.declared.description.Description.{Description}
 use Rattle.level_order.specs.Levels.{consumes, level_from, AreLevels}
-use Rattle.level_order.proofs.LevelLemmas.{Rounds, rounds_more, rounds_end, rounds_start}
+use Rattle.first_core.proofs.LevelRounds.{Rounds, rounds_more, rounds_end, rounds_start}
 use Rattle.first_core.specs.Levels.{levels_within, levels_of, has_levels, same_numbers}
 
 same_numbers_equal : (xs ys : List ℕ) → same_numbers xs ys ≡ true → xs ≡ ys
