@@ -1,5 +1,5 @@
-//! The callbacks of one instance so far, and beside them what they say of it (OSGi Compendium 8, section 112.5 "Component Life
-//! Cycle").
+//! The callbacks of one instance so far, and beside them what they say of it (OSGi Compendium 8, section 112.5
+//! "Component Life Cycle").
 ghost use Rattle.callback_orders.specs.Lives.{held_for, phase_of};
 ghost use Rattle.callback_orders.specs.Sequences.{all_but_last, begun, ended, have_ended, is_in_order, is_outstanding};
 ghost use Rattle.std.specs.Prelude.{◌≡◌, ◌++◌, ◌∷◌, [], IfOk, IsTrue, OnErr, OnOk};
@@ -12,9 +12,9 @@ use std::alloc::Global;
 use std::marker::Model;
 
 /// The callbacks of one instance so far, each with its outcome once it has ended, in the order that
-/// [`Word`](callback_orders::Word) keeps. Contracts see the list of them. How far the instance is, whether a callback of it is
-/// outstanding and what it holds are kept beside the list, so nobody goes over the list to know it. The whiteboard's instance,
-/// whose list never ends, is one as well: its list obeys `is_whiteboard_sequence`.
+/// [`Word`](callback_orders::Word) keeps. Contracts see the list of them. How far the instance is, whether a callback
+/// is outstanding and what it holds are kept beside the list, so nobody goes over the list to know it. The whiteboard's
+/// instance, whose callbacks never end, is one as well: its list obeys `is_whiteboard_sequence`.
 #[derive(Drop)]
 pub struct InstanceCallbacks {
     word: Word,
@@ -71,8 +71,8 @@ impl InstanceCallbacks {
         self.word.calls()
     }
 
-    /// How far the instance is: it is in the making until an Activate has ended. It is active from the end of one that was done
-    /// to the end of Deactivate.
+    /// How far the instance is: it is in the making until an Activate has ended. It is active from the end of one that
+    /// was done to the end of Deactivate.
     pub fn phase(&self) -> Phase
         ensures { result ≡ phase_of self.now }
     {
@@ -86,9 +86,9 @@ impl InstanceCallbacks {
         self.outstanding
     }
 
-    /// The services that are held for the reference of a name, in the order of their Binds, none where there was no Bind. A
-    /// service is held from the beginning of its Bind to the end of its Unbind. The references that were bound are gone
-    /// through, not the callbacks.
+    /// The services that are held for the reference of a name, in the order of their Binds, none where there was no
+    /// Bind. A service is held from the beginning of its Bind to the end of its Unbind. The references that were bound
+    /// are gone through, not the callbacks.
     pub fn held(&self, name: &Str) -> &[u64]
         ensures { result.now ≡ held_for name.now self.now }
     {
