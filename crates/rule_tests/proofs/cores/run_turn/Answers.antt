@@ -11,4 +11,4 @@ done-requires c =
     let before = c.args.core.now.journal in
     let after = c.take_turn.new.self.journal in
     let taken = subst (λ (t : Taken). TakesTurn limit before (Ok t) after) c.in-Turn.is c.in_ok-take_turn.ensures.answer in
-    subst (λ (n : ℕ). is_under_way (world_at after) n ≡ true) (sym taken.0) (taken_under_way limit before after c.in-Turn.work c.note_legal.ensures taken.1)
+    subst (λ (n : ℕ). is_under_way (world_at after) n ≡ true) (sym taken.0) (taken_under_way limit before after c.in-Turn._work c.note_legal.ensures taken.1)
