@@ -17,6 +17,8 @@ impl Grows for Letters {
 
     ghost entries = { λ l. l.items.items };
 
+    ghost kept = { λ _. [] };
+
     ghost tie = { λ _. [] };
 
     fn length(&self) -> u64 {
