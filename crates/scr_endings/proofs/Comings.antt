@@ -1,5 +1,5 @@
--- How each instance behind a step comes about: it was there before, with the same callbacks, with one more, which was due, or with the outcome of its last one; or
--- a Create made it. The whiteboard's instance was always there.
+-- How each instance behind a step comes about: it was there before, with the same callbacks, with one more, which was due, or with the outcome of its
+-- last one; or a Create made it. The whiteboard's instance was always there.
 use Rattle.std.proofs.Common.{◌≡◌, ℕ, ◌+◌, List, [], ◌∷◌, ◌++◌, ap, sym, ◌∙◌, refl, subst, cond, arith, Bool, true, false, inl, inr, ◌⊎◌, Option, Some, None}
 use Rattle.std.specs.Prelude.{find, map, not, ◌==◌, option_map, option_and_then}
 use Rattle.std.specs.List.{Contains}

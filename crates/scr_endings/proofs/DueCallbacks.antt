@@ -1,5 +1,6 @@
--- What stands behind the due callback of an instance: a Bind is of a service that its reference desires, that is ready and that it doesn't hold; an Unbind of one that
--- it doesn't desire, or of an instance that ends and isn't active; at Activate no reference differs; a Deactivate is that of an instance that ends and that nobody holds.
+-- What stands behind the due callback of an instance: a Bind is of a service that its reference desires, that is ready and that it doesn't hold; an
+-- Unbind of one that it holds and doesn't desire, or of an instance that ends and isn't active; at Activate no reference differs; a Deactivate is that of
+-- an instance that ends and that nobody holds.
 use Rattle.std.proofs.Common.{◌≡◌, ℕ, List, [], ◌∷◌, ◌++◌, ap, sym, ◌∙◌, refl, subst, cond, Bool, true, false, ◌&&◌, inl, inr, ◌⊎◌, Option, Some, None}
 use Rattle.std.specs.Prelude.{filter, find, filter_map, map, not, option_map, ◌==◌}
 use Rattle.std.specs.List.{Contains, last_or}
