@@ -1,0 +1,3 @@
+pub mod StableOrder
+pub mod FoundServices
+pub mod SameStates
