@@ -54,6 +54,7 @@ pub(crate) fn take_out(
 ) -> Result<Configuration, ConfigFault>
     requires { AreByPid rows.old.items }
     ensures configuration { IfOk result (λ configuration. of_pid pid.now rows.old.items ≡ Some configuration) }
+    ensures pid { IfOk result (λ configuration. configuration.pid ≡ pid.now) }
     ensures refused { IsRefusedBy (delete_refusal pid.now rows.old.items) result }
     ensures now { rows.new.items ≡ without_pid pid.now rows.old.items }
     ensures fewer { OnOk result (length rows.new.items < length rows.old.items) }

@@ -200,6 +200,7 @@ impl Configurations {
     /// As those of `delete`.
     pub fn remove(&mut self, pid: &str) -> Result<Configuration, ConfigFault>
         ensures configuration { IfOk result (λ configuration. of_pid pid.now self.old ≡ Some configuration) }
+        ensures pid { IfOk result (λ configuration. configuration.pid ≡ pid.now) }
         ensures ok { OnOk result (self.new ≡ without_pid pid.now self.old) }
         ensures refused { IsRefusedBy (delete_refusal pid.now self.old) result }
         ensures fewer { OnOk result (length self.new < length self.old) }

@@ -7,7 +7,7 @@ use Rattle.config_admin.specs.declared.configuration.Configuration.{Configuratio
 use Rattle.config_admin.specs.Orders.{pid_cmp}
 use Rattle.config_admin.specs.Refusals.{refuse_if}
 use Rattle.config_admin.proofs.PidRows.{of_pid_nowhere, of_pid_there, removed, sought}
-use Rattle.config_admin.proofs.Undone.{removed_nowhere}
+use Rattle.config_admin.proofs.Undone.{pid_of, removed_nowhere}
 use Rattle.config_admin.proofs.row_changes.take_out.Goals as goal
 
 pub returns-in-Ok-clause-configuration : goal.returns-in-Ok-clause-configuration
@@ -15,6 +15,9 @@ returns-in-Ok-clause-configuration c =
     let place : IsPlaceOrGap (λ (d : Configuration). pid_cmp d (sought c.args.pid.now)) (Ok c.in-Ok.place) c.args.rows.now.items =
     rw c.as_slice.ensures.value at c.in-Ok.ensures.place in
     of_pid_there c.args.pid.now c.in-Ok.place c.args.rows.now.items c.remove.result place ∙ ap (λ (d : Configuration). Some d) (sym c.remove.ensures.value)
+
+pub returns-in-Ok-clause-pid : goal.returns-in-Ok-clause-pid
+returns-in-Ok-clause-pid c = pid_of c.args.pid.now c.args.rows.now.items c.remove.result c.requires (returns-in-Ok-clause-configuration c)
 
 pub returns-in-Ok-clause-refused : goal.returns-in-Ok-clause-refused
 returns-in-Ok-clause-refused c = ap (λ (o : Option Configuration). refuse_if (is_none o) NoConfiguration) (returns-in-Ok-clause-configuration c)
