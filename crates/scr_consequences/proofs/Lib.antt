@@ -1,0 +1,3 @@
+pub mod DrainingLemmas
+pub mod LastCallbacks
+pub mod SortedLemmas
