@@ -12,6 +12,7 @@ pub mod Reserved
 pub mod RoomAfter
 pub mod Scratch
 pub mod Sequences
+pub mod StandingGets
 pub mod Sums
 pub mod TokenOrder
 pub mod TurnOrder

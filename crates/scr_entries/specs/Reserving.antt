@@ -37,9 +37,13 @@ given_back_by (Drained instance) w = 1
 given_back_by (Got bundle service) w = 0
 given_back_by (Released place) w = 1
 
--- the gets by token that end with an entry, since their service or their bundle has left
-abbrev pub stands_in : World → Token → Bool
-stands_in w t = is_registered w t.service && is_active_bundle w t.bundle
+-- a get stands as long as its service is registered and its bundle is active
+abbrev pub stands_for : World → ℕ → ℕ → Bool
+stands_for w service bundle = is_registered w service && is_active_bundle w bundle
 
+abbrev pub stands_in : World → Token → Bool
+stands_in w t = stands_for w t.service t.bundle
+
+-- the gets by token that end with an entry, since their service or their bundle has left
 abbrev pub tokens_dropped : Entry Step → World → List Token
 tokens_dropped entry w = filter (λ (t : Token). not (stands_in (world_after_entry entry w) t)) (tokens_by entry.step w.entries w.tokens)

@@ -5,4 +5,4 @@ mod following;
 mod reserving;
 
 pub use following::{note_follows, note_satisfied};
-pub use reserving::note_reserved;
+pub use reserving::{note_gets, note_reserved};
