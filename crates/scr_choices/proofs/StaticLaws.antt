@@ -249,7 +249,7 @@ module _ (w : World) (apart_board : (i : Instance) → Contains w.instances i �
 
   kept_next : (step : Step) (calls : List Called) → IsNext w step j calls → AreKept refs j.origin.chosen name calls
   kept_next step calls (keeps is) = subst (AreKept refs j.origin.chosen name) (sym is) before
-  kept_next step calls (gains v seen due is_due is) = subst (AreKept refs j.origin.chosen name) (sym is) (gained v (seen_by v seen) due (due_stands v due is_due))
+  kept_next step calls (gains v seen due is_due begins is) = subst (AreKept refs j.origin.chosen name) (sym is) (gained v (seen_by v seen) due (due_stands v due is_due))
   kept_next step calls (closes turn outcome is_end its is) = subst (AreKept refs j.origin.chosen name) (sym is) (closed outcome (and_parts (j.turn == turn) (is_outstanding j.callbacks) its).1)
 
 -- ---- over a journal

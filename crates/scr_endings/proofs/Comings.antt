@@ -41,10 +41,16 @@ pub data IsSeen (w : World) (i : Instance) (v : InstanceView) : Type 0 where
   one_made : Contains w.instances i → v ≡ view_of w i → IsSeen w i v
   whiteboard : i ≡ w.whiteboard → v ≡ whiteboard_view w → IsSeen w i v
 
+-- the callback that a step begins
+abbrev pub callback_begun : Step → Option Callback
+callback_begun (Begin turn instance configuration consumer callback chosen) = Some callback
+callback_begun _ = None
+
 -- the callbacks of an instance behind a step
 pub data IsNext (w : World) (step : Step) (was : Instance) (calls : List Called) : Type 0 where
   keeps : calls ≡ was.callbacks → IsNext w step was calls
-  gains : (v : InstanceView) → IsSeen w was v → (due : DueRef) → due_of v ≡ Some due → calls ≡ was.callbacks ++ begun (callback_of (names_of w was) due) ∷ [] → IsNext w step was calls
+  gains : (v : InstanceView) → IsSeen w was v → (due : DueRef) → due_of v ≡ Some due → callback_begun step ≡ Some (callback_of (names_of w was) due) → calls ≡ was.callbacks ++ begun (callback_of (names_of w was) due) ∷ []
+      → IsNext w step was calls
   closes : (turn : ℕ) (outcome : Outcome) → step ≡ End turn outcome → has_turn turn was ≡ true → calls ≡ ended outcome was.callbacks → IsNext w step was calls
 
 -- it was there before
@@ -142,8 +148,9 @@ module _ (w : World) (apart : are_apart (map its_number (all_instances w)) ≡ t
         go false other = keeps refl
         go true its =
             let is_one : tells.one ≡ j = sym (one_of its_number (all_instances w) apart j tells.one h tells.there (eqb-true j.number instance its ∙ tells.number)) in
-            gains tells.view (subst (λ (x : Instance). IsSeen w x tells.view) is_one tells.seen) tells.due tells.is_due
-            (taken_calls (before_turn w) callback given ∙ ap (λ (c : Callback). j.callbacks ++ begun c ∷ []) (tells.its_callback ∙ ap (λ (x : Instance). callback_of (names_of w x) tells.due) is_one))
+            let callback_is = tells.its_callback ∙ ap (λ (x : Instance). callback_of (names_of w x) tells.due) is_one in
+            gains tells.view (subst (λ (x : Instance). IsSeen w x tells.view) is_one tells.seen) tells.due tells.is_due (ap Some callback_is)
+            (taken_calls (before_turn w) callback given ∙ ap (λ (c : Callback). j.callbacks ++ begun c ∷ []) callback_is)
 
     -- a Create leaves those that were there
     board_same : instance ≡ w.instances_numbered + 1 → (told w.whiteboard).callbacks ≡ w.whiteboard.callbacks

@@ -297,7 +297,7 @@ module _ (limit : ℕ) (entry : Entry Step) (past : History) (legal : IsLegal li
   module _ (failed : FailedArePast w) where
     failed_by_calls : (i : Instance) (was : WasBefore w entry.step i) → IsNext w entry.step was.was i.callbacks → has_failed i.callbacks ≡ true → is_current then.open_periods i.origin ≡ false
     failed_by_calls i was (keeps is) on = over_with i was (failed was.was was.there (ap has_failed (sym is) ∙ on))
-    failed_by_calls i was (gains v seen due is_due is) on =
+    failed_by_calls i was (gains v seen due is_due begins is) on =
         over_with i was (failed was.was was.there (sym (failed_begun was.was.callbacks (callback_of (names_of w was.was) due)) ∙ ap has_failed (sym is) ∙ on))
     failed_by_calls i was (closes turn outcome is_end its is) on = elim (failed_ended outcome was.was.callbacks (ap has_failed (sym is) ∙ on)) [
       | inl before ↦ over_with i was (failed was.was was.there before)
@@ -343,7 +343,7 @@ module _ (limit : ℕ) (entry : Entry Step) (past : History) (legal : IsLegal li
       told_by_calls : (i : Instance) (was : WasBefore w entry.step i) → IsNext w entry.step was.was i.callbacks → has_deactivate i.callbacks ≡ true → ends then i ≡ true
       told_by_calls i was (keeps is) on = ending_with i was (told was.was was.there (ap has_deactivate (sym is) ∙ on))
       told_by_calls i was (closes turn outcome is_end its is) on = ending_with i was (told was.was was.there (sym (deactivate_ended outcome was.was.callbacks) ∙ ap has_deactivate (sym is) ∙ on))
-      told_by_calls i was (gains v seen due is_due is) on = elim (deactivate_begun was.was.callbacks (callback_of (names_of w was.was) due) (ap has_deactivate (sym is) ∙ on)) [
+      told_by_calls i was (gains v seen due is_due begins is) on = elim (deactivate_begun was.was.callbacks (callback_of (names_of w was.was) due) (ap has_deactivate (sym is) ∙ on)) [
         | inl before ↦ ending_with i was (told was.was was.there before)
         | inr now ↦ (
             let found = deactivates_due (names_of w was.was) due now in
@@ -360,7 +360,7 @@ module _ (limit : ℕ) (entry : Entry Step) (past : History) (legal : IsLegal li
 
   -- ---- the same instance in both worlds
 
-  same_one : (i j : Instance) → Contains w.instances i → i.number ≡ j.number → Comes j → (was : WasBefore w entry.step j) × (was.was ≡ i)
+  pub same_one : (i j : Instance) → Contains w.instances i → i.number ≡ j.number → Comes j → (was : WasBefore w entry.step j) × (was.was ≡ i)
   same_one i j h number (inl was) = (was, one_of its_number w.instances (legal_told limit past legal.1).numbers was.was i was.there h (sym was.same.number ∙ sym number))
   same_one i j h number (inr made) =
       let next = made_is_next w made.0 made.1 made.2 made.3 made.4.0 (subst (λ (s : Step). MayCome w s) made.4.1.0 legal.0.step) in
