@@ -7,7 +7,7 @@ use Rattle.scr_world.specs.Lists.{is_active_bundle}
 use Rattle.scr_world.specs.Worlds.{is_registered}
 
 -- a get of a service for a bundle stands: the service is registered, and the bundle is ACTIVE
-abbrev pub stands : World → ℕ → ℕ → Bool
+unfoldable pub stands : World → ℕ → ℕ → Bool
 stands w service bundle = is_registered w service && is_active_bundle w bundle
 
 abbrev pub use_stands : World → UseRow → Bool

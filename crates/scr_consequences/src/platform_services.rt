@@ -9,7 +9,7 @@ use scr_world::World;
 use service_registry::{ServiceRow, with_service_properties};
 use std::alloc::Global;
 
-fn text(alloc: Global, text: &str) -> Result<Str, OutOfMemory>
+pub(crate) fn text(alloc: Global, text: &str) -> Result<Str, OutOfMemory>
     ensures { IfOk result (λ copy. copy ≡ text.now) }
 {
     Ok(Str::of(String::from_str(alloc, text)?))
