@@ -118,3 +118,11 @@ keepers_after P ns xs ys o keeps mine = owners_by P ys (λ n some_thing. ⊎_eli
     (λ (p : In n ns). mine n p)
     (λ (q : ¬ In n ns). owner_of P n xs o (λ e. some_thing (keeps n q ∙ e)))
     (in_or_not n ns))
+
+-- for callers of the lock: a thing more under one of the numbers
+pub keeps_added : (ns : List ℕ) (x : ℕ × ℕ) (xs : List (ℕ × ℕ)) → In x.0 ns → KeepsOthers ns xs (xs ++ x ∷ [])
+keeps_added ns x xs mine n not = under_append n xs (x ∷ []) ∙ ap (λ (l : List (ℕ × ℕ)). kept_under n xs ++ l) (kept_other n x [] (λ is. not (subst (λ (k : ℕ). In k ns) (sym is) mine))) ∙ append-nil (kept_under n xs)
+
+-- and what is left alone under fewer numbers is so under more
+pub keeps_within : (ns ms : List ℕ) (xs ys : List (ℕ × ℕ)) → ((n : ℕ) → In n ns → In n ms) → KeepsOthers ns xs ys → KeepsOthers ms xs ys
+keeps_within ns ms xs ys within keeps n not = keeps n (λ p. not (within n p))
