@@ -206,7 +206,7 @@ module _ (w : World) where
       (and_from (has_turn turn j) ((last_is is_create j.callbacks || last_is is_activate j.callbacks) && is_current w.open_periods j.origin) its
       (and_from (last_is is_create j.callbacks || last_is is_activate j.callbacks) (is_current w.open_periods j.origin) (or_right (last_is is_create j.callbacks) (last_is is_activate j.callbacks) ends_so.1) current)))
 
-deactivates_due : (names : List (List ℕ)) (d : DueRef) → callback_of names d ≡ Deactivate → (n : ℕ) × (d ≡ DeactivateDue n)
+pub deactivates_due : (names : List (List ℕ)) (d : DueRef) → callback_of names d ≡ Deactivate → (n : ℕ) × (d ≡ DeactivateDue n)
 deactivates_due names (CreateDue key) is = cc
 deactivates_due names (BindDue i r s) is = cc
 deactivates_due names (UpdatedDue i r s) is = cc

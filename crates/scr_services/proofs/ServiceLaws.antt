@@ -149,7 +149,7 @@ module _ (limit : ℕ) (entry : Entry Step) (past : History) (legal : IsLegal li
   unfolding world_of world_after_entry world_after_step
   rows_then r h = h
 
-  numbered_then : then.registry.numbered ≡ given_so_far + count_by registers entry.opened
+  pub numbered_then : then.registry.numbered ≡ given_so_far + count_by registers entry.opened
   unfolding world_of world_after_entry world_after_step
   numbered_then = refl
 
