@@ -122,7 +122,7 @@ living_over (d ∷ rest) c = ap (λ b. goes_on d.callback d.outcome && b) (livin
 lives_before : (before : List Called) (c : Called) → is_living (before ++ c ∷ []) ≡ true → is_living before ≡ true
 lives_before before c lives = (and_parts (is_living before) (goes_on c.callback c.outcome) (sym (living_over before c) ∙ lives)).0
 
-never_ceases : {A : Type 0} (before : List Called) (last : Callback) (o : Outcome) → goes_on last (Some o) ≡ true → is_living (before ++ begun last ∷ []) ≡ true → is_living (before ++ done_with last o ∷ []) ≡ false → A
+pub never_ceases : {A : Type 0} (before : List Called) (last : Callback) (o : Outcome) → goes_on last (Some o) ≡ true → is_living (before ++ begun last ∷ []) ≡ true → is_living (before ++ done_with last o ∷ []) ≡ false → A
 never_ceases before last o on lives ceases =
     absurd (both_ways (is_living (before ++ done_with last o ∷ [])) ceases (living_over before (done_with last o) ∙ and_from (is_living before) (goes_on last (Some o)) (lives_before before (begun last) lives) on))
 
@@ -143,7 +143,7 @@ nothing_left : (a d : Bool) → (a ≡ true → d ≡ true) → one_if (a && not
 nothing_left true d on = ap (λ b. one_if (not b)) (on refl)
 nothing_left false d on = refl
 
-never_created : (phase : Phase) → may_follow phase Create ≡ true → ⊥
+pub never_created : (phase : Phase) → may_follow phase Create ≡ true → ⊥
 never_created Making e = false≢true e
 never_created Active e = false≢true e
 never_created Left e = false≢true e
@@ -198,7 +198,7 @@ board_parts calls is =
     (and_parts (list_all (λ (c : Called). is_bind_or_unbind c.callback) calls && one_at_a_time calls) (alternate [] calls) is).0
 
 -- the only one that passes a test passes another where any does
-any_of_one : {X : Type 0} (p q : X → Bool) (xs : List X) (x : X) → Contains xs x → p x ≡ true → ((y : X) → Contains xs y → p y ≡ true → y ≡ x) → list_any (λ y. p y && q y) xs ≡ q x
+pub any_of_one : {X : Type 0} (p q : X → Bool) (xs : List X) (x : X) → Contains xs x → p x ≡ true → ((y : X) → Contains xs y → p y ≡ true → y ≡ x) → list_any (λ y. p y && q y) xs ≡ q x
 any_of_one p q xs x h on one = go (cases_Bool (q x))
   where
     go : (q x ≡ true) ⊎ (q x ≡ false) → list_any (λ y. p y && q y) xs ≡ q x

@@ -1,6 +1,7 @@
 //! The entries that may follow a legal journal.
 ghost use Rattle.component_state.specs.Passes.{HasPassed};
 ghost use Rattle.component_state.specs.declared.pass.Passed.{Passed};
+ghost use Rattle.journal_core.specs.declared.entry.Entry.{Entry};
 ghost use Rattle.prop_map.specs.Words.{has};
 ghost use Rattle.scr_entries.specs.Following.{entry_of};
 ghost use Rattle.scr_world.specs.Consequences.{stage_of};
@@ -24,4 +25,9 @@ pub fn note_follows()
 pub fn note_satisfied()
     ensures list { (w : World) → (step : Step) → (p : Passed) → HasPassed (stage_of step w) p → p.satisfied ≡ satisfied_in (world_after_entry (entry_of step p w) w) }
     ensures each { (w : World) → (step : Step) → (p : Passed) → HasPassed (stage_of step w) p → (number : ℕ) → has p.satisfied number ≡ has (satisfied_in (world_after_entry (entry_of step p w) w)) number }
+{}
+
+/// For contracts alone: two entries that follow one legal journal by the same step are equal, whatever their limits.
+pub fn note_one_entry()
+    ensures { (limit more : ℕ) → (past : History) → IsLegal limit past → (x y : Entry Step) → Follows limit x past → Follows more y past → x.step ≡ y.step → x ≡ y }
 {}

@@ -4,5 +4,5 @@
 mod following;
 mod reserving;
 
-pub use following::{note_follows, note_satisfied};
+pub use following::{note_follows, note_one_entry, note_satisfied};
 pub use reserving::{note_gets, note_reserved};
