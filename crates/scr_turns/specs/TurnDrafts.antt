@@ -1,0 +1,63 @@
+-- What the steps of turns change. Our own.
+use Rattle.std.specs.Prelude.{◌≡◌, ℕ, ◌+◌, ◌++◌, ◌∷◌, [], List, None, map, true}
+use Rattle.std.specs.List.{Contains}
+use Rattle.std.specs.Option.{unwrap_or}
+use Rattle.callback_orders.specs.declared.callback.Callback.{Callback}
+use Rattle.callback_orders.specs.Sequences.{begun}
+use Rattle.component_state.specs.Inside.Ready.{are_apart}
+use Rattle.scr_state.specs.Drafts.{with_change}
+use Rattle.scr_state.specs.declared.draft.Draft.{Draft}
+use Rattle.scr_turns.specs.declared.drafts.TurnChanges.{TurnChanges}
+use Rattle.scr_world.specs.Instances.{lives_on, with_effect_of_begin}
+use Rattle.scr_world.specs.Stepping.{before_turn, begins_by, failed_by, failures_by, generations_by, instances_by, makes_by, whiteboard_by}
+use Rattle.scr_world.specs.Tables.{tokens_by, uses_by}
+use Rattle.scr_world.specs.declared.instance.Instance.{Instance}
+use Rattle.scr_world.specs.declared.step.Step.{Step}
+use Rattle.scr_world.specs.declared.world.World.{World}
+
+-- an instance that a turn tells of a callback
+abbrev pub told_in : World → ℕ → Callback → Instance → Instance
+told_in w turn callback i = with_effect_of_begin (before_turn w) callback (record i { turn = turn; callbacks = i.callbacks ++ begun callback ∷ [] })
+
+-- each instance has a number of its own, was told last by a turn of its own, and lives on
+abbrev pub HaveOwnNumbers : List Instance → Type 0
+HaveOwnNumbers is = are_apart (map (λ (i : Instance). i.number) is) ≡ true
+
+pub record AreKnown (w : World) : Type 0 where
+  pub numbers : HaveOwnNumbers w.instances
+  pub turns : are_apart (map (λ (i : Instance). i.turn) w.instances) ≡ true
+  pub living : (i : Instance) → Contains w.instances i → lives_on i ≡ true
+
+-- what a step of a turn changes
+pub record IsTurnChange (step : Step) (w : World) (c : TurnChanges) : Type 0 where
+  pub failed : c.failed ≡ failed_by step w
+  pub failures : unwrap_or c.failures w.failures ≡ w.failures ++ failures_by step w
+  pub instances : with_change c.instances w.instances ≡ instances_by step w
+  pub whiteboard : unwrap_or c.whiteboard w.whiteboard ≡ whiteboard_by step w
+  pub instances_numbered : c.instances_numbered ≡ w.instances_numbered + makes_by step
+  pub turns_begun : c.turns_begun ≡ w.turns_begun + begins_by step
+  pub generations : unwrap_or c.generations w.generations ≡ generations_by step w
+  pub uses : unwrap_or c.uses w.uses ≡ uses_by step w.tokens w.uses
+  pub tokens : unwrap_or c.tokens w.tokens ≡ tokens_by step w.entries w.tokens
+
+-- the draft of it: all other tables stay
+unfoldable pub draft_with : TurnChanges → World → Draft
+draft_with c w = record {
+  documents = None;
+  registry = None;
+  configurations = None;
+  components = None;
+  components_numbered = w.components_numbered;
+  open_periods = None;
+  failed = c.failed;
+  failures = c.failures;
+  instances = c.instances;
+  whiteboard = c.whiteboard;
+  instances_numbered = c.instances_numbered;
+  turns_begun = c.turns_begun;
+  generations = c.generations;
+  uses = c.uses;
+  tokens = c.tokens;
+  descriptions = None;
+  levels = None;
+}

@@ -1,0 +1,161 @@
+//! An instance that is told of a callback (OSGi Compendium 8, chapter 112, "Activation", "Modification").
+ghost use Rattle.callback_orders.specs.Sequences.{begun};
+ghost use Rattle.component_state.specs.Components.{properties_of};
+ghost use Rattle.scr_turns.specs.TurnDrafts.{told_in};
+ghost use Rattle.scr_world.specs.Instances.{is_told_of, with_effect_of_begin, with_told, without_told};
+ghost use Rattle.scr_world.specs.Stepping.{before_turn};
+ghost use Rattle.scr_world.specs.Worlds.{revision_of};
+ghost use Rattle.std.specs.Prelude.{◌≡◌, ◌++◌, ◌∷◌, [], IfOk};
+
+use crate::revisions::revision_of;
+use callback_orders::{Callback, Called};
+use component_state::{Component, component_of};
+use prop_map::{Copies, List, OutOfMemory, Properties, Str};
+use scr_world::{Instance, ToldRevision, World};
+use std::alloc::Global;
+
+/// An instance as it is where a turn begins that tells it of a callback.
+pub(crate) fn told_in(
+    alloc: Global,
+    world: &World,
+    turn: u64,
+    callback: &Callback,
+    instance: &Instance,
+) -> Result<Instance, OutOfMemory>
+    ensures { IfOk result (λ i. i ≡ told_in world.now turn callback.now instance.now) }
+{
+    let mut told = instance.copy(alloc)?;
+    told.turn = turn;
+    told.callbacks = calls_with(alloc, instance.callbacks.as_slice(), callback)?;
+    with_effect(alloc, world, callback, told)
+}
+
+// What it takes with the callback: at Bind and Updated the service's revision, at Modified its component's properties.
+fn with_effect(
+    alloc: Global,
+    world: &World,
+    callback: &Callback,
+    instance: Instance,
+) -> Result<Instance, OutOfMemory>
+    ensures { IfOk result (λ i. i ≡ with_effect_of_begin (before_turn world.now) callback.now instance) }
+{
+    match callback {
+        Callback::Bind { reference, service } | Callback::Updated { reference, service } => {
+            with_revision(alloc, world, reference, *service, instance)
+        }
+        Callback::Unbind { reference, service } => {
+            let mut told = instance;
+            let revisions = told.told_revisions.as_slice();
+            told.told_revisions = without_told(alloc, reference, *service, revisions)?;
+            Ok(told)
+        }
+        Callback::Modified => with_properties(alloc, world, instance),
+        Callback::Create | Callback::Activate | Callback::Deactivate | Callback::Destroy => {
+            Ok(instance)
+        }
+    }
+}
+
+fn with_revision(
+    alloc: Global,
+    world: &World,
+    reference: &Str,
+    service: u64,
+    instance: Instance,
+) -> Result<Instance, OutOfMemory>
+    ensures { IfOk result (λ i. i ≡ record instance { told_revisions = with_told reference.now service (revision_of world.now service) instance.told_revisions }) }
+{
+    let mut told = instance;
+    let revision = revision_of(world, service);
+    let revisions = told.told_revisions.as_slice();
+    told.told_revisions = with_told(alloc, reference, service, revision, revisions)?;
+    Ok(told)
+}
+
+fn with_properties(
+    alloc: Global,
+    world: &World,
+    instance: Instance,
+) -> Result<Instance, OutOfMemory>
+    ensures { IfOk result (λ i. i ≡ record instance { properties = properties_of world.now.components instance.origin.configuration; properties_taken_at = world.now.entries }) }
+{
+    let mut told = instance;
+    let components = world.components.as_slice();
+    told.properties = properties_of(alloc, components, told.origin.configuration)?;
+    told.properties_taken_at = world.entries;
+    Ok(told)
+}
+
+// The callbacks with one that begins.
+pub(crate) fn calls_with(
+    alloc: Global,
+    calls: &[Called],
+    callback: &Callback,
+) -> Result<List<Called>, OutOfMemory>
+    ensures { IfOk result (λ v. v ≡ calls.now ++ begun callback.now ∷ []) }
+{
+    let mut found = Vec::new(alloc);
+    for called in calls {
+        found.push(called.copy(alloc)?)?;
+    }
+    found.push(Called {
+        callback: callback.copy(alloc)?,
+        outcome: None,
+    })?;
+    Ok(List::of(found))
+}
+
+fn is_told_of(reference: &Str, service: u64, told: &ToldRevision) -> bool
+    ensures { result ≡ is_told_of reference.now service told.now }
+{
+    told.reference == *reference && told.service == service
+}
+
+fn without_told(
+    alloc: Global,
+    reference: &Str,
+    service: u64,
+    told: &[ToldRevision],
+) -> Result<List<ToldRevision>, OutOfMemory>
+    ensures { IfOk result (λ v. v ≡ without_told reference.now service told.now) }
+{
+    let mut found = Vec::new(alloc);
+    for one in told {
+        if !is_told_of(reference, service, one) {
+            found.push(one.copy(alloc)?)?;
+        }
+    }
+    Ok(List::of(found))
+}
+
+fn with_told(
+    alloc: Global,
+    reference: &Str,
+    service: u64,
+    revision: u64,
+    told: &[ToldRevision],
+) -> Result<List<ToldRevision>, OutOfMemory>
+    ensures { IfOk result (λ v. v ≡ with_told reference.now service revision told.now) }
+{
+    let mut found = without_told(alloc, reference, service, told)?.items();
+    found.push(ToldRevision {
+        reference: reference.copy(alloc)?,
+        service,
+        revision,
+    })?;
+    Ok(List::of(found))
+}
+
+// The properties of a component configuration, none where it isn't known.
+pub(crate) fn properties_of(
+    alloc: Global,
+    components: &[Component],
+    configuration: u64,
+) -> Result<Properties, OutOfMemory>
+    ensures { IfOk result (λ p. p ≡ properties_of components.now configuration) }
+{
+    match component_of(components, configuration) {
+        Some(component) => component.properties.copy(alloc),
+        None => Ok(Properties::new(alloc)),
+    }
+}

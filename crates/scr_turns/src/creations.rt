@@ -1,0 +1,65 @@
+//! An instance that the beginning of a Create makes (OSGi Compendium 8, chapter 112, "Activation").
+ghost use Rattle.component_state.specs.Rows.{service_in};
+ghost use Rattle.component_state.specs.declared.open_period.OpenPeriod.{OpenPeriod};
+ghost use Rattle.scr_world.specs.Instances.{created_at};
+ghost use Rattle.scr_world.specs.Stepping.{before_turn};
+ghost use Rattle.std.specs.Option.{option_copied};
+ghost use Rattle.std.specs.Prelude.{◌≡◌, ◌==◌, IfOk, find};
+
+use crate::begins::{calls_with, properties_of};
+use crate::slots::first_free_slot;
+use callback_orders::Callback;
+use component_state::{Choice, OpenPeriod, Origin};
+use prop_map::{Copies, List, OutOfMemory};
+use scr_world::{Instance, World};
+use std::alloc::Global;
+
+/// The instance that the beginning of a Create makes.
+pub(crate) fn created(
+    alloc: Global,
+    world: &World,
+    turn: u64,
+    instance: u64,
+    configuration: u64,
+    consumer: u64,
+    chosen: &List<Choice>,
+) -> Result<Instance, OutOfMemory>
+    ensures { IfOk result (λ i. i ≡ created_at (before_turn world.now) turn instance configuration consumer chosen.now) }
+{
+    Ok(Instance {
+        number: instance,
+        consumer,
+        service: service_in(world.open_periods.as_slice(), configuration),
+        slot: first_free_slot(world.instances.as_slice()),
+        generation: 0,
+        drained: false,
+        turn,
+        origin: Origin {
+            configuration,
+            created: world.entries,
+            chosen: chosen.copy(alloc)?,
+        },
+        callbacks: calls_with(alloc, &[], &Callback::Create)?,
+        properties: properties_of(alloc, world.components.as_slice(), configuration)?,
+        properties_taken_at: world.entries,
+        told_revisions: List::of(Vec::new(alloc)),
+    })
+}
+
+// The service of the open period of a component configuration, 0 where there is none.
+fn service_in(periods: &[OpenPeriod], configuration: u64) -> u64
+    ensures { result ≡ service_in periods.now configuration }
+{
+    match period_of(periods, configuration) {
+        Some(period) => period.row.id,
+        None => 0,
+    }
+}
+
+fn period_of(periods: &[OpenPeriod], configuration: u64) -> Option<&OpenPeriod>
+    ensures { option_copied result ≡ find (λ (p : OpenPeriod). p.configuration == configuration) periods.now }
+{
+    periods
+        .iter()
+        .find(|period| period.configuration == configuration)
+}

@@ -1,0 +1,114 @@
+//! Gets by token (our own; OSGi Core 8, chapter 5, "Getting Services", "Releasing Services").
+ghost use Rattle.scr_world.specs.Tables.{tokens_by, uses_by, without_token};
+ghost use Rattle.scr_world.specs.TurnSteps.{is_turn_step};
+ghost use Rattle.scr_world.specs.declared.marks.Token.{Token};
+ghost use Rattle.scr_world.specs.declared.step.Step.TheVariants.{Released};
+ghost use Rattle.std.specs.Option.{option_copied, unwrap_or};
+ghost use Rattle.std.specs.Prelude.{◌≡◌, ◌==◌, IfOk, filter, find, not, true};
+ghost use Rattle.use_counts.specs.Uses.{after_get, after_unget};
+ghost use Rattle.use_counts.specs.declared.uses.Holder.TheVariants.{Token as ByToken};
+
+use prop_map::{Copies, List, OutOfMemory};
+use scr_world::{Step, Token, World};
+use std::alloc::{AllocError, Global};
+use use_counts::{Holder, UseCounts};
+
+/// The use counts after a step of a turn, none where it leaves them.
+pub(crate) fn uses_after(
+    alloc: Global,
+    world: &World,
+    step: &Step,
+) -> Result<Option<UseCounts>, OutOfMemory>
+    requires { is_turn_step step.now ≡ true }
+    ensures { IfOk result (λ r. unwrap_or r world.now.uses ≡ uses_by step.now world.now.tokens world.now.uses) }
+{
+    match step {
+        Step::Got { bundle, service } => {
+            let uses = with_get(alloc, &world.uses, *bundle, *service)?;
+            Ok(Some(uses))
+        }
+        Step::Released { place } => released(alloc, world, *place),
+        _ => Ok(None),
+    }
+}
+
+fn with_get(
+    alloc: Global,
+    uses: &UseCounts,
+    bundle: u64,
+    service: u64,
+) -> Result<UseCounts, OutOfMemory>
+    ensures { IfOk result (λ after. after ≡ after_get bundle service ByToken uses.now) }
+{
+    if uses.count(bundle, service) == u32::MAX {
+        return Err(AllocError);
+    }
+    let mut after = uses.copy(alloc)?;
+    after.get(bundle, service, Holder::Token)?;
+    Ok(after)
+}
+
+// The use counts once the get of an entry's place is released.
+fn released(alloc: Global, world: &World, place: u64) -> Result<Option<UseCounts>, OutOfMemory>
+    ensures { IfOk result (λ r. unwrap_or r world.now.uses ≡ uses_by (Released place) world.now.tokens world.now.uses) }
+{
+    match token_at(world.tokens.as_slice(), place) {
+        Some(token) => Ok(Some(without_token(alloc, &world.uses, token)?)),
+        None => Ok(None),
+    }
+}
+
+fn token_at(tokens: &[Token], place: u64) -> Option<&Token>
+    ensures { option_copied result ≡ find (λ (t : Token). t.place == place) tokens.now }
+{
+    tokens.iter().find(|token| token.place == place)
+}
+
+fn without_token(alloc: Global, uses: &UseCounts, token: &Token) -> Result<UseCounts, OutOfMemory>
+    ensures { IfOk result (λ after. after ≡ without_token uses.now token.now) }
+{
+    let mut after = uses.copy(alloc)?;
+    match after.unget(token.bundle, token.service, Holder::Token) {
+        Ok(_) => Ok(after),
+        // Each get by token is counted, so this doesn't come up.
+        Err(_) => Err(AllocError),
+    }
+}
+
+/// The gets by token after a step of a turn, none where it leaves them.
+pub(crate) fn tokens_after(
+    alloc: Global,
+    world: &World,
+    step: &Step,
+) -> Result<Option<List<Token>>, OutOfMemory>
+    ensures { IfOk result (λ r. unwrap_or r world.now.tokens ≡ tokens_by step.now world.now.entries world.now.tokens) }
+{
+    match step {
+        Step::Got { bundle, service } => {
+            let mut tokens = Vec::from_slice(alloc, world.tokens.as_slice())?;
+            tokens.push(Token {
+                place: world.entries,
+                bundle: *bundle,
+                service: *service,
+            })?;
+            Ok(Some(List::of(tokens)))
+        }
+        Step::Released { place } => {
+            let tokens = without_place(alloc, world.tokens.as_slice(), *place)?;
+            Ok(Some(tokens))
+        }
+        _ => Ok(None),
+    }
+}
+
+fn without_place(alloc: Global, tokens: &[Token], place: u64) -> Result<List<Token>, OutOfMemory>
+    ensures { IfOk result (λ v. v ≡ filter (λ (t : Token). not (t.place == place)) tokens.now) }
+{
+    let mut found = Vec::new(alloc);
+    for token in tokens {
+        if token.place != place {
+            found.push(*token)?;
+        }
+    }
+    Ok(List::of(found))
+}

@@ -1,0 +1,14 @@
+//! What the steps of turns make of a state: the beginning of a turn and its end, a drain, a get by token and its release.
+#![tactic(auto)]
+
+mod begins;
+mod creations;
+mod drafts;
+mod ends;
+mod gets;
+mod instance_tests;
+mod instances;
+mod revisions;
+mod slots;
+
+pub use drafts::turn_draft;
