@@ -85,7 +85,7 @@ fn push_opened<'w>(
     Ok(())
 }
 
-fn copied(alloc: Global, rows: &[&ServiceRow]) -> Result<List<ServiceRow>, OutOfMemory>
+pub(crate) fn copied(alloc: Global, rows: &[&ServiceRow]) -> Result<List<ServiceRow>, OutOfMemory>
     ensures { IfOk result (λ copies. copies ≡ map (λ r. r.now) rows.now) }
 {
     let mut copies = Vec::new(alloc);
