@@ -14,17 +14,19 @@ use Rattle.scr_endings.proofs.EndingLaws.{comes, none_at_first}
 use Rattle.scr_laws.proofs.Listed.{found_was}
 use Rattle.scr_laws.proofs.Sounding.{legal_earlier}
 use Rattle.scr_numbers.proofs.InstanceLemmas.{IsMade}
-use Rattle.scr_services.proofs.ServiceLaws.{AreServices, Period, are_services, goes_up, new_number, numbered_then, then_was}
+use Rattle.scr_services.proofs.ServiceLaws.{AreServices, Direct, Period, are_services, direct_was, goes_up, new_number, numbered_then, then_was}
 use Rattle.scr_world.specs.Legal.{IsLegal}
 use Rattle.scr_world.specs.Lists.{world_of}
 use Rattle.scr_world.specs.Steps.{History}
 use Rattle.scr_world.specs.declared.instance.Instance.{Instance}
 use Rattle.scr_world.specs.declared.step.Step.{Step}
 use Rattle.scr_world.specs.declared.world.World.{World}
+use Rattle.service_registry.specs.declared.row.ServiceRow.{ServiceRow}
 
 pub record HasItsPeriod (w : World) (service : ℕ) (origin : Origin) : Type 0 where
   pub given : service ≤ w.registry.numbered
   pub period : (p : OpenPeriod) → Contains w.open_periods p → p.row.id ≡ service → 0 < service → (p.configuration ≡ origin.configuration) × (p.opened < origin.created)
+  pub of_component : (r : ServiceRow) → Contains w.registry.rows r → r.id ≡ service → 0 < service → ⊥
 
 abbrev pub HavePeriods : World → Type 0
 HavePeriods w = (x : Instance) → Contains w.instances x → HasItsPeriod w x.service x.origin
@@ -61,6 +63,11 @@ module _ (limit : ℕ) (entry : Entry Step) (past : History) (legal : IsLegal li
           let more = goes_up limit entry past legal are in
           absurd (omega (arith, high, more, low, same))
 
+  -- no command registers under an older number
+  commanded_by : (service : ℕ) → service ≤ w.registry.numbered → (r : ServiceRow) → r.id ≡ service → 0 < service → ((q : ServiceRow) → Contains w.registry.rows q → q.id ≡ service → 0 < service → ⊥) → Direct limit entry past legal are r → ⊥
+  commanded_by service low r same some none (inl was) = none was.was was.there (sym was.same.number ∙ same) some
+  commanded_by service low r same some none (inr new) = (let next = new.number in omega (arith, next, low, same))
+
   kept : (service : ℕ) (origin : Origin) → HasItsPeriod w service origin → HasItsPeriod then service origin
   kept service origin was = record {
     given = up service was.given;
@@ -68,11 +75,12 @@ module _ (limit : ℕ) (entry : Entry Step) (past : History) (legal : IsLegal li
         let q = newer service was.given p h same some in
         let its = was.period q.0 q.1 q.2 some in
         (q.3 ∙ its.0, subst (λ n. n < origin.created) (sym q.4) its.1);
+    of_component = λ r h same some. commanded_by service was.given r same some was.of_component (direct_was limit entry past legal are r h);
   }
 
   made_one : (configuration : ℕ) (chosen : List Choice) → HasItsPeriod then (service_in w.open_periods configuration) (record { configuration = configuration; created = w.entries; chosen = chosen })
   made_one configuration chosen = elim (service_found w.open_periods configuration) [
-    | inl none ↦ record { given = up (service_in w.open_periods configuration) (omega (arith, none)); period = λ p h same some. absurd (omega (arith, none, some)) }
+    | inl none ↦ record { given = up (service_in w.open_periods configuration) (omega (arith, none)); period = λ p h same some. absurd (omega (arith, none, some)); of_component = λ r h same some. omega (arith, none, some) }
     | inr found ↦ (
         let low = are.period_given found.0 found.1 in
         let is = found.3 in
@@ -83,6 +91,7 @@ module _ (limit : ℕ) (entry : Entry Step) (past : History) (legal : IsLegal li
               let q = newer (service_in w.open_periods configuration) within p h same some in
               let one = are.period_one q.0 found.0 q.1 found.1 (q.2 ∙ is) (subst (λ m. 0 < m) (sym q.2) some) in
               (q.3 ∙ ap (λ (x : OpenPeriod). x.configuration) one ∙ found.2, subst (λ n. n < w.entries) (sym (q.4 ∙ ap (λ (x : OpenPeriod). x.opened) one)) (legal_earlier limit past legal.1 found.0 found.1));
+          of_component = λ r h same some. commanded_by (service_in w.open_periods configuration) within r same some (λ q k number above. are.kinds q found.0 k found.1 (number ∙ is)) (direct_was limit entry past legal are r h);
         })
   ]
 

@@ -4,4 +4,5 @@ pub mod InstanceServices
 pub mod KnownLaws
 pub mod ProviderLaws
 pub mod ProviderPhases
+pub mod ServingLaws
 pub mod TargetRows

@@ -1,10 +1,9 @@
 -- What an instance holds is direct, or an active instance that wasn't told of Deactivate serves it.
-use Rattle.std.proofs.Common.{◌≡◌, ◌<◌, ◌⊎◌, ℕ, List, [], ◌∷◌, ◌++◌, ap, sym, ◌∙◌, refl, subst, cond, arith, Bool, true, false, ◌&&◌, ◌||◌, inl, inr, Option, Some, None}
+use Rattle.std.proofs.Common.{◌≡◌, ◌<◌, ◌⊎◌, ℕ, List, [], ◌∷◌, ◌++◌, ap, sym, ◌∙◌, refl, subst, cond, arith, Bool, true, false, ◌&&◌, inl, inr, Option, Some, None}
 use Rattle.std.specs.Prelude.{nat_lt, not, ◌==◌}
 use Rattle.std.specs.List.{Contains, list_any}
 use Rattle.std.specs.Option.{option_map_or}
-use Rattle.std.proofs.lemmas.Bool.{and_from, and_parts, both_ways, cases_Bool, eq-eqb, eqb-true, lt-ltb, ne_eqb, or_cases}
-use Rattle.bundle_life.specs.Lives.{is_active, state_is}
+use Rattle.std.proofs.lemmas.Bool.{and_from, and_parts, both_ways, cases_Bool, eqb-true, ne_eqb, or_cases}
 use Rattle.callback_orders.specs.declared.callback.Callback.{Callback}
 use Rattle.callback_orders.specs.declared.callback.Callback.TheVariants.{Bind as BindCalled, Deactivate as DeactivateCalled}
 use Rattle.callback_orders.specs.declared.callback.Outcome.{Outcome}
@@ -32,14 +31,14 @@ use Rattle.scr_endings.specs.Endings.{has_deactivate, outlives_consumer}
 use Rattle.scr_endings.proofs.CallbackLists.{deactivate_begun, deactivate_ended}
 use Rattle.scr_endings.proofs.Comings.{IsNext, IsSeen, callback_begun, closes, gains, keeps, not_board, one_made, whiteboard}
 use Rattle.scr_endings.proofs.DueCallbacks.{due_stands}
-use Rattle.scr_endings.proofs.EndingLaws.{board_number, comes, deactivates_due, end_in_time, same_one}
+use Rattle.scr_endings.proofs.EndingLaws.{board_number, comes, deactivates_due, same_one}
 use Rattle.scr_endings.proofs.InstanceComponents.{component_for, component_kept}
 use Rattle.scr_gates.proofs.NothingShut.{phase_stays}
 use Rattle.scr_gates.proofs.TurnCallbacks.{are_told_apart}
 use Rattle.scr_holdings.specs.Providers.{HaveProviders, IsProvided, by_instance, directly}
 use Rattle.scr_holdings.proofs.HeldSteps.{IsBound, IsLater, board_bundle, from, held_next, later, new}
-use Rattle.scr_holdings.proofs.InstanceServices.{have_periods}
 use Rattle.scr_holdings.proofs.KnownLaws.{bound_row, current_from, goes_on, hold_as, known_found, none_held}
+use Rattle.scr_holdings.proofs.ServingLaws.{serving_quiet}
 use Rattle.scr_holdings.proofs.ProviderPhases.{bounds_life, free_of_bounds, living_ended, phase_ended}
 use Rattle.scr_laws.proofs.Legal.{legal_scratch, open_lives}
 use Rattle.scr_laws.proofs.Listed.{single}
@@ -206,15 +205,6 @@ module _ (limit : ℕ) (entry : Entry Step) (past : History) (legal : IsLegal li
           | inr commanded ↦ (are.direct_flag d commanded, registered_known w are d (direct_in w d commanded))
         ]
 
-    -- for whom a bundle that isn't stopping has its instance
-    consumer_up : (c : Component) (bundle consumer : ℕ) → (consumer == consumer_for c bundle) ≡ true → (bundle ≡ 0) ⊎ (is_active_bundle w bundle ≡ true) → (consumer ≡ 0) ⊎ (is_active_bundle w consumer ≡ true)
-    consumer_up c bundle consumer same up = go (has_singleton_scope c.description.scope) (eqb-true consumer (consumer_for c bundle) same) up
-      where
-        go : (b : Bool) → consumer ≡ cond b 0 bundle → (bundle ≡ 0) ⊎ (is_active_bundle (world_of past) bundle ≡ true) → (consumer ≡ 0) ⊎ (is_active_bundle (world_of past) consumer ≡ true)
-        go true is u = inl is
-        go false is (inl none) = inl (is ∙ none)
-        go false is (inr on) = inr (ap (is_active_bundle (world_of past)) is ∙ on)
-
     bundle_up : (j : Instance) → (Contains w.instances j × (ends w j ≡ false)) ⊎ (j ≡ w.whiteboard) → (bundle_of_instance w j ≡ 0) ⊎ (is_active_bundle w (bundle_of_instance w j) ≡ true)
     bundle_up j (inr board) = inl (ap (bundle_of_instance w) board ∙ board_bundle past)
     bundle_up j (inl made) =
@@ -223,36 +213,6 @@ module _ (limit : ℕ) (entry : Entry Step) (past : History) (legal : IsLegal li
         let c = open_lives w (legal_scratch limit past legal.1) p.0 p.1 in
         let its = component_for limit past legal.1 j c.0 c.1 (sym c.3 ∙ eqb-true p.0.configuration j.origin.configuration (and_parts (p.0.configuration == j.origin.configuration) (nat_lt p.0.opened j.origin.created) p.2).0) in
         inr (ap (is_active_bundle w) its.bundle ∙ (active_owners limit past legal.1).components c.0 (kept_from (λ (k : Component). k.exists) w.components c.0 c.1 c.2))
-
-    -- who serves a registered service of a component isn't ending
-    serving_quiet : (p : OpenPeriod) → Contains w.open_periods p → (s : ℕ) → p.row.id ≡ s → 0 < s → (bundle : ℕ) → (bundle ≡ 0) ⊎ (is_active_bundle w bundle ≡ true) → (x : Instance) → Contains w.instances x → serves w bundle s x ≡ true → has_deactivate x.callbacks ≡ false
-    serving_quiet p there s number some bundle up x h serving = elim (cases_Bool (has_deactivate x.callbacks)) [
-      | inr off ↦ off
-      | inl on ↦ absurd (both_ways (ends w x) not_ending ((end_in_time limit past legal.1).deactivated x h on))
-    ]
-      where
-        both : ((x.service == s) ≡ true) × (option_map_or (λ (c : Component). x.consumer == consumer_for c bundle) (component_of (world_of past).components x.origin.configuration) false ≡ true)
-        both = and_parts (x.service == s) _ serving
-
-        service : x.service ≡ s
-        service = eqb-true x.service s both.0
-
-        current : is_current (world_of past).open_periods x.origin ≡ true
-        current =
-            let its = (have_periods limit past legal.1 x h).period p there (number ∙ sym service) (subst (λ n. 0 < n) (sym service) some) in
-            any_from (λ (q : OpenPeriod). (q.configuration == x.origin.configuration) && nat_lt q.opened x.origin.created) (world_of past).open_periods p there
-            (and_from (p.configuration == x.origin.configuration) (nat_lt p.opened x.origin.created) (eq-eqb p.configuration x.origin.configuration its.0) (lt-ltb p.opened x.origin.created its.1))
-
-        for_consumer : (o : Option Component) → option_map_or (λ (c : Component). x.consumer == consumer_for c bundle) o false ≡ true → (x.consumer ≡ 0) ⊎ (is_active_bundle (world_of past) x.consumer ≡ true)
-        for_consumer None e = cc
-        for_consumer (Some c) e = consumer_up c bundle x.consumer e up
-
-        alone : (x.consumer ≡ 0) ⊎ (is_active_bundle (world_of past) x.consumer ≡ true) → outlives_consumer (world_of past) x ≡ false
-        alone (inl none) = ap (λ b. not b && not (state_is is_active (world_of past).bundles.rows x.consumer)) (eq-eqb x.consumer 0 none)
-        alone (inr on) = ap (λ b. not (x.consumer == 0) && not b) on ∙ and_off (not (x.consumer == 0))
-
-        not_ending : ends (world_of past) x ≡ false
-        not_ending = (end_in_time limit past legal.1).reasons x h ∙ ap (λ b. not b || outlives_consumer (world_of past) x) current ∙ alone (for_consumer (component_of (world_of past).components x.origin.configuration) both.1)
 
     not_told : (name : List ℕ) (s : ℕ) (o : Option Callback) → o ≡ Some (BindCalled name s) → o ≡ Some DeactivateCalled → ⊥
     not_told name s None a b = cc
@@ -267,7 +227,7 @@ module _ (limit : ℕ) (entry : Entry Step) (past : History) (legal : IsLegal li
           absurd (both_ways (is_registered w row.id) ((are_services limit past legal.1).left_gone row k) (registered_is w row registered))
       bound_served j b x there serving active row registered number (of_component p k is some) =
           let high = subst (λ n. 0 < n) number some in
-          let quiet = serving_quiet p k s (ap (λ (y : ServiceRow). y.id) is ∙ number) high (bundle_of_instance w j) (bundle_up j b.whose) x there serving in
+          let quiet = serving_quiet limit past legal.1 p k s (ap (λ (y : ServiceRow). y.id) is ∙ number) high (bundle_of_instance w j) (bundle_up j b.whose) x there serving in
           let y = stays_serving x there active quiet (λ v seen n due begins. not_told r.name s (callback_begun entry.step) b.begins begins) (bundle_of_instance w j) s serving in
           by_one high y.0 y.1
 

@@ -15,7 +15,7 @@ use Rattle.service_registry.specs.declared.row.ServiceRow.{ServiceRow}
 use Rattle.service_registry.specs.Services.{best_first, better, has_interface}
 
 module _ {X : Type 0} (before : X → X → Bool) where
-  inserted_was : (x : X) (ys : List X) (z : X) → Contains (insert_by before x ys) z → (x ≡ z) ⊎ Contains ys z
+  pub inserted_was : (x : X) (ys : List X) (z : X) → Contains (insert_by before x ys) z → (x ≡ z) ⊎ Contains ys z
   inserted_was x [] z h = in_cases x [] z h
   inserted_was x (y ∷ ys) z h = go (inserted_was x ys z) (before x y) h
     where
