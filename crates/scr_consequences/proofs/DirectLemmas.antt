@@ -1,16 +1,15 @@
 -- What happened to direct services, row by row.
-use Rattle.std.proofs.Common.{◌≡◌, ℕ, zero, suc, ◌<◌, Bool, true, false, List, [], ◌∷◌, ◌++◌, ◌∙◌, ap, sym, refl, cond, arith, get_or, eqb}
+use Rattle.std.proofs.Common.{◌≡◌, ℕ, ◌<◌, Bool, true, false, List, [], ◌∷◌, ◌++◌, ◌∙◌, ap, sym, refl, cond, get_or}
 use Rattle.std.specs.Prelude.{Option, Some, None, ◌==◌, not, filter}
 use Rattle.std.specs.List.{All, AllPairs, flat_map}
-use Rattle.std.proofs.lemmas.Bool.{eq-eqb}
 use Rattle.std.proofs.lemmas.Grind.{flat_map-append}
-use Rattle.std.proofs.lemmas.List.Elements.{All-cons, All-head, All-nil, All-tail}
+use Rattle.std.proofs.lemmas.List.Elements.{All-head, All-tail}
 use Rattle.prop_map.specs.Words.{has}
 use Rattle.scr_world.specs.Lists.{change_between}
 use Rattle.scr_consequences.specs.Changes.{change_from, change_of_new}
 use Rattle.scr_consequences.proofs.FlatMaps.{flat_map_agree}
+use Rattle.scr_consequences.proofs.RisingLemmas.{own_items}
 use Rattle.scr_consequences.proofs.RowAtLemmas.{or_left, or_right}
-use Rattle.scr_consequences.proofs.SortedLemmas.{eqb-ne}
 use Rattle.service_listeners.specs.Listening.{Change}
 use Rattle.service_registry.specs.Registries.{row_of}
 use Rattle.service_registry.specs.Services.{ids}
@@ -22,26 +21,9 @@ AreRising rows = AllPairs (λ (a b : ServiceRow). a.id < b.id) rows
 abbrev pub IsOwn : List ServiceRow → ServiceRow → Type 0
 IsOwn rows r = row_of rows r.id ≡ Some r
 
-rising_rest : (r : ServiceRow) (rows : List ServiceRow) → AreRising (r ∷ rows) → AreRising rows
-rising_rest r rows rising i j d lt within = rising (suc i) (suc j) d (omega arith) (omega (arith, within))
-
-above_first : (r : ServiceRow) (rows : List ServiceRow) → AreRising (r ∷ rows) → All (λ (x : ServiceRow). r.id < x.id) rows
-above_first r rows rising k d within = rising zero (suc k) d (omega arith) (omega (arith, within))
-
--- rows behind a lower one are found as before
-behind_own : (r : ServiceRow) (all xs : List ServiceRow) → All (λ (x : ServiceRow). r.id < x.id) xs → All (IsOwn all) xs → All (IsOwn (r ∷ all)) xs
-behind_own r all xs above own k d within =
-    let x = get_or xs k d in
-    let other : eqb r.id x.id ≡ false = eqb-ne r.id x.id (λ e. omega (arith, above k d within)) in
-    ap (λ b. cond b (Some r) (row_of all x.id)) other ∙ own k d within
-
 -- rows with rising numbers are found by them
 pub own_rows : (rows : List ServiceRow) → AreRising rows → All (IsOwn rows) rows
-own_rows [] rising = All-nil (IsOwn [])
-own_rows (r ∷ rows) rising =
-    All-cons (IsOwn (r ∷ rows)) r rows
-    (ap (λ b. cond b (Some r) (row_of rows r.id)) (eq-eqb r.id r.id refl))
-    (behind_own r rows rows (above_first r rows rising) (own_rows rows (rising_rest r rows rising)))
+own_rows rows rising = own_items (λ (r : ServiceRow). r.id) rows rising
 
 -- a number that isn't one of theirs finds none
 pub not_there : (rows : List ServiceRow) (n : ℕ) → has (ids rows) n ≡ false → row_of rows n ≡ None

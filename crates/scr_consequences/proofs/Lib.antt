@@ -1,4 +1,5 @@
 pub mod AllChanges
+pub mod BundleNumbers
 pub mod DirectLemmas
 pub mod DrainingLemmas
 pub mod FilterLemmas
@@ -9,6 +10,8 @@ pub mod LeftLemmas
 pub mod ListenerNumbers
 pub mod MovedLemmas
 pub mod RegisteredLemmas
+pub mod RisingLemmas
 pub mod RowAtLemmas
 pub mod SortedLemmas
+pub mod StopLemmas
 pub mod TellingLemmas

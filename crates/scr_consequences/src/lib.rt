@@ -2,6 +2,7 @@
 //! the gates that are shut, the gets that stand, and what listeners are told.
 #![tactic(auto)]
 
+mod completed_stops;
 mod endings;
 mod failures;
 mod gates;
@@ -17,6 +18,7 @@ mod sorted_numbers;
 mod stopped_bundles;
 mod telling;
 
+pub use completed_stops::{complete_stops, note_bundles, note_stops};
 pub use endings::{ends, is_active_bundle, is_ending};
 pub use failures::{ending_in, failing_of, failures_of};
 pub use gates::{draining_in, shut_since};
