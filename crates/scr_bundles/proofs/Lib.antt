@@ -1,5 +1,3 @@
 pub mod Coming
-pub mod Completing
 pub mod Faults
-pub mod Numbered
 pub mod Undone

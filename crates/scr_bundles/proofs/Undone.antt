@@ -36,7 +36,9 @@ one_more false false stays = omega arith
 
 module _ {X : Type 0} (p : X → Bool) where
   one_before : (x : X) (xs : List X) → count_by p (x ∷ xs) ≡ cond (p x) 1 0 + count_by p xs
-  one_before x xs = let parts : count_by p (x ∷ xs) ≡ (0 + cond (p x) 1 0) + count_by p xs = sum_by-append (λ y. cond (p y) 1 0) (x ∷ []) xs in omega (arith, parts)
+  one_before x xs =
+      let parts : count_by p (x ∷ xs) ≡ (0 + cond (p x) 1 0) + count_by p xs = sum_by-append (λ y. cond (p y) 1 0) (x ∷ []) xs in
+      omega (arith, parts)
 
   count_mapped : (f : X → X) (xs : List X) → ((x : X) → Contains xs x → p x ≡ true → p (f x) ≡ true) → count_by p xs ≤ count_by p (map f xs)
   count_mapped f [] stays = omega arith
@@ -51,7 +53,8 @@ module _ {X : Type 0} (p : X → Bool) where
   count_kept t [] stays = omega arith
   count_kept t (x ∷ xs) stays = go (t x) (stays x (in_first x xs)) (count_kept t xs (λ y h. stays y (in_rest x xs y h)))
     where
-      go : (b : Bool) → (p x ≡ true → b ≡ true) → count_by p xs ≤ count_by p (filter t xs) → count_by p (x ∷ xs) ≤ count_by p (cond b (x ∷ filter t xs) (filter t xs))
+      go : (b : Bool) → (p x ≡ true → b ≡ true) → count_by p xs ≤ count_by p (filter t xs)
+          → count_by p (x ∷ xs) ≤ count_by p (cond b (x ∷ filter t xs) (filter t xs))
       go true stay later =
           let before = one_before x xs in
           let now = one_before x (filter t xs) in
@@ -63,30 +66,42 @@ module _ {X : Type 0} (p : X → Bool) where
 
 -- ---- the bundle of a number
 
-pub state_found : (test : BundleState → Bool) (rows : List BundleLife) → HasOneOfEach (λ (b : BundleLife). b.number) rows → (b : BundleLife) → Contains rows b → (n : ℕ) → b.number ≡ n → state_is test rows n ≡ test b.state
+pub state_found : (test : BundleState → Bool) (rows : List BundleLife) → HasOneOfEach (λ (b : BundleLife). b.number) rows
+    → (b : BundleLife) → Contains rows b → (n : ℕ) → b.number ≡ n → state_is test rows n ≡ test b.state
 state_found test rows one b here n is =
     ap (λ o. option_map_or (λ (c : BundleLife). test c.state) o false)
     (found_is (λ (c : BundleLife). c.number == n) rows b here (eq-eqb b.number n is) (λ c h k. one c b h here (eqb-true c.number n k ∙ sym is)))
 
 -- what is neither refused as ACTIVE nor as STOPPING isn't STOPPING
-idle_state : (s : BundleState) (rest : List (Option LifeFault)) → first_some (None ∷ refuse_if (is_active s) (WrongState (state_number s)) ∷ refuse_if (is_stopping s) StillStopping ∷ rest) ≡ None → is_stopping s ≡ false
+abbrev row_active : Option BundleLife → Option LifeFault
+row_active o = option_and_then (λ (b : BundleLife). refuse_if (is_active b.state) (WrongState (state_number b.state))) o
+
+abbrev row_stopping : Option BundleLife → Option LifeFault
+row_stopping o = option_and_then (λ (b : BundleLife). refuse_if (is_stopping b.state) StillStopping) o
+
+abbrev is_stopping_one : Option BundleLife → Bool
+is_stopping_one o = option_map_or (λ (b : BundleLife). is_stopping b.state) o false
+
+idle_state : (s : BundleState) (rest : List (Option LifeFault))
+    → first_some (refuse_if (is_active s) (WrongState (state_number s)) ∷ refuse_if (is_stopping s) StillStopping ∷ rest) ≡ None
+    → is_stopping s ≡ false
 idle_state Installed rest free = refl
 idle_state Resolved rest free = refl
 idle_state Active rest free = refl
 idle_state Stopping rest free = absurd cc
 
-idle : (o : Option BundleLife) (n : ℕ) (rest : List (Option LifeFault)) → first_some (refuse_if (is_none o) (NoBundle n) ∷ option_and_then (λ (b : BundleLife). refuse_if (is_active b.state) (WrongState (state_number b.state))) o ∷ option_and_then (λ (b : BundleLife). refuse_if (is_stopping b.state) StillStopping) o ∷ rest) ≡ None
-    → option_map_or (λ (b : BundleLife). is_stopping b.state) o false ≡ false
+idle : (o : Option BundleLife) (n : ℕ) (rest : List (Option LifeFault))
+    → first_some (refuse_if (is_none o) (NoBundle n) ∷ row_active o ∷ row_stopping o ∷ rest) ≡ None → is_stopping_one o ≡ false
 idle None n rest free = refl
 idle (Some b) n rest free = idle_state b.state rest free
 
-startable_state : (s : BundleState) → first_some (None ∷ refuse_if (is_stopping s) StillStopping ∷ []) ≡ None → is_stopping s ≡ false
+startable_state : (s : BundleState) → first_some (refuse_if (is_stopping s) StillStopping ∷ []) ≡ None → is_stopping s ≡ false
 startable_state Installed free = refl
 startable_state Resolved free = refl
 startable_state Active free = refl
 startable_state Stopping free = absurd cc
 
-startable : (o : Option BundleLife) (n : ℕ) → first_some (refuse_if (is_none o) (NoBundle n) ∷ option_and_then (λ (b : BundleLife). refuse_if (is_stopping b.state) StillStopping) o ∷ []) ≡ None → option_map_or (λ (b : BundleLife). is_stopping b.state) o false ≡ false
+startable : (o : Option BundleLife) (n : ℕ) → first_some (refuse_if (is_none o) (NoBundle n) ∷ row_stopping o ∷ []) ≡ None → is_stopping_one o ≡ false
 startable None n free = refl
 startable (Some b) n free = startable_state b.state free
 
@@ -94,7 +109,8 @@ startable (Some b) n free = startable_state b.state free
 
 module _ (t : BundleTable) (apart : HasOneOfEach (λ (b : BundleLife). b.number) t.rows) (n : ℕ) where
   -- a bundle that is STOPPING isn't this one
-  other : state_is is_stopping t.rows n ≡ false → (b : BundleLife) → Contains t.rows b → stops b ≡ true → (b.number == n) ≡ false
+  other : state_is is_stopping t.rows n ≡ false
+      → (b : BundleLife) → Contains t.rows b → stops b ≡ true → (b.number == n) ≡ false
   other rests b here on = go (b.number == n) refl
     where
       go : (k : Bool) → (b.number == n) ≡ k → k ≡ false
@@ -107,10 +123,12 @@ module _ (t : BundleTable) (apart : HasOneOfEach (λ (b : BundleLife). b.number)
         (λ b here on. ap (λ k. stops (cond k (record b { name = name; version = version; state = Installed }) b)) (other rests b here on) ∙ on)
 
     activated_stays : count_by stops t.rows ≤ count_by stops (map (in_state n Active) t.rows)
-    activated_stays = count_mapped stops (in_state n Active) t.rows (λ b here on. ap (λ k. stops (cond k (record b { state = Active }) b)) (other rests b here on) ∙ on)
+    activated_stays = count_mapped stops (in_state n Active) t.rows
+        (λ b here on. ap (λ k. stops (cond k (record b { state = Active }) b)) (other rests b here on) ∙ on)
 
     removed_stays : count_by stops t.rows ≤ count_by stops (filter (λ (b : BundleLife). not (b.number == n)) t.rows)
-    removed_stays = count_kept stops (λ (b : BundleLife). not (b.number == n)) t.rows (λ b here on. ap not (other rests b here on))
+    removed_stays = count_kept stops (λ (b : BundleLife). not (b.number == n)) t.rows
+        (λ b here on. ap not (other rests b here on))
 
 stopping_stays : (n : ℕ) (rows : List BundleLife) → count_by stops rows ≤ count_by stops (map (in_state n Stopping) rows)
 stopping_stays n rows = count_mapped stops (in_state n Stopping) rows (λ b here on. go b (b.number == n) on)
@@ -120,7 +138,8 @@ stopping_stays n rows = count_mapped stops (in_state n Stopping) rows (λ b here
     go b false on = on
 
 -- a table with more events, and no fewer that are STOPPING
-grown : (t now : BundleTable) (more : List BundleEvent) → now.events ≡ t.events ++ more → count_by stops t.rows ≤ count_by stops now.rows → WasSaved t now (saved_of t)
+grown : (t now : BundleTable) (more : List BundleEvent) → now.events ≡ t.events ++ more
+    → count_by stops t.rows ≤ count_by stops now.rows → WasSaved t now (saved_of t)
 grown t now more events owed = record {
   is = refl;
   more = more;
@@ -133,8 +152,10 @@ left t = grown t t [] (sym (append-nil t.events)) (omega arith)
 
 -- what undoes a step is the table as it was saved before it
 pub saved_before : (t : BundleTable) (step : Step) → MayChange t step → WasSaved t (bundles_by step t) (saved_of t)
-saved_before t (Commanded (Install doc)) may = grown t (bundles_by (Commanded (Install doc)) t) (events_of (t.numbered + 1) (1 ∷ [])) refl
-    (let both = sum_by-append (λ (b : BundleLife). cond (stops b) 1 0) t.rows (new_row (t.numbered + 1) doc.location doc.name doc.version ∷ []) in omega (arith, both))
+saved_before t (Commanded (Install doc)) may =
+    let row = new_row (t.numbered + 1) doc.location doc.name doc.version in
+    let both = sum_by-append (λ (b : BundleLife). cond (stops b) 1 0) t.rows (row ∷ []) in
+    grown t (bundles_by (Commanded (Install doc)) t) (events_of (t.numbered + 1) (1 ∷ [])) refl (omega (arith, both))
 saved_before t (Commanded (Update n doc)) may = grown t (bundles_by (Commanded (Update n doc)) t) (events_of n (unresolving n t.rows ++ 8 ∷ [])) refl
     (renamed_stays t may.apart n (idle (bundle_of t.rows n) n (same_name doc.name doc.version n t ∷ []) may.takes) doc.name doc.version)
 saved_before t (Commanded (Start n)) may = grown t (bundles_by (Commanded (Start n)) t) (events_of n (resolving n t.rows ++ 128 ∷ 2 ∷ [])) refl

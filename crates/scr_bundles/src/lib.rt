@@ -3,8 +3,6 @@
 
 mod changes;
 mod laws;
-mod stops;
 
 pub use changes::{change_bundles, put_back};
-pub use laws::{note_step_may_change, note_stops_may_complete};
-pub use stops::complete_stops;
+pub use laws::note_step_may_change;
