@@ -2,7 +2,10 @@
 //! the gates that are shut, the gets that stand, and what listeners are told.
 #![tactic(auto)]
 
+mod change_events;
 mod completed_stops;
+mod component_changes;
+mod direct_changes;
 mod endings;
 mod failures;
 mod gates;
