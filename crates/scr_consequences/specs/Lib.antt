@@ -1,3 +1,4 @@
+pub mod BundleSteps
 pub mod Changes
 pub mod Ends
 pub mod Gets

@@ -2,6 +2,7 @@
 //! the gates that are shut, the gets that stand, and what listeners are told.
 #![tactic(auto)]
 
+mod bundle_steps;
 mod change_events;
 mod completed_stops;
 mod component_changes;
@@ -21,6 +22,7 @@ mod sorted_numbers;
 mod stopped_bundles;
 mod telling;
 
+pub use bundle_steps::{change_bundles, note_allowed, put_back};
 pub use completed_stops::{complete_stops, note_bundles, note_stops};
 pub use endings::{ends, is_active_bundle, is_ending};
 pub use failures::{ending_in, failing_of, failures_of};
