@@ -1,7 +1,5 @@
 pub mod AllChanges
-pub mod AllowedSteps
 pub mod BundleNumbers
-pub mod BundleRoom
 pub mod DirectLemmas
 pub mod DrainingLemmas
 pub mod FilterLemmas

@@ -1,4 +1,3 @@
-pub mod BundleSteps
 pub mod Changes
 pub mod Ends
 pub mod Gets

@@ -2,7 +2,6 @@
 //! the gates that are shut, the gets that stand, and what listeners are told.
 #![tactic(auto)]
 
-mod bundle_steps;
 mod change_events;
 mod completed_stops;
 mod component_changes;
@@ -18,11 +17,11 @@ mod pass_places;
 mod passes;
 mod platform_services;
 mod registered;
+mod reopened;
 mod sorted_numbers;
 mod stopped_bundles;
 mod telling;
 
-pub use bundle_steps::{change_bundles, note_allowed, put_back};
 pub use completed_stops::{complete_stops, note_bundles, note_stops};
 pub use endings::{ends, is_active_bundle, is_ending};
 pub use failures::{ending_in, failing_of, failures_of};
@@ -32,5 +31,6 @@ pub use held_services::{holds, is_service_held, unregistered_held_between};
 pub use instances::{has_failed, has_turn, is_active};
 pub use passes::pass_in;
 pub use platform_services::{condition, direct_services};
+pub use reopened::reopened_by;
 pub use stopped_bundles::{keeps_bundle, stopped_in};
 pub use telling::{note_listeners, tell_changes};
