@@ -2,7 +2,10 @@
 //! the gates that are shut, the gets that stand, and what listeners are told.
 #![tactic(auto)]
 
+mod change_events;
 mod completed_stops;
+mod component_changes;
+mod direct_changes;
 mod endings;
 mod failures;
 mod gates;
@@ -14,6 +17,7 @@ mod pass_places;
 mod passes;
 mod platform_services;
 mod registered;
+mod reopened;
 mod sorted_numbers;
 mod stopped_bundles;
 mod telling;
@@ -27,5 +31,6 @@ pub use held_services::{holds, is_service_held, unregistered_held_between};
 pub use instances::{has_failed, has_turn, is_active};
 pub use passes::pass_in;
 pub use platform_services::{condition, direct_services};
+pub use reopened::reopened_by;
 pub use stopped_bundles::{keeps_bundle, stopped_in};
 pub use telling::{note_listeners, tell_changes};

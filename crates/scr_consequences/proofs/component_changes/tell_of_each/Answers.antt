@@ -9,7 +9,7 @@ use Rattle.scr_consequences.specs.Changes.{change_at}
 use Rattle.scr_world.specs.Lists.{change_between, row_at}
 use Rattle.service_listeners.specs.Listening.{after_changes}
 use Rattle.service_registry.specs.declared.row.ServiceRow.{ServiceRow}
-use Rattle.scr_consequences.proofs.telling.tell_of_each.Goals as goal
+use Rattle.scr_consequences.proofs.component_changes.tell_of_each.Goals as goal
 
 pub loop-component-init : goal.loop-component-init
 loop-component-init c = sym (after_none c.args.listeners.now)

@@ -5,7 +5,7 @@ use Rattle.scr_consequences.specs.Changes.{change_from}
 use Rattle.scr_world.specs.Lists.{change_between}
 use Rattle.service_listeners.specs.Listening.{after_changes}
 use Rattle.service_registry.specs.declared.row.ServiceRow.{ServiceRow}
-use Rattle.scr_consequences.proofs.telling.tell_of_old.Goals as goal
+use Rattle.scr_consequences.proofs.direct_changes.tell_of_old.Goals as goal
 
 pub loop-row-init : goal.loop-row-init
 loop-row-init c = sym (after_none c.args.listeners.now)

@@ -1,7 +1,7 @@
 use Rattle.std.proofs.Common.{sym}
 use Rattle.scr_consequences.proofs.TellingLemmas.{after_none, told_more, told_next, told_so_far}
 use Rattle.scr_consequences.specs.Changes.{change_of_new}
-use Rattle.scr_consequences.proofs.telling.tell_of_new.Goals as goal
+use Rattle.scr_consequences.proofs.direct_changes.tell_of_new.Goals as goal
 
 pub loop-row-init : goal.loop-row-init
 loop-row-init c = sym (after_none c.args.listeners.now)

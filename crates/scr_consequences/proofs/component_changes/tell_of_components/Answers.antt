@@ -7,7 +7,7 @@ use Rattle.component_state.specs.declared.component.Component.{Component}
 use Rattle.scr_consequences.proofs.MovedLemmas.{fewer}
 use Rattle.scr_consequences.specs.Changes.{change_at}
 use Rattle.service_listeners.specs.Listening.{Change, after_changes}
-use Rattle.scr_consequences.proofs.telling.tell_of_components.Goals as goal
+use Rattle.scr_consequences.proofs.component_changes.tell_of_components.Goals as goal
 
 pub returns-clause-ok : goal.returns-clause-ok
 returns-clause-ok c =
