@@ -135,7 +135,7 @@ fn due_of_all(alloc: Global, own: &OwnRows, world: &World) -> Result<Option<DueR
     ensures { IfOk result (λ due. due ≡ due_of_all world.now) }
 {
     match due_as(alloc, own, world, Phase::Active, false, &world.whiteboard)? {
-        Some(due) => Ok(Some(due)),
+        Some(first) => Ok(Some(first)),
         None => due_among(alloc, own, world, world.instances.as_slice()),
     }
 }
