@@ -1,9 +1,8 @@
 -- What an instance desires, by its view and by the list of what it desires.
-use Rattle.std.proofs.Common.{◌≡◌, ◌∙◌, ap, sym, refl, ℕ, List, [], ◌∷◌, ◌++◌, Bool, true, false, ◌||◌, ◌&&◌}
-use Rattle.std.specs.Prelude.{map, ◌==◌, flat_map}
+use Rattle.std.proofs.Common.{◌≡◌, ◌∙◌, ap, sym, refl, ℕ, List, [], ◌∷◌, Bool, false, ◌||◌, ◌&&◌}
+use Rattle.std.specs.Prelude.{map, ◌==◌}
 use Rattle.std.specs.List.{list_any}
 use Rattle.std.proofs.lemmas.List.Folds.{list_any-append}
-use Rattle.callback_orders.specs.declared.instance_view.Phase.{Phase}
 use Rattle.callback_orders.specs.declared.instance_view.ReferenceView.{ReferenceView}
 use Rattle.callback_orders.specs.declared.instance_view.Wish.{Wish}
 use Rattle.callback_orders.specs.References.{is_desired}
@@ -13,9 +12,8 @@ use Rattle.component_state.specs.Components.{consumer_for}
 use Rattle.prop_map.specs.Words.{has, with_places}
 use Rattle.scr_world.specs.declared.instance.Instance.{Instance}
 use Rattle.scr_world.specs.declared.world.World.{World}
-use Rattle.scr_world.specs.Views.{bundle_of_instance, desired_unless_ending, ends, is_ready, reference_view, references_in, view_as, view_of, whiteboard_view}
-use Rattle.scr_world.specs.Wanted.{ConsumerView, consumer_views, desires, is_desired_by, missing}
-use Rattle.scr_dues.specs.declared.desiring.Desiring.{Desiring}
+use Rattle.scr_world.specs.Views.{bundle_of_instance, desired_unless_ending, ends, is_ready, reference_view, references_in, view_of, whiteboard_view}
+use Rattle.scr_world.specs.Wanted.{consumer_views, desires, is_desired_by, missing}
 use Rattle.scr_dues.specs.Desires.{all_desiring, are_desiring, desired_for_all, desiring_of, desiring_whiteboard, is_desired_of}
 use Rattle.scr_dues.specs.FirstDues.{missing_keys}
 use Rattle.scr_dues.specs.Wanting.{missing_where}

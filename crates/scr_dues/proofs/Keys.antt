@@ -1,6 +1,6 @@
 -- Keys that are missing, one component configuration after the other.
 use Rattle.std.proofs.Common.{◌≡◌, ◌∙◌, ap, sym, refl, cond, ℕ, List, [], ◌∷◌, ◌++◌, Bool, true, false}
-use Rattle.std.specs.Prelude.{map, filter, flat_map, not, ◌&&◌, if◌then◌else◌}
+use Rattle.std.specs.Prelude.{map, filter, flat_map, ◌&&◌, if◌then◌else◌}
 use Rattle.std.proofs.lemmas.List.Elements.{filter-append}
 use Rattle.std.proofs.lemmas.List.{map-append}
 use Rattle.callback_orders.specs.declared.instance_view.Key.{Key}

@@ -7,3 +7,5 @@ pub mod Desired
 pub mod Keys
 pub mod DueLemmas
 pub mod BeginLemmas
+pub mod LeanLemmas
+pub mod LeanViews

@@ -1,5 +1,5 @@
 -- Services that meet a need, in lists one behind the other, and what a dynamic reference desires.
-use Rattle.std.proofs.Common.{◌≡◌, ◌∙◌, ap, sym, refl, cond, ℕ, List, ◌++◌, Bool, true, false, filter, map}
+use Rattle.std.proofs.Common.{◌≡◌, ◌∙◌, ap, sym, refl, ℕ, List, ◌++◌, Bool, true, false, filter, map}
 use Rattle.std.proofs.lemmas.List.{map-append}
 use Rattle.std.proofs.lemmas.List.Elements.{filter-append}
 use Rattle.prop_map.specs.declared.reference_words.Policy.{Policy}

@@ -1,10 +1,16 @@
 -- Numbers in the order of what says how good their services are.
-use Rattle.std.proofs.Common.{◌≡◌, ◌∙◌, ap, sym, refl, ℕ, List, [], ◌∷◌}
+use Rattle.std.proofs.Common.{◌≡◌, ◌<◌, ◌∙◌, ap, arith, sym, refl, ℕ, Bool, List, [], ◌∷◌, length}
 use Rattle.std.specs.Prelude.{map, ℤ}
 use Rattle.prop_map.specs.Words.{in_order}
 use Rattle.service_registry.specs.declared.best_first.Ranked.{Ranked}
 use Rattle.service_registry.specs.Services.{ranked_before, ranks_before}
 use Rattle.service_registry.proofs.Sorting.{in_order_made}
+
+-- a list of one item is in order
+pub few_in_order : {X : Type 0} (before : X → X → Bool) (xs : List X) → length xs < 2 → xs ≡ in_order before xs
+few_in_order before [] few = refl
+few_in_order before (x ∷ []) few = refl
+few_in_order before (x ∷ y ∷ xs) few = absurd (omega (arith, few))
 
 module _ (rank : ℕ → ℤ) where
   abbrev pub ranked_by : ℕ → Ranked

@@ -36,7 +36,10 @@ fn choice(
     place: u64,
     reference: &Reference,
 ) -> Result<Choice, OutOfMemory>
-    ensures { IfOk result (λ c. c ≡ record { reference = place; services = (let n = need_of properties.now reference.now in chosen n (targets n (registered_services world.now))) }) }
+    ensures { IfOk result (λ c. c ≡ record {
+      reference = place;
+      services = (let n = need_of properties.now reference.now in chosen n (targets n (registered_services world.now)));
+    }) }
 {
     let need = need_of(alloc, properties, reference)?;
     let services = targets(alloc, own, world, &need)?;
@@ -242,7 +245,8 @@ fn begin_told(
     world: &World,
     due: DueRef,
 ) -> Result<Option<Beginning>, OutOfMemory>
-    ensures { IfOk result (λ o. option_map step_of o ≡ option_map (begin_for world.now due) (find (λ (i : Instance). i.number == instance_in due) (all_instances world.now))) }
+    ensures { IfOk result (λ o. option_map step_of o
+        ≡ option_map (begin_for world.now due) (find (λ (i : Instance). i.number == instance_in due) (all_instances world.now))) }
 {
     match instance_of(world, instance_in(due)) {
         Some(instance) => Ok(Some(begin_for(alloc, own, world, due, instance)?)),

@@ -10,16 +10,16 @@ ghost use Rattle.std.specs.Prelude.{◌≡◌, ◌&&◌, IfOk, None, Some, false
 ghost use Rattle.std.specs.List.{slice_get};
 
 use crate::endings::ends;
+use crate::lean_views::lean_view_as;
 use crate::own_rows::OwnRows;
 use crate::readiness::{has_holder, is_active_phase};
-use crate::views::view_as;
 use crate::wanted::missing_keys;
 use callback_orders::{DueRef, Key, Phase, due_of, is_outstanding, phase_of};
 use prop_map::OutOfMemory;
 use scr_world::{Instance, World};
 use std::alloc::Global;
 
-// By a view in which nobody is said to hold it: that isn't looked at, unless it is active and ending.
+// By a view in which nobody is said to hold it: that isn't looked at, unless it is active and ending; nor are other parts.
 fn due_by_view(
     alloc: Global,
     own: &OwnRows,
@@ -31,7 +31,7 @@ fn due_by_view(
     requires { (ending && is_active_phase phase) ≡ false }
     ensures { IfOk result (λ due. due ≡ due_as phase ending world.now instance.now) }
 {
-    let view = view_as(alloc, own, world, phase, ending, true, instance)?;
+    let view = lean_view_as(alloc, own, world, phase, ending, instance)?;
     Ok(due_of(&view))
 }
 
@@ -135,7 +135,7 @@ fn due_of_all(alloc: Global, own: &OwnRows, world: &World) -> Result<Option<DueR
     ensures { IfOk result (λ due. due ≡ due_of_all world.now) }
 {
     match due_as(alloc, own, world, Phase::Active, false, &world.whiteboard)? {
-        Some(due) => Ok(Some(due)),
+        Some(first) => Ok(Some(first)),
         None => due_among(alloc, own, world, world.instances.as_slice()),
     }
 }

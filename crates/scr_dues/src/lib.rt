@@ -10,6 +10,7 @@ mod desires;
 mod desiring;
 mod dues;
 mod endings;
+mod lean_views;
 mod own_rows;
 mod readiness;
 mod room;

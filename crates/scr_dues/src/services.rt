@@ -147,6 +147,10 @@ pub fn sorted(
 ) -> Result<Vec<u64>, OutOfMemory>
     ensures { IfOk result (λ v. v.items ≡ sorted world.now services.now) }
 {
+    // One alone is in order, whatever its ranking.
+    if services.len() < 2 {
+        return Vec::from_slice(alloc, services);
+    }
     let ranked = ranked_ones(alloc, own, world, services)?;
     let numbers = numbers_best_first(alloc, ranked)?;
     Ok(numbers)

@@ -69,7 +69,8 @@ fn held_services(
     instance: &Instance,
     reference: &Str,
 ) -> Result<Vec<HeldService>, OutOfMemory>
-    ensures { IfOk result (λ v. v.items ≡ map (λ s. record { service = s; changed = is_changed world.now instance.now reference.now s }) (sorted world.now (held_for reference.now instance.now.callbacks))) }
+    ensures { IfOk result (λ v. v.items ≡ map (λ s. record { service = s; changed = is_changed world.now instance.now reference.now s })
+        (sorted world.now (held_for reference.now instance.now.callbacks))) }
 {
     let held = held_for(alloc, reference, instance.callbacks.as_slice())?;
     let best_first = sorted(alloc, own, world, &held)?;

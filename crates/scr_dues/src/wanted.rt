@@ -89,7 +89,8 @@ fn add_key(
     period: &OpenPeriod,
     consumer: u64,
 ) -> Result<(), OutOfMemory>
-    ensures { OnOk result (found.new.items ≡ found.old.items ++ filter (is_missing world.now) (keys_where world.now (are_desiring desiring.now) component.now period.now (consumer ∷ []))) }
+    ensures { OnOk result (found.new.items ≡ found.old.items
+        ++ filter (is_missing world.now) (keys_where world.now (are_desiring desiring.now) component.now period.now (consumer ∷ []))) }
 {
     let key = Key {
         configuration: component.number,
@@ -111,7 +112,9 @@ fn add_bundle_keys(
     period: &OpenPeriod,
     bundles: &[BundleLife],
 ) -> Result<(), OutOfMemory>
-    ensures { OnOk result (found.new.items ≡ found.old.items ++ filter (is_missing world.now) (keys_where world.now (are_desiring desiring.now) component.now period.now (map (λ (b : BundleLife). b.number) bundles.now))) }
+    ensures { OnOk result (found.new.items ≡ found.old.items
+        ++ filter (is_missing world.now)
+        (keys_where world.now (are_desiring desiring.now) component.now period.now (map (λ (b : BundleLife). b.number) bundles.now))) }
 {
     for bundle in bundles {
         add_key(found, world, desiring, component, period, bundle.number)?;
@@ -126,7 +129,8 @@ fn add_keys_of(
     component: &Component,
     period: &OpenPeriod,
 ) -> Result<(), OutOfMemory>
-    ensures { OnOk result (found.new.items ≡ found.old.items ++ filter (is_missing world.now) (keys_of_where world.now (are_desiring desiring.now) component.now period.now)) }
+    ensures { OnOk result (found.new.items ≡ found.old.items
+        ++ filter (is_missing world.now) (keys_of_where world.now (are_desiring desiring.now) component.now period.now)) }
 {
     add_key(found, world, desiring, component, period, 0)?;
     if !has_singleton_scope(component) {

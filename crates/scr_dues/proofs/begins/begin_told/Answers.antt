@@ -1,8 +1,8 @@
-use Rattle.std.proofs.Common.{◌≡◌, ◌∙◌, ap, Some}
+use Rattle.std.proofs.Common.{◌∙◌, ap, Some}
 use Rattle.std.specs.Prelude.{option_map, find, ◌==◌}
 use Rattle.scr_world.specs.declared.instance.Instance.{Instance}
 use Rattle.scr_world.specs.declared.step.Step.{Step}
-use Rattle.scr_world.specs.Dues.{begin_for, instance_in}
+use Rattle.scr_world.specs.Dues.{begin_for}
 use Rattle.scr_world.specs.Worlds.{all_instances}
 use Rattle.scr_dues.proofs.begins.begin_told.Goals as goal
 

@@ -1,0 +1,163 @@
+//! What decides which callback of an instance is due, without what isn't looked at: whether it is held, whether a service that it
+//! holds is ready, and whether one changed of which it isn't told (our own).
+ghost use Rattle.prop_map.specs.Words.{has, with_places};
+ghost use Rattle.scr_dues.specs.LeanViews.{best_held, lean_reference, lean_view_as};
+ghost use Rattle.scr_world.specs.Views.{is_changed, is_ready};
+ghost use Rattle.std.specs.Prelude.{◌≡◌, ◌&&◌, IfOk, map, not};
+
+use crate::changes::{awaits_modified, is_changed};
+use crate::components::references_in;
+use crate::desires::desired_for;
+use crate::own_rows::OwnRows;
+use crate::readiness::{bundle_of_instance, is_ready};
+use crate::services::sorted;
+use callback_orders::{
+    HeldService, InstanceView, Phase, ReferenceView, Wish, held_for, is_outstanding,
+};
+use component_dto::Reference;
+use prop_map::{List, OutOfMemory, Str};
+use scr_world::{Instance, World};
+use std::alloc::Global;
+
+fn is_ready_anew(own: &OwnRows, world: &World, bundle: u64, held: &[u64], service: u64) -> bool
+    ensures { result ≡ (not (has held.now service) && is_ready world.now bundle service) }
+{
+    !held.contains(&service) && is_ready(own, world, bundle, service)
+}
+
+// Services, each with whether it isn't held and is ready for a bundle.
+fn wishes(
+    alloc: Global,
+    own: &OwnRows,
+    world: &World,
+    bundle: u64,
+    held: &[u64],
+    services: &[u64],
+) -> Result<Vec<Wish>, OutOfMemory>
+    ensures { IfOk result (λ v. v.items ≡ map (λ s. record { service = s; ready = not (has held.now s) && is_ready world.now bundle s }) services.now) }
+{
+    let mut found = Vec::new(alloc);
+    for &service in services {
+        found.push(Wish {
+            service,
+            ready: is_ready_anew(own, world, bundle, held, service),
+        })?;
+    }
+    Ok(found)
+}
+
+fn is_to_be_told(
+    own: &OwnRows,
+    world: &World,
+    told: bool,
+    instance: &Instance,
+    reference: &Str,
+    service: u64,
+) -> bool
+    ensures { result ≡ (told && is_changed world.now instance.now reference.now service) }
+{
+    told && is_changed(own, world, instance, reference, service)
+}
+
+// Services, each with whether it changed and an instance is told of that.
+fn changes(
+    alloc: Global,
+    own: &OwnRows,
+    world: &World,
+    told: bool,
+    instance: &Instance,
+    reference: &Str,
+    services: &[u64],
+) -> Result<Vec<HeldService>, OutOfMemory>
+    ensures { IfOk result (λ v. v.items ≡ map (λ s. record { service = s; changed = told && is_changed world.now instance.now reference.now s }) services.now) }
+{
+    let mut found = Vec::new(alloc);
+    for &service in services {
+        found.push(HeldService {
+            service,
+            changed: is_to_be_told(own, world, told, instance, reference, service),
+        })?;
+    }
+    Ok(found)
+}
+
+// What an instance holds for the reference of a name, best first.
+fn best_held(
+    alloc: Global,
+    own: &OwnRows,
+    world: &World,
+    instance: &Instance,
+    reference: &Str,
+) -> Result<Vec<u64>, OutOfMemory>
+    ensures { IfOk result (λ v. v.items ≡ best_held world.now instance.now reference.now) }
+{
+    let held = held_for(alloc, reference, instance.callbacks.as_slice())?;
+    sorted(alloc, own, world, &held)
+}
+
+fn lean_reference(
+    alloc: Global,
+    own: &OwnRows,
+    world: &World,
+    ending: bool,
+    instance: &Instance,
+    place: u64,
+    reference: &Reference,
+) -> Result<ReferenceView, OutOfMemory>
+    ensures { IfOk result (λ v. v ≡ lean_reference ending world.now instance.now (place, reference.now)) }
+{
+    let desired = desired_for(alloc, own, world, ending, instance, place, reference)?;
+    let held = best_held(alloc, own, world, instance, &reference.name)?;
+    let bundle = bundle_of_instance(world, instance);
+    let told = reference.updated.is_some();
+    let wishes = wishes(alloc, own, world, bundle, &held, &desired)?;
+    let changes = changes(alloc, own, world, told, instance, &reference.name, &held)?;
+    Ok(ReferenceView {
+        told,
+        desired: List::of(wishes),
+        held: List::of(changes),
+    })
+}
+
+fn lean_references(
+    alloc: Global,
+    own: &OwnRows,
+    world: &World,
+    ending: bool,
+    instance: &Instance,
+    references: &[Reference],
+) -> Result<Vec<ReferenceView>, OutOfMemory>
+    ensures { IfOk result (λ v. v.items ≡ map (lean_reference ending world.now instance.now) (with_places 0 references.now)) }
+{
+    let mut found = Vec::new(alloc);
+    for (at, reference) in references.iter().enumerate() {
+        found.push(lean_reference(alloc, own, world, ending, instance, at as u64, reference)?)?;
+    }
+    Ok(found)
+}
+
+/// What decides it, where the instance is in this phase, and ends or doesn't, as if nobody held it.
+#[tactic(auto, unfolding(crate::specs::LeanViews::lean_view_as))]
+pub(crate) fn lean_view_as(
+    alloc: Global,
+    own: &OwnRows,
+    world: &World,
+    phase: Phase,
+    ending: bool,
+    instance: &Instance,
+) -> Result<InstanceView, OutOfMemory>
+    ensures { IfOk result (λ v. v ≡ lean_view_as phase ending world.now instance.now) }
+{
+    let references = references_in(own, world, instance);
+    let views = lean_references(alloc, own, world, ending, instance, references)?;
+    Ok(InstanceView {
+        instance: instance.number,
+        phase,
+        ending,
+        outstanding: is_outstanding(instance.callbacks.as_slice()),
+        drained: instance.drained,
+        unheld: true,
+        stale: awaits_modified(world, instance),
+        references: List::of(views),
+    })
+}
