@@ -1,3 +1,4 @@
+pub mod Board
 pub mod Events
 pub mod Inside
 pub mod Reaching

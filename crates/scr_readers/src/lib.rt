@@ -3,6 +3,7 @@
 #![tactic(auto)]
 
 mod best_held;
+mod board;
 mod bundles;
 mod calls;
 mod calls_at;
@@ -14,6 +15,7 @@ mod live;
 mod numbered_services;
 mod services;
 
+pub use board::changes_board;
 pub use bundles::{bundle_events_after, bundle_lines};
 pub use calls::{active, nested, outer};
 pub use calls_at::{active_at, nested_at, outer_at};
