@@ -6,3 +6,4 @@ pub mod BoundServices
 pub mod BestHeld
 pub mod FirstReached
 pub mod NarrowSlots
+pub mod TurnLemmas

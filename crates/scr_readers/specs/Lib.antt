@@ -2,3 +2,4 @@ pub mod Board
 pub mod Events
 pub mod Inside
 pub mod Reaching
+pub mod Turns

@@ -14,6 +14,7 @@ mod instances;
 mod live;
 mod numbered_services;
 mod services;
+mod turn_lines;
 
 pub use board::changes_board;
 pub use bundles::{bundle_events_after, bundle_lines};
@@ -25,3 +26,4 @@ pub use held::{held_lines, held_rows, held_services};
 pub use instances::ending;
 pub use live::{Inward, InwardAt, Live, LiveAt, Outer, OuterAt};
 pub use services::{find_services, service_lines, services_by_number};
+pub use turn_lines::{end_turn, turns_above};
