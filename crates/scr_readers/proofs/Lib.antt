@@ -7,3 +7,4 @@ pub mod BestHeld
 pub mod FirstReached
 pub mod NarrowSlots
 pub mod TurnLemmas
+pub mod CountedTurns

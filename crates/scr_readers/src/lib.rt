@@ -26,4 +26,4 @@ pub use held::{held_lines, held_rows, held_services};
 pub use instances::ending;
 pub use live::{Inward, InwardAt, Live, LiveAt, Outer, OuterAt};
 pub use services::{find_services, service_lines, services_by_number};
-pub use turn_lines::{end_turn, turns_above};
+pub use turn_lines::{end_turn, note_turn_lines, turns_above};

@@ -1,8 +1,10 @@
 //! The turns of a journal, kept beside it by number (our own).
 ghost use Rattle.scr_readers.specs.Turns.{AreCounted};
-ghost use Rattle.scr_world.specs.TurnLines.{ended_line};
+ghost use Rattle.scr_world.specs.Legal.{IsLegal};
+ghost use Rattle.scr_world.specs.Steps.{History};
+ghost use Rattle.scr_world.specs.TurnLines.{ended_line, turn_lines};
 ghost use Rattle.scr_world.specs.declared.lines.TurnLine.{TurnLine};
-ghost use Rattle.std.specs.Prelude.{◌≡◌, drop, filter, map, nat_lt};
+ghost use Rattle.std.specs.Prelude.{◌≡◌, ℕ, drop, filter, map, nat_lt};
 
 use callback_orders::Outcome;
 use scr_world::TurnLine;
@@ -24,6 +26,11 @@ pub fn end_turn(lines: &mut [TurnLine], turn: u64, outcome: Outcome)
         lines[(turn - 1) as usize].outcome = Some(outcome);
     }
 }
+
+/// For contracts alone: the turns of every legal journal are numbered from 1 on.
+pub fn note_turn_lines()
+    ensures { (limit : ℕ) → (past : History) → IsLegal limit past → AreCounted 1 (turn_lines past) }
+{}
 
 fn lines_behind(lines: &[TurnLine], position: u64) -> &[TurnLine]
     ensures { result.now ≡ drop position lines.now }
