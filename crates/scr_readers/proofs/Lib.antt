@@ -6,3 +6,5 @@ pub mod BoundServices
 pub mod BestHeld
 pub mod FirstReached
 pub mod NarrowSlots
+pub mod TurnLemmas
+pub mod CountedTurns

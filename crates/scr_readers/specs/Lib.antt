@@ -1,3 +1,5 @@
+pub mod Board
 pub mod Events
 pub mod Inside
 pub mod Reaching
+pub mod Turns

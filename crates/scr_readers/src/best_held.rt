@@ -1,7 +1,7 @@
 //! The best of what an instance holds, found without memory (OSGi Compendium 8, chapter 112, "Bound Services").
 ghost use Rattle.callback_orders.specs.Lives.{held_for};
-ghost use Rattle.scr_readers.specs.Inside.{IsBestBy, better_by, better_one, bound_by, first_one};
 ghost use Rattle.prop_map.specs.Words.{has};
+ghost use Rattle.scr_readers.specs.Inside.{IsBestBy, better_by, better_one, bound_by, first_one};
 ghost use Rattle.scr_world.specs.Worlds.{sorted};
 ghost use Rattle.std.specs.Option.{option_to_list};
 ghost use Rattle.std.specs.Prelude.{◌≡◌, ◌&&◌, ◌||◌, ◌∷◌, [], ℕ, Bool};

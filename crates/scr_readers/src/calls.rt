@@ -2,7 +2,6 @@
 ghost use Rattle.component_state.specs.declared.component.Component.{Component};
 ghost use Rattle.scr_readers.specs.Inside.{first_one};
 ghost use Rattle.scr_readers.specs.Reaching.{HaveNarrowSlots, active_for, held_best_first, inward, inward_by, inward_to, is_direct, live_of, outer, server_of};
-ghost use Rattle.scr_world.specs.Calls.{has_token};
 ghost use Rattle.scr_world.specs.Consequences.{gate_of};
 ghost use Rattle.scr_world.specs.TurnSteps.{class_in};
 ghost use Rattle.scr_world.specs.Views.{bundle_of_instance};
@@ -94,7 +93,8 @@ fn nested_of(
     reference: &Str,
 ) -> Result<Inward, OutOfMemory>
     requires { HaveNarrowSlots world.now }
-    ensures { IfOk result (λ reached. reached ≡ inward_to world.now (bundle_of_instance world.now instance.now) (held_best_first world.now reference.now instance.now)) }
+    ensures { IfOk result (λ reached. reached
+        ≡ inward_to world.now (bundle_of_instance world.now instance.now) (held_best_first world.now reference.now instance.now)) }
 {
     let best = best_held(own, world, instance.callbacks.as_slice(), reference);
     let bundle = bundle_of_instance(world, instance);
@@ -128,7 +128,8 @@ fn inward_to(
     service: u64,
 ) -> Result<Inward, OutOfMemory>
     requires { HaveNarrowSlots world.now }
-    ensures { IfOk result (λ reached. reached ≡ (if is_direct world.now service then Inward.NoObject service else inward_by world.now service (server_of world.now bundle service))) }
+    ensures { IfOk result (λ reached. reached ≡ (if is_direct world.now service then Inward.NoObject service
+        else inward_by world.now service (server_of world.now bundle service))) }
 {
     if is_direct(own, world, service) {
         return Ok(Inward::NoObject { service });

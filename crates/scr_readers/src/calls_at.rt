@@ -78,7 +78,8 @@ fn inward_by_best(own: &OwnRows, world: &World, bundle: u64, best: Option<u64>) 
 // By the service that is the best one.
 fn inward_to(own: &OwnRows, world: &World, bundle: u64, service: u64) -> InwardAt
     requires { HaveNarrowSlots world.now }
-    ensures { result ≡ inward_at (if is_direct world.now service then NoObject service else inward_by world.now service (server_of world.now bundle service)) }
+    ensures { result ≡ inward_at (if is_direct world.now service then NoObject service
+        else inward_by world.now service (server_of world.now bundle service)) }
 {
     if is_direct(own, world, service) {
         return InwardAt::NoObject { service };

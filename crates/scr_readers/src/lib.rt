@@ -3,6 +3,7 @@
 #![tactic(auto)]
 
 mod best_held;
+mod board;
 mod bundles;
 mod calls;
 mod calls_at;
@@ -13,7 +14,9 @@ mod instances;
 mod live;
 mod numbered_services;
 mod services;
+mod turn_lines;
 
+pub use board::changes_board;
 pub use bundles::{bundle_events_after, bundle_lines};
 pub use calls::{active, nested, outer};
 pub use calls_at::{active_at, nested_at, outer_at};
@@ -23,3 +26,4 @@ pub use held::{held_lines, held_rows, held_services};
 pub use instances::ending;
 pub use live::{Inward, InwardAt, Live, LiveAt, Outer, OuterAt};
 pub use services::{find_services, service_lines, services_by_number};
+pub use turn_lines::{end_turn, note_turn_lines, turns_above};

@@ -115,7 +115,8 @@ fn add_opened(
     sought: &Filter,
     periods: &[OpenPeriod],
 ) -> Result<(), OutOfMemory>
-    ensures { OnOk result (ranks.new.items ≡ ranks.old.items ++ map ranked (filter (λ (r : ServiceRow). matches sought.now r.properties) (rows_of periods.now))) }
+    ensures { OnOk result (ranks.new.items ≡ ranks.old.items
+        ++ map ranked (filter (λ (r : ServiceRow). matches sought.now r.properties) (rows_of periods.now))) }
 {
     for period in periods {
         let row = &period.row;
