@@ -61,16 +61,16 @@ pub record WasBefore (w : World) (step : Step) (i : Instance) : Type 0 where
   pub calls : IsNext w step was i.callbacks
 
 -- the turn that begins tells an instance of its due callback
-record TellsDue (w : World) (instance : ℕ) (callback : Callback) : Type 0 where
-  one : Instance
-  view : InstanceView
-  there : Contains (all_instances w) one
-  seen : IsSeen w one view
-  number : instance ≡ one.number
-  due : DueRef
-  is_due : due_of view ≡ Some due
-  its_callback : callback ≡ callback_of (names_of w one) due
-  no_create : is_create callback ≡ false
+pub record TellsDue (w : World) (instance : ℕ) (callback : Callback) : Type 0 where
+  pub one : Instance
+  pub view : InstanceView
+  pub there : Contains (all_instances w) one
+  pub seen : IsSeen w one view
+  pub number : instance ≡ one.number
+  pub due : DueRef
+  pub is_due : due_of view ≡ Some due
+  pub its_callback : callback ≡ callback_of (names_of w one) due
+  pub no_create : is_create callback ≡ false
 
 abbrev pub its_number : Instance → ℕ
 its_number i = i.number
@@ -127,7 +127,7 @@ module _ (w : World) (apart : are_apart (map its_number (all_instances w)) ≡ t
       | inr new ↦ inl (creates new.0 (sym (ap (begin_of w) new.2) ∙ begin))
     ]
 
-    how_begun : next_begin w ≡ Some begins → ((callback ≡ Create) × (instance ≡ w.instances_numbered + 1)) ⊎ TellsDue w instance callback
+    pub how_begun : next_begin w ≡ Some begins → ((callback ≡ Create) × (instance ≡ w.instances_numbered + 1)) ⊎ TellsDue w instance callback
     how_begun may = go (due_in w) refl may
       where
         go : (o : Option DueRef) → due_in w ≡ o → option_and_then (begin_of w) o ≡ Some begins → ((callback ≡ Create) × (instance ≡ w.instances_numbered + 1)) ⊎ TellsDue w instance callback

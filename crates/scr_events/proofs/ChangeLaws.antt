@@ -55,6 +55,7 @@ pub record IsPair (was now : World) (before after : Option ServiceRow) : Type 0 
   pub old_listed : (old : ServiceRow) → before ≡ Some old → Contains (listed was) old
   pub new_listed : (fresh : ServiceRow) → after ≡ Some fresh → Contains (listed now) fresh
   pub gone : (old : ServiceRow) → before ≡ Some old → ((fresh : ServiceRow) → after ≡ Some fresh → fresh.id ≡ old.id → ⊥) → (x : ServiceRow) → Contains (listed now) x → x.id ≡ old.id → ⊥
+  pub came : (fresh : ServiceRow) → after ≡ Some fresh → ((old : ServiceRow) → before ≡ Some old → old.id ≡ fresh.id → ⊥) → (x : ServiceRow) → Contains (listed was) x → x.id ≡ fresh.id → ⊥
 
 module _ (was now : World) (tree : Tree) (s : ℕ) (one : (a b : ServiceRow) → Contains (listed now) a → Contains (listed now) b → a.id ≡ b.id → a ≡ b) where
   abbrev then : Bool

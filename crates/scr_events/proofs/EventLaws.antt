@@ -14,9 +14,10 @@ use Rattle.ldap_filter.specs.Trees.{Tree}
 use Rattle.ldap_filter.specs.Matching.{matches}
 use Rattle.prop_map.specs.Words.{has}
 use Rattle.scr_endings.proofs.PassOrders.{in_pass_order}
-use Rattle.scr_events.specs.Events.{IsToldAll, IsToldOf, matching, replayed}
+use Rattle.scr_events.specs.Events.{IsToldAll, IsToldOf, IsToldTruth, matching, replayed, tells_truth}
 use Rattle.scr_events.proofs.ChangeLaws.{IsPair, Keeps, Made, match_gone, match_is, match_was, pair_keeps, pair_makes_new, pair_makes_old}
 use Rattle.scr_events.proofs.ListenerSteps.{added_there, count_rises, listeners_counted, listeners_one, told_was}
+use Rattle.scr_events.proofs.EventTruths.{pair_true}
 use Rattle.scr_events.proofs.RowsAt.{IsListed, commanded, commanded_listed, component, component_indirect, component_listed, listed_kind, numbered_is, numbered_was, row_at_is, row_at_was}
 use Rattle.scr_events.proofs.Statuses.{replayed_status, status, status_of_all, status_over}
 use Rattle.scr_laws.proofs.Described.{into_flat}
@@ -38,6 +39,7 @@ use Rattle.scr_world.specs.declared.step.Step.{Step}
 use Rattle.scr_world.specs.declared.step.Step.TheVariants.{Command as Commanded, Begin, End, Drained, Got, Released}
 use Rattle.scr_world.specs.declared.world.World.{World}
 use Rattle.service_listeners.specs.declared.listener.Listener.{Listener}
+use Rattle.service_listeners.specs.declared.listener.ServiceEvent.{ServiceEvent}
 use Rattle.service_listeners.specs.Listening.{Change, events_for}
 use Rattle.service_registry.specs.declared.row.ServiceRow.{ServiceRow}
 use Rattle.service_registry.specs.Registries.{row_of}
@@ -88,6 +90,7 @@ module _ (limit : ℕ) (entry : Entry Step) (past : History) (legal : IsLegal li
     old_listed = λ old is. commanded_listed w old (numbered_was w.registry.rows n old is).0;
     new_listed = λ fresh is. commanded_listed then fresh (numbered_was then.registry.rows n fresh is).0;
     gone = λ old is other x h same. gone old (numbered_was w.registry.rows n old is) other x h (listed_kind then x h) same;
+    came = λ fresh is other x h same. came fresh (numbered_was then.registry.rows n fresh is) other x h (listed_kind w x h) same;
   }
     where
       gone : (old : ServiceRow) → Contains (world_of past).registry.rows old × (old.id ≡ n) → ((fresh : ServiceRow) → row_of (world_of (entry ∷ past)).registry.rows n ≡ Some fresh → fresh.id ≡ old.id → ⊥)
@@ -97,6 +100,13 @@ module _ (limit : ℕ) (entry : Entry Step) (past : History) (legal : IsLegal li
           let one = same_service old x (commanded_listed (world_of past) old was.0) h same in
           mixed x.direct (one.direct ∙ are.direct_flag old was.0) (ap (λ (r : ServiceRow). r.direct) (sym is) ∙ component_indirect limit (entry ∷ past) legal p k)
 
+      came : (fresh : ServiceRow) → Contains (world_of (entry ∷ past)).registry.rows fresh × (fresh.id ≡ n) → ((old : ServiceRow) → row_of (world_of past).registry.rows n ≡ Some old → old.id ≡ fresh.id → ⊥)
+          → (x : ServiceRow) → Contains (listed (world_of past)) x → IsListed (world_of past) x → x.id ≡ fresh.id → ⊥
+      came fresh now other x h (commanded k) same = other x (numbered_is (world_of past) are x k n (same ∙ now.1)) same
+      came fresh now other x h (component p k is some) same =
+          let one = same_service x fresh h (commanded_listed (world_of (entry ∷ past)) fresh now.0) (sym same) in
+          mixed fresh.direct (are_then.direct_flag fresh now.0) (one.direct ∙ ap (λ (r : ServiceRow). r.direct) (sym is) ∙ component_indirect limit past legal.1 p k)
+
   -- ---- services of component configurations
 
   component_pair : (n : ℕ) → IsPair w then (row_at w.open_periods n) (row_at then.open_periods n)
@@ -104,6 +114,7 @@ module _ (limit : ℕ) (entry : Entry Step) (past : History) (legal : IsLegal li
     old_listed = λ old is. old_there w old (row_at_was w.open_periods n old is);
     new_listed = λ fresh is. old_there then fresh (row_at_was then.open_periods n fresh is);
     gone = λ old is other x h same. gone old (row_at_was w.open_periods n old is) other x h (listed_kind then x h) same;
+    came = λ fresh is other x h same. came fresh (row_at_was then.open_periods n fresh is) other x h (listed_kind w x h) same;
   }
     where
       old_there : (v : World) (old : ServiceRow) → (p : OpenPeriod) × Contains v.open_periods p × (p.configuration ≡ n) × (p.row ≡ old) × (0 < old.id) → Contains (listed v) old
@@ -128,6 +139,27 @@ module _ (limit : ℕ) (entry : Entry Step) (past : History) (legal : IsLegal li
           let one = same_service old x (old_there (world_of past) old p) h same in
           mixed x.direct (are_then.direct_flag x k) (one.direct ∙ ap (λ (r : ServiceRow). r.direct) (sym p.3) ∙ component_indirect limit past legal.1 p.0 p.1)
       gone old p other x h (component q k is some) same = of_period old p other q k (ap number_of is ∙ same) (then_was limit entry past legal are q k)
+
+      came_period : (fresh : ServiceRow) → (found : ((q : OpenPeriod) × Contains (world_of (entry ∷ past)).open_periods q × (q.configuration ≡ n) × (q.row ≡ fresh) × (0 < fresh.id)))
+          → ((old : ServiceRow) → row_at (world_of past).open_periods n ≡ Some old → old.id ≡ fresh.id → ⊥)
+          → (p : OpenPeriod) → Contains (world_of past).open_periods p → p.row.id ≡ fresh.id → Period limit entry past legal are found.0 → ⊥
+      came_period fresh q other p k same (inl a) =
+          let some = subst (λ m. 0 < m) (sym same) q.4 in
+          let it = are.period_one a.was p a.there k (sym a.same.service.number ∙ ap number_of q.3 ∙ sym same) (subst (λ m. 0 < m) (sym (ap number_of q.3) ∙ a.same.service.number) q.4) in
+          other p.row (row_at_is (world_of past).open_periods (legal_sound limit past legal.1).plain.apart p k some n (ap (λ (o : OpenPeriod). o.configuration) (sym it) ∙ sym a.same.configuration ∙ q.2)) same
+      came_period fresh q other p k same (inr a) =
+          let high = new_number limit entry past legal are q.0 a (subst (λ m. 0 < m) (sym (ap number_of q.3)) q.4) in
+          let more = goes_up limit entry past legal are in
+          let low = are.period_given p k in
+          let is = ap number_of q.3 in
+          omega (arith, high, more, low, same, is)
+
+      came : (fresh : ServiceRow) → (q : OpenPeriod) × Contains (world_of (entry ∷ past)).open_periods q × (q.configuration ≡ n) × (q.row ≡ fresh) × (0 < fresh.id) → ((old : ServiceRow) → row_at (world_of past).open_periods n ≡ Some old → old.id ≡ fresh.id → ⊥)
+          → (x : ServiceRow) → Contains (listed (world_of past)) x → IsListed (world_of past) x → x.id ≡ fresh.id → ⊥
+      came fresh q other x h (commanded k) same =
+          let one = same_service x fresh h (old_there (world_of (entry ∷ past)) fresh q) (sym same) in
+          mixed fresh.direct (one.direct ∙ are.direct_flag x k) (ap (λ (r : ServiceRow). r.direct) (sym q.3) ∙ component_indirect limit (entry ∷ past) legal q.0 q.1)
+      came fresh q other x h (component p k is some) same = came_period fresh q other p k (ap number_of is ∙ same) (then_was limit entry past legal are q.0 q.1)
 
   -- a component configuration that exists stays, if only until the next command
   stays_by : (step : Step) (c : Component) → Contains w.components c → c.exists ≡ true → (k : Component) × Contains (components_by step w) k × (k.number ≡ c.number)
@@ -252,6 +284,30 @@ module _ (limit : ℕ) (entry : Entry Step) (past : History) (legal : IsLegal li
 
     entry_leads : status s (has (matching w tree) s) (flat_map (events_for tree) (changes_between w then)) ≡ has (matching then tree) s
     entry_leads = status_of_all (events_for tree) s (has (matching then tree) s) (changes_between w then) (has (matching w tree) s) keeps leads
+
+  module _ (tree : Tree) where
+    true_change : (c : Change) → Contains (changes_between w then) c → (e : ServiceEvent) → Contains (events_for tree c) e → tells_truth w then tree e ≡ true
+    true_change c h e k = elim (in_either (flat_map by_number (direct_between w then)) (flat_map by_component in_turn) c h) [
+      | inl direct ↦ (let n = joined_was by_number (direct_between w then) c direct in
+          pair_true w then tree (listed_one then are_then) (listed_one w are) (row_of w.registry.rows n.0) (row_of then.registry.rows n.0) (direct_pair n.0) c n.1.1 e k)
+      | inr other ↦ (let d = joined_was by_component in_turn c other in
+          pair_true w then tree (listed_one then are_then) (listed_one w are) (row_at w.open_periods d.0.number) (row_at then.open_periods d.0.number) (component_pair d.0.number) c d.1.1 e k)
+    ]
+
+    entry_truth : (e : ServiceEvent) → Contains (flat_map (events_for tree) (changes_between w then)) e → tells_truth w then tree e ≡ true
+    entry_truth e h = let c = joined_was (events_for tree) (changes_between w then) e h in true_change c.0 c.1.0 e c.1.1
+
+pub told_truth : (limit : ℕ) (entry : Entry Step) (past : History) → IsLegal limit (entry ∷ past) → (old new : Listener) → Contains (world_of past).listeners.rows old → Contains (world_of (entry ∷ past)).listeners.rows new → new.number ≡ old.number
+    → IsToldTruth (world_of past) (world_of (entry ∷ past)) old new
+told_truth limit entry past legal old new h k same =
+    let low = listeners_counted past old h in
+    let was = told_was entry past new k (omega (arith, low, same)) in
+    let it = listeners_one past was.0 old was.1 h (ap (λ (l : Listener). l.number) (sym was.2) ∙ same) in
+    let changes = changes_between (world_of past) (world_of (entry ∷ past)) in record {
+      more = flat_map (events_for old.filter) changes;
+      told = ap (λ (l : Listener). l.events) was.2 ∙ ap (λ (l : Listener). l.events ++ flat_map (events_for l.filter) changes) it;
+      true_each = entry_truth limit entry past legal old.filter;
+    }
 
 -- ---- over a journal
 

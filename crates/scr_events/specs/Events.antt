@@ -1,5 +1,6 @@
 -- What a listener knows by its events. OSGi Core 8, chapter 5, "Service Events": REGISTERED 1, MODIFIED 2, UNREGISTERING 4, MODIFIED_ENDMATCH 8.
-use Rattle.std.specs.Prelude.{◌≡◌, ℕ, ◌==◌, ◌||◌, List, [], ◌∷◌, ◌++◌, Bool, not, filter, if◌then◌else◌}
+use Rattle.std.specs.Prelude.{◌≡◌, ℕ, ◌==◌, ◌&&◌, ◌||◌, List, [], ◌∷◌, ◌++◌, Bool, true, not, filter, if◌then◌else◌}
+use Rattle.std.specs.List.{Contains, list_any}
 use Rattle.ldap_filter.specs.Matching.{matches}
 use Rattle.ldap_filter.specs.Trees.{Tree}
 use Rattle.prop_map.specs.Words.{has}
@@ -38,3 +39,22 @@ pub record IsToldOf (before now : World) (old new : Listener) : Type 0 where
 pub record IsToldAll (first now : World) (tree : Tree) (new : Listener) : Type 0 where
   pub filter : new.filter ≡ tree
   pub leads : (service : ℕ) → has (replayed (matching first tree) new.events) service ≡ has (matching now tree) service
+
+-- a service of this number is registered
+abbrev pub is_listed : World → ℕ → Bool
+is_listed w service = list_any (λ (r : ServiceRow). r.id == service) (listed w)
+
+-- an event of an entry says what happened in it to a service: REGISTERED, it wasn't registered before and matches afterwards; MODIFIED, it was registered and
+-- matches afterwards; UNREGISTERING, it matched and isn't registered any more; MODIFIED_ENDMATCH, it matched, and is registered and doesn't match afterwards
+abbrev pub tells_truth : World → World → Tree → ServiceEvent → Bool
+tells_truth before now tree e =
+    if e.value == 1 then not (is_listed before e.service) && has (matching now tree) e.service else (
+    if e.value == 2 then is_listed before e.service && has (matching now tree) e.service else (
+    if e.value == 4 then has (matching before tree) e.service && not (is_listed now e.service) else
+    (e.value == 8) && (has (matching before tree) e.service && (is_listed now e.service && not (has (matching now tree) e.service)))))
+
+-- a listener before an entry and behind it: each event that it is told says what happened
+pub record IsToldTruth (before now : World) (old new : Listener) : Type 0 where
+  pub more : List ServiceEvent
+  pub told : new.events ≡ old.events ++ more
+  pub true_each : (e : ServiceEvent) → Contains more e → tells_truth before now old.filter e ≡ true

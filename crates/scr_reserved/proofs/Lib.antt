@@ -1,0 +1,3 @@
+pub mod DrainLaws
+pub mod ReserveLaws
+pub mod TurnsUnderWay
