@@ -2,6 +2,7 @@
 use Rattle.std.proofs.Common.{◌≡◌, ◌+◌, ◌≤◌, ◌∙◌, ◌++◌, ◌∷◌, [], ap, arith, refl, subst, sym, true, ℕ, List, length}
 use Rattle.std.specs.Option.{unwrap_or}
 use Rattle.std.proofs.lemmas.List.{length-reverse, reverse-append}
+use Rattle.bundle_life.specs.Lives.{BundleTable}
 use Rattle.component_state.specs.Inside.Ready.{IsReady}
 use Rattle.component_state.specs.Passes.{HasPassed, Stage}
 use Rattle.component_state.specs.declared.pass.Passed.{Passed}
@@ -13,11 +14,11 @@ use Rattle.scr_entries.specs.Following.{entry_of}
 use Rattle.scr_entries.proofs.FollowingEntries.{follows}
 use Rattle.scr_entries.proofs.Reserved.{room_in}
 use Rattle.scr_entries.proofs.Scratch.{satisfied_then}
-use Rattle.scr_growth.specs.Growths.{AreCached, HasFinished, IsAmid, IsBefore, MayGrow, leaves_bundles}
+use Rattle.scr_growth.specs.Growths.{AreCached, HasFinished, IsAmid, IsBefore, MayGrow}
 use Rattle.scr_growth.specs.declared.growth.Finished.{Finished}
 use Rattle.scr_laws.proofs.ReadyStages.{legal_ready}
 use Rattle.scr_state.specs.Drafts.{with_draft}
-use Rattle.scr_state.specs.Keeps.{IsDraft, Keeps, with_bundles_by}
+use Rattle.scr_state.specs.Keeps.{IsDraft, Keeps}
 use Rattle.scr_state.specs.declared.draft.Draft.{Draft}
 use Rattle.scr_state.specs.declared.state.State.{State}
 use Rattle.scr_world.specs.Calls.{Grown, world_at}
@@ -28,11 +29,9 @@ use Rattle.scr_world.specs.Lists.{world_after_entry, world_of}
 use Rattle.scr_world.specs.Room.{has_room, needed_by, reserved}
 use Rattle.scr_world.specs.Stepping.{failing, world_after_step}
 use Rattle.scr_world.specs.Steps.{History, history_of}
-use Rattle.scr_world.specs.Tables.{descriptions_of}
+use Rattle.scr_world.specs.Tables.{bundles_by, descriptions_of}
 use Rattle.scr_world.specs.Worlds.{satisfied_in}
-use Rattle.scr_world.specs.declared.command.Command.TheVariants.{Install, Update, Start, Stop, Uninstall, Enable, Disable, Register, Unregister, SetProperties, Get, Unget, Listen, Unlisten, Configure, ConfigureFactory, Unconfigure}
 use Rattle.scr_world.specs.declared.step.Step.{Step}
-use Rattle.scr_world.specs.declared.step.Step.TheVariants.{Command as Commanded, Begin, End, Drained, Got, Released}
 use Rattle.scr_world.specs.declared.world.World.{World}
 
 -- ---- small facts
@@ -61,30 +60,6 @@ held_before : (step : Step) (w : World) → (world_after_step step w).unregister
 unfolding world_after_step
 held_before step w = refl
 
-bundles_left : (step : Step) (w : World) → leaves_bundles step ≡ true → with_bundles_by step w ≡ w
-bundles_left (Commanded (Install doc)) w leaves = absurd cc
-bundles_left (Commanded (Update bundle doc)) w leaves = absurd cc
-bundles_left (Commanded (Start bundle)) w leaves = absurd cc
-bundles_left (Commanded (Stop bundle)) w leaves = absurd cc
-bundles_left (Commanded (Uninstall bundle)) w leaves = absurd cc
-bundles_left (Commanded (Enable bundle name)) w leaves = refl
-bundles_left (Commanded (Disable bundle name)) w leaves = refl
-bundles_left (Commanded (Register bundle interfaces properties)) w leaves = refl
-bundles_left (Commanded (Unregister bundle service)) w leaves = refl
-bundles_left (Commanded (SetProperties bundle service properties)) w leaves = refl
-bundles_left (Commanded (Get bundle service)) w leaves = refl
-bundles_left (Commanded (Unget bundle service)) w leaves = refl
-bundles_left (Commanded (Listen bundle filter)) w leaves = refl
-bundles_left (Commanded (Unlisten listener)) w leaves = refl
-bundles_left (Commanded (Configure pid properties)) w leaves = refl
-bundles_left (Commanded (ConfigureFactory factory name properties)) w leaves = refl
-bundles_left (Commanded (Unconfigure pid)) w leaves = refl
-bundles_left (Begin turn instance configuration consumer callback chosen) w leaves = refl
-bundles_left (End turn outcome) w leaves = refl
-bundles_left (Drained instance) w leaves = refl
-bundles_left (Got bundle service) w leaves = refl
-bundles_left (Released place) w leaves = refl
-
 registry_of : (d : Draft) (w : World) → (with_draft d w).registry ≡ unwrap_or d.registry w.registry
 unfolding with_draft
 registry_of d w = refl
@@ -95,10 +70,10 @@ periods_of d w = refl
 
 -- ---- the step stands in the world
 
-module _ (journal : JournalRows Step) (s : State) (keeps : Keeps journal s) (step : Step) (leaves : leaves_bundles step ≡ true) (may : MayCome s.world step) (room : has_room journal.limit s.world (needed_by step) ≡ true)
-    (d : Draft) (draft : IsDraft s step d) (m : World) (m_is : m ≡ with_draft d s.world) (undo : Draft) (back : with_draft undo m ≡ s.world) (ds : undo.descriptions ≡ d.descriptions) (ls : undo.levels ≡ d.levels) where
+module _ (journal : JournalRows Step) (s : State) (keeps : Keeps journal s) (step : Step) (b : BundleTable) (b_is : b ≡ bundles_by step s.world.bundles) (may : MayCome s.world step) (room : has_room journal.limit s.world (needed_by step) ≡ true)
+    (d : Draft) (draft : IsDraft s step d) (m : World) (m_is : m ≡ with_draft d (record s.world { bundles = b })) (undo : Draft) (back : with_draft undo m ≡ record s.world { bundles = b }) (ds : undo.descriptions ≡ d.descriptions) (ls : undo.levels ≡ d.levels) where
   step_in : m ≡ world_after_step step s.world
-  step_in = m_is ∙ ap (with_draft d) (sym (bundles_left step s.world leaves)) ∙ draft.world
+  step_in = m_is ∙ ap (λ (t : BundleTable). with_draft d (record s.world { bundles = t })) b_is ∙ draft.world
 
   abbrev past : History
   past = history_of journal.entries
@@ -125,8 +100,8 @@ module _ (journal : JournalRows Step) (s : State) (keeps : Keeps journal s) (ste
 
   before : IsBefore (world_at journal.entries) m undo m.open_periods
   before = record {
-    registry = ap (λ t. t.rows) (sym (registry_of undo m)) ∙ ap (λ (w : World). w.registry.rows) (back ∙ keeps.world);
-    periods = sym (periods_of undo m) ∙ ap (λ (w : World). w.open_periods) (back ∙ keeps.world);
+    registry = ap (λ t. t.rows) (sym (registry_of undo m)) ∙ ap (λ (w : World). w.registry.rows) back ∙ ap (λ (w : World). w.registry.rows) keeps.world;
+    periods = sym (periods_of undo m) ∙ ap (λ (w : World). w.open_periods) back ∙ ap (λ (w : World). w.open_periods) keeps.world;
     held = sym (held_before step (world_at journal.entries)) ∙ ap (λ (w : World). w.unregistered_held) (sym stepped_is);
   }
 

@@ -1,5 +1,5 @@
 -- What the growth of a journal goes through: a step in the world, its pass, and what it settles. Our own.
-use Rattle.std.specs.Prelude.{◌≡◌, ℕ, ◌+◌, ◌++◌, ◌∷◌, [], Bool, List, count_by, length, map, not, sum, true, false, ◌==◌, ◌≤◌}
+use Rattle.std.specs.Prelude.{◌≡◌, ℕ, ◌+◌, ◌++◌, ◌∷◌, [], List, count_by, length, map, not, sum, true, ◌==◌, ◌≤◌}
 use Rattle.std.specs.Option.{unwrap_or}
 use Rattle.component_state.specs.declared.open_period.OpenPeriod.{OpenPeriod}
 use Rattle.component_state.specs.declared.pass.Passed.{Passed}
@@ -28,10 +28,7 @@ use Rattle.scr_world.specs.Steps.{history_of}
 use Rattle.scr_world.specs.Stepping.{failing, world_after_step}
 use Rattle.scr_world.specs.Tables.{descriptions_of, listeners_by}
 use Rattle.scr_world.specs.Worlds.{all_instances}
-use Rattle.scr_world.specs.declared.command.Command.{Command}
-use Rattle.scr_world.specs.declared.command.Command.TheVariants.{Install, Update, Start, Stop, Uninstall}
 use Rattle.scr_world.specs.declared.step.Step.{Step}
-use Rattle.scr_world.specs.declared.step.Step.TheVariants.{Command as Commanded}
 use Rattle.scr_world.specs.declared.world.World.{World}
 use Rattle.service_listeners.specs.Listening.{ListenerTable, after_changes, after_listen, after_unlisten, without_listeners_of}
 
@@ -69,19 +66,6 @@ pub record IsRest (was w : World) (r : Rest) : Type 0 where
   pub reserved : r.reserved ≡ reserved_with_tokens w (length r.tokens)
 
 -- ---- what the growth of a journal goes through
-
--- a step leaves the table of bundles; just five commands change it
-abbrev pub command_leaves_bundles : Command → Bool
-command_leaves_bundles (Install doc) = false
-command_leaves_bundles (Update bundle doc) = false
-command_leaves_bundles (Start bundle) = false
-command_leaves_bundles (Stop bundle) = false
-command_leaves_bundles (Uninstall bundle) = false
-command_leaves_bundles _ = true
-
-abbrev pub leaves_bundles : Step → Bool
-leaves_bundles (Commanded command) = command_leaves_bundles command
-leaves_bundles _ = true
 
 -- the services before a step, where its draft was put into a world that holds these periods since
 pub record IsBefore (was w : World) (undo : Draft) (open_then : List OpenPeriod) : Type 0 where

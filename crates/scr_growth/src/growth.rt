@@ -1,7 +1,7 @@
 //! An entry at the end of the journal, and the state after it, or neither.
 ghost use Rattle.component_state.specs.Inside.Ready.{IsReady};
 ghost use Rattle.component_state.specs.Passes.{HasPassed};
-ghost use Rattle.scr_growth.specs.Growths.{AreCached, HasFinished, HasSettled, IsAmid, IsSettling, leaves_bundles, with_open};
+ghost use Rattle.scr_growth.specs.Growths.{AreCached, HasFinished, HasSettled, IsAmid, IsSettling, with_open};
 ghost use Rattle.scr_state.specs.Keeps.{IsDraft, Keeps};
 ghost use Rattle.scr_world.specs.Calls.{Grown, world_at};
 ghost use Rattle.scr_world.specs.Consequences.{shut_between, stage_in};
@@ -15,14 +15,14 @@ use crate::undone::{descriptions_after, levels_after};
 use component_state::{OpenPeriod, Passed};
 use journal_core::{GateKey, Journal};
 use prop_map::{List, OutOfMemory};
+use scr_bundles::{change_bundles, put_back};
 use scr_consequences::{draining_in, failing_of, pass_in, stopped_in};
 use scr_state::{Draft, State, swap_in};
 use scr_world::Step;
 use std::alloc::Global;
 use std::mem;
 
-/// Appends the entry of a step whose draft this is and that leaves the table of bundles, and answers which gates are shut with
-/// it, by instance.
+/// Appends the entry of a step whose draft this is, and answers which gates are shut with it, by instance.
 ///
 /// # Errors
 /// Only want of memory. That a number is too high counts as such. The journal and the state are as they were.
@@ -33,7 +33,6 @@ pub fn grow(
     step: Box<Step>,
     draft: Draft,
 ) -> Result<List<GateKey>, OutOfMemory>
-    requires leaves { leaves_bundles step.value ≡ true }
     requires keeps { Keeps journal.old state.old }
     requires may { MayCome state.old.world step.value }
     requires room { has_room journal.old.limit state.old.world (needed_by step.value) ≡ true }
@@ -47,12 +46,14 @@ pub fn grow(
 {
     let failing = failing_of(alloc, &state.world, &step)?;
     let draining = draining_in(alloc, &state.world)?;
+    let saved = change_bundles(alloc, &mut state.world.bundles, &step)?;
     let mut undo = draft;
     swap_in(alloc, &mut state.world, &mut undo);
     match finish(alloc, journal, state, &undo, step, &failing, &draining) {
         Ok(finished) => Ok(take_over(state, undo, finished)),
         Err(error) => {
             swap_in(alloc, &mut state.world, &mut undo);
+            put_back(&mut state.world.bundles, saved);
             Err(error)
         }
     }
