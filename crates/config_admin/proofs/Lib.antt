@@ -1,2 +1,3 @@
 pub mod Emptiness
 pub mod PidRows
+pub mod Undone

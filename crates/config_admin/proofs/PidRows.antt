@@ -38,7 +38,7 @@ module _ (pid : List ℕ) where
   abbrev is_sought : Configuration → Bool
   is_sought c = is_eq (order c)
 
-  found_as_defined : (cs : List Configuration) → find is_sought cs ≡ of_pid pid cs
+  pub found_as_defined : (cs : List Configuration) → find is_sought cs ≡ of_pid pid cs
   found_as_defined cs = λ i. find (λ (c : Configuration). is_eq-slice_cmp c.pid pid i) cs
 
   pub left_as_defined : (cs : List Configuration) → filter (λ (c : Configuration). not (is_sought c)) cs ≡ without_pid pid cs

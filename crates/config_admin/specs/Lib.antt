@@ -1,3 +1,4 @@
 pub mod Configurations
 pub mod Orders
 pub mod Refusals
+pub mod Undoing

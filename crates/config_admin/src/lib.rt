@@ -4,13 +4,18 @@
 
 mod config_fault;
 mod configuration;
+mod overwritten;
 mod pids;
 mod refusals;
+mod row_changes;
+mod row_room;
 mod rows;
 mod saved;
 mod table;
 
 pub use config_fault::ConfigFault;
 pub use configuration::Configuration;
+pub use overwritten::Overwritten;
+pub use row_room::RowRoom;
 pub use saved::Saved;
 pub use table::Configurations;

@@ -1,12 +1,12 @@
 //! The rows of configurations, each found by its PID.
-ghost use Rattle.config_admin.specs.Configurations.{named_by, of_factory, of_pid, own_configuration, with_configuration, without_pid};
+ghost use Rattle.config_admin.specs.Configurations.{named_by, of_factory, of_pid, own_configuration};
 ghost use Rattle.config_admin.specs.Orders.{AreByPid, pid_cmp};
 ghost use Rattle.config_admin.specs.declared.configuration.Configuration.{Configuration};
 ghost use Rattle.prop_map.specs.Words.{is_empty};
 ghost use Rattle.row_places.specs.RowPlaces.{IsPlaceOrGap};
 ghost use Rattle.std.specs.List.{list_any};
 ghost use Rattle.std.specs.Option.{option_copied, option_map_or};
-ghost use Rattle.std.specs.Prelude.{◌≡◌, ◌<◌, ◌≤◌, [], false, length, map, not, IfOk, MatchResult, OnErr, OnOk};
+ghost use Rattle.std.specs.Prelude.{◌≡◌, ◌<◌, ◌≤◌, [], false, length, map, not, IfOk, MatchResult};
 ghost use Rattle.std.specs.Str.{bytes_eq};
 
 use crate::Configuration;
@@ -70,26 +70,4 @@ pub(crate) fn named_by<'r>(
         }
     }
     Ok(named)
-}
-
-/// Puts a configuration in the place of the one of its PID, or where it belongs.
-pub(crate) fn put(
-    rows: &mut Vec<Configuration>,
-    configuration: Configuration,
-) -> Result<(), OutOfMemory>
-    requires { AreByPid rows.old.items }
-    ensures ok { OnOk result (rows.new.items ≡ with_configuration configuration rows.old.items) }
-    ensures err { OnErr result (rows.new.items ≡ rows.old.items) }
-    ensures order { AreByPid rows.new.items }
-{
-    match place_of(rows.as_slice(), configuration.pid.as_str()) {
-        Ok(place) => {
-            rows[place] = configuration;
-            Ok(())
-        }
-        Err(gap) => {
-            rows.insert(gap, configuration)?;
-            Ok(())
-        }
-    }
 }

@@ -1,14 +1,18 @@
 //! The table of configurations.
 ghost use Rattle.config_admin.specs.Configurations.{factory_configuration, factory_pid, named_by, of_factory, of_pid, own_configuration, with_configuration, without_pid};
+ghost use Rattle.config_admin.specs.Orders.{AreByPid};
+ghost use Rattle.config_admin.specs.Undoing.{overwritten, with_earlier};
 ghost use Rattle.config_admin.specs.Refusals.{IsRefusedBy, delete_refusal, set_factory_refusal, set_refusal};
 ghost use Rattle.config_admin.specs.declared.configuration.Configuration.{Configuration};
 ghost use Rattle.std.specs.Option.{option_copied};
-ghost use Rattle.std.specs.Prelude.{◌≡◌, [], map, IfOk, OnErr, OnOk};
+ghost use Rattle.config_admin.specs.declared.overwritten.Overwritten.{Overwritten};
+ghost use Rattle.std.specs.Prelude.{◌≡◌, ◌<◌, [], List, Some, length, map, IfOk, OnErr, OnOk};
 
 use crate::configuration::{factory_configuration, own_configuration};
 use crate::refusals::{set_factory_refusal, set_refusal};
-use crate::rows::{named_by, of_pid, place_of, put};
-use crate::{ConfigFault, Configuration, Saved};
+use crate::row_changes::{exchange, leave_out, put, put_into, take_out};
+use crate::rows::{named_by, of_pid};
+use crate::{ConfigFault, Configuration, Overwritten, RowRoom, Saved};
 use prop_map::{Copies, OutOfMemory, Properties};
 use std::alloc::Global;
 use std::marker::Model;
@@ -46,7 +50,8 @@ impl Configurations {
 
     /// The configurations, in byte order of their PIDs.
     pub fn rows(&self) -> &[Configuration]
-        ensures { result.now ≡ self.now }
+        ensures all { result.now ≡ self.now }
+        ensures order { AreByPid self.now }
     {
         self.rows.as_slice()
     }
@@ -83,12 +88,31 @@ impl Configurations {
         ensures refused { IsRefusedBy (set_refusal pid.now self.old) result }
         ensures err { OnErr result (self.new ≡ self.old) }
     {
+        let _overwritten = self.overwrite(alloc, pid, properties)?;
+        Ok(())
+    }
+
+    /// Sets the configuration of a PID as `set` does, and hands out what this overwrites. To `restore` that undoes it.
+    ///
+    /// # Errors
+    /// As those of `set`.
+    pub fn overwrite(
+        &mut self,
+        alloc: Global,
+        pid: &str,
+        properties: Properties,
+    ) -> Result<Overwritten, ConfigFault>
+        ensures overwritten { IfOk result (λ before. before ≡ overwritten pid.now self.old) }
+        ensures ok { OnOk result (self.new ≡ with_configuration (own_configuration pid.now properties) self.old) }
+        ensures refused { IsRefusedBy (set_refusal pid.now self.old) result }
+        ensures err { OnErr result (self.new ≡ self.old) }
+    {
         match set_refusal(self.rows.as_slice(), pid) {
             Some(fault) => Err(fault),
             None => {
                 let configuration = own_configuration(alloc, pid, properties)?;
-                put(&mut self.rows, configuration)?;
-                Ok(())
+                let before = put(alloc, &mut self.rows, configuration)?;
+                Ok(before)
             }
         }
     }
@@ -110,14 +134,50 @@ impl Configurations {
         ensures refused { IsRefusedBy (set_factory_refusal factory.now name.now self.old) result }
         ensures err { OnErr result (self.new ≡ self.old) }
     {
+        let _overwritten = self.overwrite_factory(alloc, factory, name, properties)?;
+        Ok(())
+    }
+
+    /// Sets the configuration of a factory with a name as `set_factory` does, and hands out what this overwrites. To
+    /// `restore` that undoes it.
+    ///
+    /// # Errors
+    /// As those of `set_factory`.
+    pub fn overwrite_factory(
+        &mut self,
+        alloc: Global,
+        factory: &str,
+        name: &str,
+        properties: Properties,
+    ) -> Result<Overwritten, ConfigFault>
+        ensures overwritten { IfOk result (λ before. before ≡ overwritten (factory_pid factory.now name.now) self.old) }
+        ensures ok { OnOk result (self.new ≡ with_configuration (factory_configuration factory.now name.now properties) self.old) }
+        ensures refused { IsRefusedBy (set_factory_refusal factory.now name.now self.old) result }
+        ensures err { OnErr result (self.new ≡ self.old) }
+    {
         let configuration = factory_configuration(alloc, factory, name, properties)?;
         let pid = configuration.pid.as_str();
         match set_factory_refusal(self.rows.as_slice(), factory, name, pid) {
             Some(fault) => Err(fault),
             None => {
-                put(&mut self.rows, configuration)?;
-                Ok(())
+                let before = put(alloc, &mut self.rows, configuration)?;
+                Ok(before)
             }
+        }
+    }
+
+    /// Gives a PID what it had before a set: its configuration in the place of the present one, or none. Where it had one
+    /// and has none now nothing changes. It takes no memory.
+    pub fn restore(&mut self, before: Overwritten)
+        ensures earlier { self.new ≡ with_earlier before.pid before.was self.old }
+        ensures undone { (configurations : List Configuration) (set : Configuration) →
+            AreByPid configurations → before ≡ overwritten set.pid configurations →
+            self.old ≡ with_configuration set configurations → self.new ≡ configurations }
+    {
+        let Overwritten { pid, was } = before;
+        match was {
+            Some(configuration) => exchange(&mut self.rows, configuration),
+            None => leave_out(&mut self.rows, pid.as_str()),
         }
     }
 
@@ -130,13 +190,44 @@ impl Configurations {
         ensures refused { IsRefusedBy (delete_refusal pid.now self.old) result }
         ensures err { OnErr result (self.new ≡ self.old) }
     {
-        match place_of(self.rows.as_slice(), pid) {
-            Ok(place) => {
-                let _configuration = self.rows.remove(place);
-                Ok(())
-            }
-            Err(_) => Err(ConfigFault::NoConfiguration),
-        }
+        let _configuration = self.remove(pid)?;
+        Ok(())
+    }
+
+    /// Deletes the configuration of a PID as `delete` does, and hands it out. To `put_back` it undoes that.
+    ///
+    /// # Errors
+    /// As those of `delete`.
+    pub fn remove(&mut self, pid: &str) -> Result<Configuration, ConfigFault>
+        ensures configuration { IfOk result (λ configuration. of_pid pid.now self.old ≡ Some configuration) }
+        ensures pid { IfOk result (λ configuration. configuration.pid ≡ pid.now) }
+        ensures ok { OnOk result (self.new ≡ without_pid pid.now self.old) }
+        ensures refused { IsRefusedBy (delete_refusal pid.now self.old) result }
+        ensures fewer { OnOk result (length self.new < length self.old) }
+        ensures err { OnErr result (self.new ≡ self.old) }
+    {
+        take_out(&mut self.rows, pid)
+    }
+
+    /// Room for the configurations that stand, to be taken before one is removed that may have to be put back.
+    ///
+    /// # Errors
+    /// Only want of memory.
+    pub fn room(&self, alloc: Global) -> Result<RowRoom, OutOfMemory>
+        ensures { IfOk result (λ room. room ≡ length self.now) }
+    {
+        RowRoom::of(alloc, self.rows.len())
+    }
+
+    /// Puts a configuration that was removed back at its place. It takes no memory.
+    pub fn put_back(&mut self, configuration: Configuration, room: RowRoom)
+        requires room { length self.old < room }
+        ensures back { self.new ≡ with_configuration configuration self.old }
+        ensures undone { (configurations : List Configuration) →
+            AreByPid configurations → of_pid configuration.pid configurations ≡ Some configuration →
+            self.old ≡ without_pid configuration.pid configurations → self.new ≡ configurations }
+    {
+        put_into(&mut self.rows, configuration, room);
     }
 
     /// The table as it is, to go back to.

@@ -1,4 +1,5 @@
 pub mod Histories
+pub mod Keepings
 pub mod Views
 pub mod Unchanged
 pub mod Tickets

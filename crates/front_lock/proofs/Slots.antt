@@ -1,11 +1,12 @@
 -- What a seat reads in its slot, and what it knows then.
-use Rattle.std.proofs.Common.{◌≡◌, ℕ, ◌<◌, true, List, [], ◌∷◌, refl, sym, ap, ◌∙◌, subst}
+use Rattle.std.proofs.Common.{◌≡◌, ℕ, true, List, [], ◌∷◌, refl, sym, ap, ◌∙◌, subst}
 use Rattle.std.specs.Prelude.{Option, Some, None, IsSome}
 use Rattle.atomic_table.specs.Table.{Me, rest}
-use Rattle.front_lock.specs.Histories.{In, Extends, Owners}
+use Rattle.front_lock.specs.declared.rule.Contents.{Contents}
 use Rattle.front_lock.specs.declared.rule.FrontView.{FrontView}
 use Rattle.front_lock.specs.declared.rule.Stage.TheVariants.{Holds}
-use Rattle.front_lock.specs.Passes.{at_stage, names}
+use Rattle.front_lock.specs.Passes.{at_stage}
+use Rattle.front_lock.specs.Steps.{Finds}
 
 module _ {T : Type 0} where
   pub top_is : (x : Option T) (xs c : List (ℕ × Option T)) → c ≡ (0, x) ∷ xs → c ≡ (0, x) ∷ rest c
@@ -23,13 +24,12 @@ module _ {T : Type 0} where
   pub one_some : (x y : T) (o : Option T) → Some x ≡ o → o ≡ Some y → x ≡ y
   one_some x y o a b = let e : Some x ≡ Some y = a ∙ b in cc
 
-  module _ {E : Type 0} (entries : T → List (ℕ × E)) (tie : T → List ℕ) where
+  module _ {E : Type 0} (shows : T → Contents E) (tie : T → List ℕ) where
     abbrev pub Out : ℕ → Me (Option T) (FrontView E) → Me (Option T) (FrontView E) → T → Type 0
-    Out t m m' x = (m' ≡ (at_stage m.0 (Holds t true (entries x) [] []), (0, None) ∷ []))
-        × Extends (names m.0) m.0.seen (entries x) × Owners (λ n. n < t) (entries x) × ((n : ℕ) → In n (names m.0) → n < t) × (tie x ≡ m.0.tie) × (m.0.parts ≡ 64 → Owners (λ n. In n (names m.0)) (entries x))
+    Out t m m' x = (m' ≡ (at_stage m.0 (Holds t true (shows x) [] []), (0, None) ∷ [])) × Finds shows tie m.0 t x
 
     abbrev pub Told : ℕ → Me (Option T) (FrontView E) → Me (Option T) (FrontView E) → Type 0
-    Told r m m' = (x : T) × (m' ≡ (at_stage m.0 (Holds r true (entries x) [] []), (0, Some x) ∷ m.1)) × Extends (names m.0) m.0.seen (entries x) × Owners (λ n. n < r) (entries x) × ((n : ℕ) → In n (names m.0) → n < r) × (tie x ≡ m.0.tie) × (m.0.parts ≡ 64 → Owners (λ n. In n (names m.0)) (entries x))
+    Told r m m' = (x : T) × (m' ≡ (at_stage m.0 (Holds r true (shows x) [] []), (0, Some x) ∷ m.1)) × Finds shows tie m.0 r x
 
     -- what was told at the load, after the value was taken from the slot
     pub taken : (start m m' m'' : Me (Option T) (FrontView E)) (r t : ℕ) (got : Option T) (value : T) → m ≡ start → start.1 ≡ [] → r ≡ t → Told r m m'
@@ -38,12 +38,5 @@ module _ {T : Type 0} where
         let x = told.0 in
         let v : x ≡ value = one_some x value got (one_top (Some x) got m.1 (rest m'.1) m'.1 (ap (λ (y : Me (Option T) (FrontView E)). y.1) told.1) has) is in
         let nothing : rest m'.1 ≡ [] = ap (λ (y : Me (Option T) (FrontView E)). rest y.1) told.1 ∙ ap (λ (y : Me (Option T) (FrontView E)). y.1) same ∙ empty in
-        let o : Out r m m'' x = (
-          after ∙ (λ i. ((told.1 i).0, (0, None) ∷ nothing i)),
-          told.2,
-          told.3,
-          told.4,
-          told.5,
-          told.6,
-        ) in
+        let o : Out r m m'' x = (after ∙ (λ i. ((told.1 i).0, (0, None) ∷ nothing i)), told.2) in
         subst (λ (y : T). Out t start m'' y) v (subst (λ (y : ℕ). Out y start m'' x) hit (subst (λ (y : Me (Option T) (FrontView E)). Out r y m'' x) same o))

@@ -1,4 +1,5 @@
 pub mod Histories
+pub mod Keepings
 pub mod Passes
 pub mod Rule
 pub mod Steps

@@ -17,5 +17,5 @@ pub use grows::Grows;
 pub use lock::FrontLock;
 pub use lock_fault::LockFault;
 pub use pass::Pass;
-pub use rule::{FrontView, Joined, Stage};
+pub use rule::{Contents, FrontView, Joined, Stage};
 pub use turn::{Inner, Turn};

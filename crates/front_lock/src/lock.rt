@@ -2,7 +2,8 @@
 ghost use Rattle.std.specs.Prelude.{◌≡◌, ℕ, ◌+◌, ◌-◌, ◌<◌, ◌≤◌, ◌^◌, Bool, true, List, [], ◌∷◌, ◌++◌, length, Some, None, IfOk, IfErr};
 ghost use Rattle.std.specs.List.{range_with_len};
 ghost use Rattle.front_lock.specs.Histories.{In, Distinct, Extends, Owners, GrownBy, places, AllEnded, AllPlaced};
-ghost use Rattle.front_lock.specs.Passes.{at_stage, names, names_of, ended_of, longer};
+ghost use Rattle.front_lock.specs.Keepings.{kept_under, kept_by, KeepsOthers};
+ghost use Rattle.front_lock.specs.Passes.{at_stage, names, names_of, ended_of, longer, shown_by};
 ghost use Rattle.front_lock.specs.declared.rule.Stage.TheVariants.{Idle, Waits, Holds};
 
 use crate::bells::Bells;
@@ -80,12 +81,15 @@ impl<T: Grows> FrontLock<T> {
     fn await_turn<R: Wait>(&self, rt: &R, seat: &mut Place<T>, ticket: u64) -> T
         requires { (seat.old.table_id ≡ self.now) × (seat.old.me.0.stage ≡ Waits ticket) × (0 < seat.old.me.0.parts) × (seat.old.me.1 ≡ []) }
         ensures same { (seat.new.table_id ≡ seat.old.table_id) × (seat.new.id ≡ seat.old.id) }
-        ensures out { seat.new.me ≡ (at_stage seat.old.me.0 (Holds ticket true (T.entries result) [] []), (0, None) ∷ []) }
+        ensures out { seat.new.me ≡ (at_stage seat.old.me.0 (Holds ticket true (shown_by T.entries T.kept result) [] []), (0, None) ∷ []) }
         ensures goes_on { Extends (names seat.old.me.0) seat.old.me.0.seen (T.entries result) }
         ensures unnamed { Owners (λ n. n < ticket) (T.entries result) }
         ensures later { (n : ℕ) → In n (names seat.old.me.0) → n < ticket }
         ensures tie { T.tie result ≡ seat.old.me.0.tie }
         ensures owned { seat.old.me.0.parts ≡ 64 → Owners (λ n. In n (names seat.old.me.0)) (T.entries result) }
+        ensures kept { kept_by (names seat.old.me.0) (T.kept result) ≡ seat.old.me.0.kept }
+        ensures keeps { (n : ℕ) → In n (names seat.old.me.0) → kept_under n (T.kept result) ≡ kept_under n seat.old.me.0.kept }
+        ensures keepers { seat.old.me.0.parts ≡ 64 → Owners (λ n. In n (names seat.old.me.0)) (T.kept result) }
     {
         for _ in rt.forever() {
             let serving = self.table.shared.load::<TakeValue<T>>(seat, SERVING);
@@ -117,14 +121,22 @@ impl<T: Grows> FrontLock<T> {
 
     /// Waits for the value, and takes it out. Its entries go on from what the pass has seen, and no further one is of this
     /// pass or of one that was joined into it. Where all passes were joined into this one, its spare being 63, each entry is
-    /// of one of these. Passes are served in the order of their tickets, which they draw here. It takes no memory.
+    /// of one of these, and so is each thing that the value keeps. Under each name of the pass the value keeps just what it
+    /// kept when the pass left. Passes are served in the order of their tickets, which they draw here: the numbers of all
+    /// passes that have an entry or a thing there, and of this one, are below the ticket that it drew, so none that was
+    /// split off under a later ticket has gone before. It takes no memory.
     pub fn enter<R: Wait>(&self, rt: &R, pass: Pass<T::Entry>) -> Inner<T>
         requires { pass.lock ≡ self.now }
-        ensures turn { (result.turn.pass ≡ pass) × (result.turn.began ≡ T.entries result.value) }
+        ensures turn { (result.turn.pass ≡ pass) × (result.turn.began ≡ T.entries result.value) × (result.turn.kept ≡ T.kept result.value) }
         ensures goes_on { Extends (names_of pass) pass.seen (T.entries result.value) }
         ensures mine { (n : ℕ) → In n (names_of pass) → places n (T.entries result.value) ≡ places n pass.seen }
         ensures tie { T.tie result.value ≡ pass.tie }
         ensures owned { pass.spare ≡ 63 → Owners (λ n. In n (names_of pass)) (T.entries result.value) }
+        ensures kept { kept_by (names_of pass) (T.kept result.value) ≡ pass.kept }
+        ensures keeps { (n : ℕ) → In n (names_of pass) → kept_under n (T.kept result.value) ≡ kept_under n pass.kept }
+        ensures keepers { pass.spare ≡ 63 → Owners (λ n. In n (names_of pass)) (T.kept result.value) }
+        ensures order { Owners (λ n. n < result.turn.ticket) (T.entries result.value) }
+        ensures later { (n : ℕ) → In n (names_of pass) → n < result.turn.ticket }
     {
         let Pass {
             badge,
@@ -146,13 +158,15 @@ impl<T: Grows> FrontLock<T> {
         }
     }
 
-    /// Gives the value back, with further entries of the pass alone, and the next ticket is served. The pass has then seen
-    /// all entries, and has entered once more. It waits for nobody, and takes no memory.
+    /// Gives the value back, with further entries of the pass alone, and the next ticket is served. What the value keeps
+    /// under other numbers than the names of the pass is as it was. The pass has then seen all entries, knows what is kept
+    /// under its names, and has entered once more. It waits for nobody, and takes no memory.
     pub fn leave(&self, inner: Inner<T>) -> Pass<T::Entry>
         requires lock { inner.turn.pass.lock ≡ self.now }
         requires grown { GrownBy inner.turn.pass.number inner.turn.began (T.entries inner.value) }
         requires tie { T.tie inner.value ≡ inner.turn.pass.tie }
-        ensures seen { result ≡ record inner.turn.pass { seen = T.entries inner.value; entered = inner.turn.pass.entered + 1 } }
+        requires others { KeepsOthers (names_of inner.turn.pass) inner.turn.kept (T.kept inner.value) }
+        ensures seen { result ≡ record inner.turn.pass { seen = T.entries inner.value; kept = kept_by (names_of inner.turn.pass) (T.kept inner.value); entered = inner.turn.pass.entered + 1 } }
         ensures mine { places result.number result.seen ≡ places result.number inner.turn.began ++ range_with_len (length inner.turn.began) (length result.seen - length inner.turn.began) }
     {
         let Inner { value, turn } = inner;
@@ -182,12 +196,12 @@ impl<T: Grows> FrontLock<T> {
     // Puts the value back as it was.
     fn put_down(&self, seat: &mut Place<T>, ticket: u64, value: T)
         requires lock { seat.old.table_id ≡ self.now }
-        requires held { (seat.old.me.1 ≡ (0, None) ∷ []) × ((fresh : Bool) × (ns : List ℕ) × (also : List (ℕ × T.Entry)) × (seat.old.me.0.stage ≡ Holds ticket fresh (T.entries value) ns also)) }
+        requires held { (seat.old.me.1 ≡ (0, None) ∷ []) × ((fresh : Bool) × (ns : List ℕ) × (also : List (ℕ × T.Entry)) × (seat.old.me.0.stage ≡ Holds ticket fresh (shown_by T.entries T.kept value) ns also)) }
         requires tie { T.tie value ≡ seat.old.me.0.tie }
         requires alive { (0 < seat.old.me.0.parts) × ((n : ℕ) × (seat.old.me.0.own ≡ Some n)) × (ticket + 1 < 2 ^ 64) }
         ensures same { (seat.new.table_id ≡ seat.old.table_id) × (seat.new.id ≡ seat.old.id) }
         ensures back { seat.new.me ≡ (at_stage seat.old.me.0 Idle, []) }
-        ensures learned { (fresh : Bool) (ns : List ℕ) (also : List (ℕ × T.Entry)) → seat.old.me.0.stage ≡ Holds ticket fresh (T.entries value) ns also → Extends ns also (T.entries value) × Extends (names seat.old.me.0) seat.old.me.0.seen (T.entries value) }
+        ensures learned { (fresh : Bool) (ns : List ℕ) (also : List (ℕ × T.Entry)) → seat.old.me.0.stage ≡ Holds ticket fresh (shown_by T.entries T.kept value) ns also → Extends ns also (T.entries value) × Extends (names seat.old.me.0) seat.old.me.0.seen (T.entries value) × (kept_by (names seat.old.me.0) (T.kept value) ≡ seat.old.me.0.kept) }
         ensures few { seat.old.me.0.parts ≤ 64 }
         ensures distinct { Distinct (names seat.old.me.0) }
     {
@@ -201,11 +215,11 @@ impl<T: Grows> FrontLock<T> {
         self.call_next(ticket + 1);
     }
 
-    /// A lock round a value without entries, and the first pass, which has the number 0 and a spare of 63. Where memory is
-    /// wanting it gives the value back.
+    /// A lock round a value without entries that keeps nothing, and the first pass, which has the number 0 and a spare of
+    /// 63. Where memory is wanting it gives the value back.
     pub fn new(alloc: Global, value: T) -> Result<(FrontLock<T>, Pass<T::Entry>), (T, OutOfMemory)>
-        requires { T.entries value ≡ [] }
-        ensures ok { IfOk result (λ r. r.1 ≡ record { lock = r.0; number = 0; joined = []; seen = []; spare = 63; entered = 0; tie = T.tie value }) }
+        requires { (T.entries value ≡ []) × (T.kept value ≡ []) }
+        ensures ok { IfOk result (λ r. r.1 ≡ record { lock = r.0; number = 0; joined = []; seen = []; kept = []; spare = 63; entered = 0; tie = T.tie value }) }
         ensures err { IfErr result (λ e. e.0 ≡ value) }
     {
         match Bells::new(alloc) {
@@ -219,8 +233,8 @@ impl<T: Grows> FrontLock<T> {
         bells: Bells,
         value: T,
     ) -> Result<(FrontLock<T>, Pass<T::Entry>), (T, OutOfMemory)>
-        requires { T.entries value ≡ [] }
-        ensures ok { IfOk result (λ r. r.1 ≡ record { lock = r.0; number = 0; joined = []; seen = []; spare = 63; entered = 0; tie = T.tie value }) }
+        requires { (T.entries value ≡ []) × (T.kept value ≡ []) }
+        ensures ok { IfOk result (λ r. r.1 ≡ record { lock = r.0; number = 0; joined = []; seen = []; kept = []; spare = 63; entered = 0; tie = T.tie value }) }
         ensures err { IfErr result (λ e. e.0 ≡ value) }
     {
         let mut slots = Vec::new(alloc);
@@ -244,9 +258,9 @@ impl<T: Grows> FrontLock<T> {
         }
     }
 
-    /// Splits a second pass off, with a spare of 0 and a number that no pass has or had: no entry is under it, and it is
-    /// above each name of the first, and it has never entered. The first keeps its number and all that it knows, and its
-    /// spare falls by one. A split counts as no entry.
+    /// Splits a second pass off, with a spare of 0 and a number that no pass has or had: no entry is under it, nothing is
+    /// kept under it, it is above each name of the first, and it has never entered. The first keeps its number and all that
+    /// it knows, and its spare falls by one. A split counts as no entry.
     /// `SeatsFull` exactly where the spare is 0, and then nothing changes. Like `enter`, it waits for its turn.
     pub fn split<R: Wait>(
         &self,
@@ -255,7 +269,7 @@ impl<T: Grows> FrontLock<T> {
     ) -> Result<(Pass<T::Entry>, Pass<T::Entry>), (Pass<T::Entry>, LockFault)>
         requires { pass.lock ≡ self.now }
         ensures first { IfOk result (λ r. (0 < pass.spare) × (r.0 ≡ record pass { spare = pass.spare - 1 })) }
-        ensures second { IfOk result (λ r. r.1 ≡ record pass { number = r.1.number; joined = []; spare = 0; entered = 0 }) }
+        ensures second { IfOk result (λ r. r.1 ≡ record pass { number = r.1.number; joined = []; kept = []; spare = 0; entered = 0 }) }
         ensures new { IfOk result (λ r. Owners (λ n. n < r.1.number) pass.seen) }
         ensures later { IfOk result (λ r. (n : ℕ) → In n (names_of pass) → n < r.1.number) }
         ensures full { IfErr result (λ e. (e.0 ≡ pass) × (pass.spare ≡ 0) × (e.1 ≡ LockFault.SeatsFull)) }
@@ -291,8 +305,9 @@ impl<T: Grows> FrontLock<T> {
 
     /// Joins a pass into another, which keeps its number and gets the other's spare and one more. It has then seen the
     /// longer beginning of the two, in which the entries of both are all that there are. The other's number and all that it
-    /// had seen are kept in it; that number gets no further entry. It has entered as often as both; the join counts as no
-    /// entry. Like `enter`, it waits for its turn.
+    /// had seen are kept in it; that number gets no further entry. What the value keeps for either is then kept for it, each
+    /// thing under the number that it had. It has entered as often as both; the join counts as no entry. Like `enter`, it
+    /// waits for its turn.
     pub fn join<R: Wait>(
         &self,
         rt: &R,
@@ -300,11 +315,13 @@ impl<T: Grows> FrontLock<T> {
         other: Pass<T::Entry>,
     ) -> Pass<T::Entry>
         requires { (pass.lock ≡ self.now) × (other.lock ≡ self.now) }
-        ensures joined { result ≡ record pass { joined = pass.joined ++ ended_of other; seen = longer pass.seen other.seen; spare = pass.spare + other.spare + 1; entered = pass.entered + other.entered } }
+        ensures joined { result ≡ record pass { joined = pass.joined ++ ended_of other; seen = longer pass.seen other.seen; kept = pass.kept ++ other.kept; spare = pass.spare + other.spare + 1; entered = pass.entered + other.entered } }
         ensures this { Extends (names_of pass) pass.seen result.seen }
         ensures that { Extends (names_of other) other.seen result.seen }
         ensures mine { (n : ℕ) → In n (names_of pass) → places n result.seen ≡ places n pass.seen }
         ensures theirs { (n : ℕ) → In n (names_of other) → places n result.seen ≡ places n other.seen }
+        ensures keeps { (n : ℕ) → In n (names_of pass) → kept_under n result.kept ≡ kept_under n pass.kept }
+        ensures keeps_theirs { (n : ℕ) → In n (names_of other) → kept_under n result.kept ≡ kept_under n other.kept }
         ensures distinct { Distinct (names_of result) }
     {
         let Pass {
@@ -336,7 +353,8 @@ impl<T: Grows> FrontLock<T> {
 
     /// Gives the value to the pass into which all others were joined. Its history begins with all that this pass had seen,
     /// and with all that each pass had seen that was joined into it, directly or through others. Each has just those
-    /// places in the history that it knew when it was joined, and each entry is of one of them. It waits for nobody.
+    /// places in the history that it knew when it was joined, and each entry is of one of them. The value keeps what the
+    /// pass knows, and nothing else. It waits for nobody.
     pub fn close(self, pass: Pass<T::Entry>) -> T
         requires lock { pass.lock ≡ self }
         requires all { pass.spare ≡ 63 }
@@ -347,6 +365,8 @@ impl<T: Grows> FrontLock<T> {
         ensures distinct { Distinct (names_of pass) }
         ensures owned { Owners (λ n. In n (names_of pass)) (T.entries result) }
         ensures tie { T.tie result ≡ pass.tie }
+        ensures kept { kept_by (names_of pass) (T.kept result) ≡ pass.kept }
+        ensures keepers { Owners (λ n. In n (names_of pass)) (T.kept result) }
     {
         let FrontLock { table, bells } = self;
         drop(bells);

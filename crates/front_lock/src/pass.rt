@@ -6,8 +6,9 @@ use atomic_table::Badge;
 use std::marker::Model;
 
 /// A pass: the right to take turns at a lock whose entries are `E`. To a contract it is what its holder knows: which
-/// lock it is of, its number, the passes that were joined into it, the beginning of the history that it has seen, how
-/// many passes can be split from it, and how often it entered. A pass that is dropped is never joined, so its lock is never closed.
+/// lock it is of, its number, the passes that were joined into it, the beginning of the history that it has seen, what the
+/// value keeps under its number and theirs, how many passes can be split from it, and how often it entered. A pass that is
+/// dropped is never joined, so its lock is never closed.
 #[derive(Drop)]
 pub struct Pass<E> {
     pub(crate) badge: Badge<FrontView<E>>,

@@ -6,15 +6,23 @@ use std::collections::LinkedList;
 use std::marker::PhantomData;
 use std::snapshot::Snapshot;
 
+/// What a value shows at one time.
+pub struct Contents<E> {
+    /// Its entries, each with its owner.
+    pub entries: LinkedList<(u64, E)>,
+    /// What it keeps for passes, each thing with its owner.
+    pub kept: LinkedList<(u64, u64)>,
+}
+
 /// Where a pass is.
 pub enum Stage<E> {
     /// Away from the lock.
     Idle,
     /// It has drawn this ticket.
     Waits(u64),
-    /// It is served under this ticket, and the value had these entries. True until the turn has split a pass off. Then
-    /// the numbers of the pass that this turn joined into it, and what that one had seen.
-    Holds(u64, bool, LinkedList<(u64, E)>, LinkedList<u64>, LinkedList<(u64, E)>),
+    /// It is served under this ticket. True until the turn has split a pass off. What the value showed then; the numbers
+    /// of the pass that this turn joined into it, and what that one had seen.
+    Holds(u64, bool, Contents<E>, LinkedList<u64>, LinkedList<(u64, E)>),
 }
 
 /// A pass that was joined into another.
@@ -39,6 +47,8 @@ pub struct FrontView<E> {
     pub joined: LinkedList<Joined<E>>,
     /// The entries that it has seen.
     pub seen: LinkedList<(u64, E)>,
+    /// What the value keeps under its names.
+    pub kept: LinkedList<(u64, u64)>,
     /// Where it is.
     pub stage: Stage<E>,
 }
@@ -51,12 +61,12 @@ pub struct OneHistory<T> {
 impl<T: Grows> TableRule<Option<T>, FrontView<T::Entry>, Snapshot<T>> for OneHistory<T> {
     ghost use Rattle.std.specs.Prelude.{[], Some};
     ghost use Rattle.front_lock.specs.declared.rule.Stage.TheVariants.{Idle};
-    ghost use Rattle.front_lock.specs.Passes.{known};
+    ghost use Rattle.front_lock.specs.Passes.{known, shown_by};
     ghost use Rattle.front_lock.specs.Rule.{Kept};
 
-    ghost holds = { λ _. Kept T.entries T.tie };
+    ghost holds = { λ _. Kept (shown_by T.entries T.kept) T.tie };
 
-    ghost first = { λ k. known (T.tie k.value) 64 0 (Some 0) [] [] Idle };
+    ghost first = { λ k. known (T.tie k.value) 64 0 (Some 0) [] [] [] Idle };
 }
 
 /// A ticket is drawn.
@@ -65,9 +75,10 @@ pub(crate) struct DrawTicket<T> {
 }
 
 impl<T: Grows> Play<Option<T>, FrontView<T::Entry>> for DrawTicket<T> {
+    ghost use Rattle.front_lock.specs.Passes.{shown_by};
     ghost use Rattle.front_lock.specs.Steps.{Drew};
 
-    ghost then = { Drew T.entries T.tie };
+    ghost then = { Drew (shown_by T.entries T.kept) T.tie };
 }
 
 /// The ticket that is served is read, and the value taken where it is one's own.
@@ -76,9 +87,10 @@ pub(crate) struct TakeValue<T> {
 }
 
 impl<T: Grows> Play<Option<T>, FrontView<T::Entry>> for TakeValue<T> {
+    ghost use Rattle.front_lock.specs.Passes.{shown_by};
     ghost use Rattle.front_lock.specs.Steps.{Turned};
 
-    ghost then = { Turned T.entries T.tie };
+    ghost then = { Turned (shown_by T.entries T.kept) T.tie };
 }
 
 /// The value is back with further entries, and the next ticket is served.
@@ -87,9 +99,10 @@ pub(crate) struct GiveBack<T> {
 }
 
 impl<T: Grows> Play<Option<T>, FrontView<T::Entry>> for GiveBack<T> {
+    ghost use Rattle.front_lock.specs.Passes.{shown_by};
     ghost use Rattle.front_lock.specs.Steps.{GaveBack};
 
-    ghost then = { GaveBack T.entries T.tie };
+    ghost then = { GaveBack (shown_by T.entries T.kept) T.tie };
 }
 
 /// The value is back as it was, and the next ticket is served.
@@ -98,9 +111,10 @@ pub(crate) struct PutDown<T> {
 }
 
 impl<T: Grows> Play<Option<T>, FrontView<T::Entry>> for PutDown<T> {
+    ghost use Rattle.front_lock.specs.Passes.{shown_by};
     ghost use Rattle.front_lock.specs.Steps.{PutBack};
 
-    ghost then = { PutBack T.entries T.tie };
+    ghost then = { PutBack (shown_by T.entries T.kept) T.tie };
 }
 
 /// A pass is split off from the one that has the turn.

@@ -9,8 +9,8 @@ use std::marker::Model;
 /// A pass that takes part in the steps of the lock's table.
 pub(crate) type Place<T> = Seat<Option<T>, FrontView<<T as Grows>::Entry>>;
 
-/// The right to give the value back. To a contract it is the pass that has the turn, and the entries that the value had
-/// when the turn began. It isn't `Drop`, so a value can't be lost.
+/// The right to give the value back. To a contract it is the pass that has the turn, the ticket under which it is served,
+/// the entries that the value had when the turn began, and what it kept then. It isn't `Drop`, so a value can't be lost.
 pub struct Turn<T: Grows> {
     pub(crate) seat: Place<T>,
     pub(crate) ticket: u64,
@@ -26,7 +26,7 @@ impl<T: Grows> Model for Turn<T> {
 
     ghost view = { λ t. turn_of t.seat.table_id t.seat.me.0 };
 
-    ghost invariant = { λ t. let v = turn_of t.seat.table_id t.seat.me.0 in (t.seat.me ≡ (holding_of t.ticket v, (0, None) ∷ [])) × (t.ticket + 1 < 2 ^ 64) × (t.number ≡ v.pass.number) × (t.spare ≡ v.pass.spare) };
+    ghost invariant = { λ t. let v = turn_of t.seat.table_id t.seat.me.0 in (t.seat.me ≡ (holding_of t.ticket v, (0, None) ∷ [])) × (t.ticket + 1 < 2 ^ 64) × (t.ticket ≡ v.ticket) × (t.number ≡ v.pass.number) × (t.spare ≡ v.pass.spare) };
 }
 
 /// The value, out with a pass.
@@ -43,5 +43,12 @@ impl<T: Grows> Inner<T> {
         ensures { result ≡ self.now.turn.pass.number }
     {
         self.turn.number
+    }
+
+    /// The ticket under which the pass is served.
+    pub fn ticket(&self) -> u64
+        ensures { result ≡ self.now.turn.ticket }
+    {
+        self.turn.ticket
     }
 }

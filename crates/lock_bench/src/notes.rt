@@ -15,6 +15,8 @@ impl Grows for Notes {
 
     ghost entries = { λ n. n.items.items };
 
+    ghost kept = { λ _. [] };
+
     ghost tie = { λ _. [] };
 
     fn length(&self) -> u64 {

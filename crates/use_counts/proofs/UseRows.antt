@@ -44,20 +44,20 @@ pub held_none : (holder : Holder) (bundle service : ℕ) → held_by holder (no_
 held_none Shell bundle service = refl
 held_none Token bundle service = refl
 
-more_ties : (holder : Holder) (u v : UseRow) → use_cmp u v ≡ Equal → use_cmp (one_more holder u) v ≡ Equal
+pub more_ties : (holder : Holder) (u v : UseRow) → use_cmp u v ≡ Equal → use_cmp (one_more holder u) v ≡ Equal
 more_ties Shell u v e = e
 more_ties Token u v e = e
 
-less_ties : (holder : Holder) (u v : UseRow) → use_cmp u v ≡ Equal → use_cmp (one_less holder u) v ≡ Equal
+pub less_ties : (holder : Holder) (u v : UseRow) → use_cmp u v ≡ Equal → use_cmp (one_less holder u) v ≡ Equal
 less_ties Shell u v e = e
 less_ties Token u v e = e
 
-is_equal : (o : Ordering) → is_eq o ≡ true → o ≡ Equal
+pub is_equal : (o : Ordering) → is_eq o ≡ true → o ≡ Equal
 is_equal Less e = cc
 is_equal Equal e = refl
 is_equal Greater e = cc
 
-own_tie : (o : Ordering) → o ≡ ordering_reverse o → o ≡ Equal
+pub own_tie : (o : Ordering) → o ≡ ordering_reverse o → o ≡ Equal
 own_tie Less e = cc
 own_tie Equal e = refl
 own_tie Greater e = cc
@@ -122,7 +122,7 @@ module _ (bundle service : ℕ) where
     by_test more true = All-cons P y (u ∷ us) py all
     by_test more false = All-cons P u (insert_by use_before y us) (all 0 u (omega arith)) more
 
-  uses_with : (y : UseRow) (us : List UseRow) → order y ≡ Equal → IsCounted y → AreUses us → AreUses (insert_by use_before y (without_use bundle service us))
+  pub uses_with : (y : UseRow) (us : List UseRow) → order y ≡ Equal → IsCounted y → AreUses us → AreUses (insert_by use_before y (without_use bundle service us))
   uses_with y us ties counted ok = (
     ordered_with use_cmp use_cmp_total (no_use bundle service) y ties us ok.0,
     All_inserted IsCounted y (without_use bundle service us) counted (All-filter (λ (u : UseRow). not (is_use bundle service u)) IsCounted us ok.1),

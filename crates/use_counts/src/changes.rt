@@ -1,6 +1,8 @@
-//! A get more and a get less in the rows.
-ghost use Rattle.std.specs.Prelude.{◌≡◌, ◌<◌, ◌+◌, ◌^◌, IfOk, OnErr, OnOk};
-ghost use Rattle.use_counts.specs.Refusals.{AreUses, IsUngetRefused};
+//! A get more and a get less in the rows, and rows put back.
+ghost use Rattle.std.specs.List.{All};
+ghost use Rattle.std.specs.Prelude.{◌≡◌, ◌<◌, ◌≤◌, ◌+◌, ◌^◌, insert, length, vec_capacity, vec_len, IfOk, OnErr, OnOk};
+ghost use Rattle.use_counts.specs.Refusals.{AreUses, IsCounted, IsUngetRefused};
+ghost use Rattle.use_counts.specs.Undoing.{with_row, with_rows};
 ghost use Rattle.use_counts.specs.Uses.{after_get, after_unget, use_count};
 
 use crate::counting::{held_by, no_use, one_less, one_more, total};
@@ -48,6 +50,7 @@ pub(crate) fn take_get(
     ensures ok { OnOk result (rows.new.items ≡ after_unget bundle service holder rows.old.items) }
     ensures refused { IsUngetRefused bundle service holder rows.old.items result }
     ensures err { OnErr result (rows.new.items ≡ rows.old.items) }
+    ensures fewer { length rows.new.items ≤ length rows.old.items }
     ensures uses { AreUses rows.new.items }
 {
     match place_of(rows.as_slice(), bundle, service) {
@@ -65,5 +68,45 @@ pub(crate) fn take_get(
             Ok(left)
         }
         Err(_) => Err(NotUsing),
+    }
+}
+
+// Puts a row in the place of the one of its bundle and service, or where it belongs, for which there is room.
+fn put(rows: &mut Vec<UseRow>, row: UseRow)
+    requires uses { AreUses rows.old.items }
+    requires counted { IsCounted row }
+    requires room { vec_len rows.old < vec_capacity rows.old }
+    ensures now { rows.new.items ≡ with_row row rows.old.items }
+    ensures uses { AreUses rows.new.items }
+    ensures room { vec_capacity rows.old ≤ vec_capacity rows.new }
+    ensures more { vec_len rows.new ≤ vec_len rows.old + 1 }
+{
+    match place_of(rows.as_slice(), row.bundle, row.service) {
+        Ok(place) => rows[place] = row,
+        Err(gap) => insert(rows, gap, row),
+    }
+}
+
+// Puts a row at a place, for which there is room.
+fn insert(rows: &mut Vec<UseRow>, place: usize, row: UseRow)
+    requires within { place ≤ vec_len rows.old }
+    requires room { vec_len rows.old < vec_capacity rows.old }
+    ensures now { rows.new.items ≡ insert rows.old.items place row }
+    ensures room { vec_capacity rows.old ≤ vec_capacity rows.new }
+    ensures more { vec_len rows.new ≤ vec_len rows.old + 1 }
+{
+    let _inserted = rows.insert(place, row);
+}
+
+/// Puts rows back, each in the place of the one of its bundle and service, or where it belongs.
+pub(crate) fn put_each(rows: &mut Vec<UseRow>, others: &[UseRow])
+    requires uses { AreUses rows.old.items }
+    requires counted { All IsCounted others.now }
+    requires room { vec_len rows.old + length others.now ≤ vec_capacity rows.old }
+    ensures now { rows.new.items ≡ with_rows others.now rows.old.items }
+    ensures uses { AreUses rows.new.items }
+{
+    for row in others {
+        put(rows, *row);
     }
 }

@@ -4,11 +4,13 @@
 
 mod changes;
 mod counting;
+mod kept;
 mod rows;
 mod saved;
 mod table;
 mod uses;
 
+pub use kept::KeptUses;
 pub use saved::Saved;
 pub use table::UseCounts;
 pub use uses::{Holder, NotUsing, UseRow};

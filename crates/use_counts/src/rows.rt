@@ -1,8 +1,8 @@
 //! The rows of gets, each found by its service and its bundle.
 ghost use Rattle.row_places.specs.RowPlaces.{IsPlaceOrGap};
-ghost use Rattle.std.specs.Prelude.{◌≡◌, ◌<◌, ◌≤◌, ◌==◌, filter, length, map, not, IfOk, MatchResult, OnErr, OnOk};
+ghost use Rattle.std.specs.Prelude.{◌≡◌, ◌<◌, ◌≤◌, ◌==◌, ◌∷◌, [], filter, length, map, not, IfOk, MatchResult, OnErr, OnOk};
 ghost use Rattle.use_counts.specs.Refusals.{AreOrdered};
-ghost use Rattle.use_counts.specs.Uses.{bundles_using, no_use, use_cmp, use_of, without_service, without_uses_of};
+ghost use Rattle.use_counts.specs.Uses.{bundles_using, is_use, no_use, use_cmp, use_of, without_service, without_uses_of};
 ghost use Rattle.use_counts.specs.declared.uses.UseRow.{UseRow};
 
 use crate::UseRow;
@@ -53,6 +53,64 @@ pub(crate) fn bundles_using(
         }
     }
     Ok(bundles)
+}
+
+/// The row of a bundle and a service, if it has one.
+pub(crate) fn row_of(
+    alloc: Global,
+    rows: &[UseRow],
+    bundle: u64,
+    service: u64,
+) -> Result<Vec<UseRow>, OutOfMemory>
+    requires { AreOrdered rows.now }
+    ensures { IfOk result (λ uses. uses.items ≡ filter (is_use bundle service) rows.now) }
+{
+    match place_of(rows, bundle, service) {
+        Ok(place) => one_row(alloc, &rows[place]),
+        Err(_) => Ok(Vec::new(alloc)),
+    }
+}
+
+fn one_row(alloc: Global, row: &UseRow) -> Result<Vec<UseRow>, OutOfMemory>
+    ensures { IfOk result (λ uses. uses.items ≡ row.now ∷ []) }
+{
+    let mut uses = Vec::new(alloc);
+    uses.push(*row)?;
+    Ok(uses)
+}
+
+/// The rows of a service.
+pub(crate) fn rows_of_service(
+    alloc: Global,
+    rows: &[UseRow],
+    service: u64,
+) -> Result<Vec<UseRow>, OutOfMemory>
+    ensures { IfOk result (λ uses. uses.items ≡ filter (λ (u : UseRow). u.service == service) rows.now) }
+{
+    let mut uses = Vec::new(alloc);
+    for row in rows {
+        if row.service == service {
+            uses.push(*row)?;
+        }
+    }
+    Ok(uses)
+}
+
+/// The rows of a bundle.
+pub(crate) fn rows_of_bundle(
+    alloc: Global,
+    rows: &[UseRow],
+    bundle: u64,
+) -> Result<Vec<UseRow>, OutOfMemory>
+    ensures { IfOk result (λ uses. uses.items ≡ filter (λ (u : UseRow). u.bundle == bundle) rows.now) }
+{
+    let mut uses = Vec::new(alloc);
+    for row in rows {
+        if row.bundle == bundle {
+            uses.push(*row)?;
+        }
+    }
+    Ok(uses)
 }
 
 /// Leaves out the gets of a service.

@@ -1,12 +1,17 @@
 //! The table of gets.
-ghost use Rattle.std.specs.Prelude.{◌≡◌, ◌<◌, ◌+◌, ◌^◌, [], IfOk, OnErr, OnOk};
-ghost use Rattle.use_counts.specs.Refusals.{IsUngetRefused};
-ghost use Rattle.use_counts.specs.Uses.{after_get, after_unget, bundles_using, holder_count, use_count, without_service, without_uses_of};
+ghost use Rattle.std.specs.Prelude.{◌≡◌, ◌<◌, ◌≤◌, ◌==◌, ◌+◌, ◌^◌, ℕ, [], List, Bool, filter, length, not, IfOk, OnErr, OnOk};
+ghost use Rattle.use_counts.specs.Refusals.{AreUses, IsUngetRefused};
+ghost use Rattle.use_counts.specs.Undoing.{with_rows};
+ghost use Rattle.use_counts.specs.Uses.{after_get, after_unget, bundles_using, holder_count, is_use, use_count, without_service, without_uses_of};
+ghost use Rattle.use_counts.specs.declared.uses.Holder.{Holder};
+ghost use Rattle.use_counts.specs.declared.uses.UseRow.{UseRow};
 
 use crate::changes::{add_get, take_get};
 use crate::counting::{held_by, total};
-use crate::rows::{bundles_using, leave_bundle, leave_service, use_of};
-use crate::{Holder, NotUsing, Saved, UseRow};
+use crate::rows::{
+    bundles_using, leave_bundle, leave_service, row_of, rows_of_bundle, rows_of_service, use_of,
+};
+use crate::{Holder, KeptUses, NotUsing, Saved, UseRow};
 use prop_map::{Copies, OutOfMemory};
 use std::alloc::Global;
 use std::marker::Model;
@@ -44,7 +49,8 @@ impl UseCounts {
 
     /// The gets, by service, then by bundle.
     pub fn rows(&self) -> &[UseRow]
-        ensures { result.now ≡ self.now }
+        ensures all { result.now ≡ self.now }
+        ensures uses { AreUses self.now }
     {
         self.rows.as_slice()
     }
@@ -64,7 +70,7 @@ impl UseCounts {
     }
 
     /// Takes one get of a holder back, and answers how many gets of the bundle and the service are left. It takes no
-    /// memory.
+    /// memory, so it undoes a `get` of this holder.
     ///
     /// # Errors
     /// `NotUsing` where the holder has none; the table is as it was.
@@ -73,6 +79,8 @@ impl UseCounts {
         ensures ok { OnOk result (self.new ≡ after_unget bundle service holder self.old) }
         ensures refused { IsUngetRefused bundle service holder self.old result }
         ensures err { OnErr result (self.new ≡ self.old) }
+        ensures fewer { length self.new ≤ length self.old }
+        ensures undone { OnOk result ((uses : List UseRow) → AreUses uses → self.old ≡ after_get bundle service holder uses → self.new ≡ uses) }
     {
         take_get(&mut self.rows, bundle, service, holder)
     }
@@ -103,16 +111,74 @@ impl UseCounts {
 
     /// Ends the gets of a service, as its leaving does. It takes no memory.
     pub fn release_service(&mut self, service: u64)
-        ensures { self.new ≡ without_service service self.old }
+        ensures left { self.new ≡ without_service service self.old }
+        ensures fewer { length self.new ≤ length self.old }
     {
         leave_service(&mut self.rows, service);
     }
 
     /// Ends the gets of a bundle, as its stop does. It takes no memory.
     pub fn release_bundle(&mut self, bundle: u64)
-        ensures { self.new ≡ without_uses_of bundle self.old }
+        ensures left { self.new ≡ without_uses_of bundle self.old }
+        ensures fewer { length self.new ≤ length self.old }
     {
         leave_bundle(&mut self.rows, bundle);
+    }
+
+    /// The gets of a bundle and a service, to be kept before one of them ends that may have to be put back.
+    ///
+    /// # Errors
+    /// Only want of memory.
+    pub fn keep_use(
+        &self,
+        alloc: Global,
+        bundle: u64,
+        service: u64,
+    ) -> Result<KeptUses, OutOfMemory>
+        ensures uses { IfOk result (λ kept. kept.uses ≡ filter (is_use bundle service) self.now) }
+        ensures room { IfOk result (λ kept. kept.room ≡ length self.now + length kept.uses) }
+    {
+        let uses = row_of(alloc, self.rows.as_slice(), bundle, service)?;
+        KeptUses::of(alloc, uses, self.rows.len())
+    }
+
+    /// The gets of a service, to be kept before it leaves, where they may have to be put back.
+    ///
+    /// # Errors
+    /// Only want of memory.
+    pub fn keep_service(&self, alloc: Global, service: u64) -> Result<KeptUses, OutOfMemory>
+        ensures uses { IfOk result (λ kept. kept.uses ≡ filter (λ (u : UseRow). u.service == service) self.now) }
+        ensures room { IfOk result (λ kept. kept.room ≡ length self.now + length kept.uses) }
+    {
+        let uses = rows_of_service(alloc, self.rows.as_slice(), service)?;
+        KeptUses::of(alloc, uses, self.rows.len())
+    }
+
+    /// The gets of a bundle, to be kept before it stops, where they may have to be put back.
+    ///
+    /// # Errors
+    /// Only want of memory.
+    pub fn keep_bundle(&self, alloc: Global, bundle: u64) -> Result<KeptUses, OutOfMemory>
+        ensures uses { IfOk result (λ kept. kept.uses ≡ filter (λ (u : UseRow). u.bundle == bundle) self.now) }
+        ensures room { IfOk result (λ kept. kept.room ≡ length self.now + length kept.uses) }
+    {
+        let uses = rows_of_bundle(alloc, self.rows.as_slice(), bundle)?;
+        KeptUses::of(alloc, uses, self.rows.len())
+    }
+
+    /// Puts gets that were kept back, each row in the place of the one of its bundle and service. It takes no memory. It
+    /// undoes an `unget`, a service's or a bundle's leaving, before which they were kept.
+    pub fn put_back(&mut self, kept: KeptUses)
+        requires room { length self.old + length kept.uses ≤ kept.room }
+        ensures back { self.new ≡ with_rows kept.uses self.old }
+        ensures unget { (uses : List UseRow) (bundle service : ℕ) (holder : Holder) →
+            AreUses uses → kept.uses ≡ filter (is_use bundle service) uses →
+            self.old ≡ after_unget bundle service holder uses → self.new ≡ uses }
+        ensures undone { (uses : List UseRow) (ended : UseRow → Bool) →
+            AreUses uses → kept.uses ≡ filter ended uses →
+            self.old ≡ filter (λ (u : UseRow). not (ended u)) uses → self.new ≡ uses }
+    {
+        kept.put_into(&mut self.rows);
     }
 
     /// The table as it is, to go back to.

@@ -1,0 +1,5 @@
+pub mod Coming
+pub mod Completing
+pub mod Faults
+pub mod Numbered
+pub mod Undone

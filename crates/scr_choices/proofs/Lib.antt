@@ -1,0 +1,3 @@
+pub mod ChoiceLaws
+pub mod StaticLaws
+pub mod WhileActive

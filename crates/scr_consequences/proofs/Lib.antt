@@ -1,0 +1,17 @@
+pub mod AllChanges
+pub mod BundleNumbers
+pub mod DirectLemmas
+pub mod DrainingLemmas
+pub mod FilterLemmas
+pub mod FlatMaps
+pub mod GetLemmas
+pub mod LastCallbacks
+pub mod LeftLemmas
+pub mod ListenerNumbers
+pub mod MovedLemmas
+pub mod RegisteredLemmas
+pub mod RisingLemmas
+pub mod RowAtLemmas
+pub mod SortedLemmas
+pub mod StopLemmas
+pub mod TellingLemmas

@@ -1,0 +1,8 @@
+use Rattle.std.proofs.Common.{◌≡◌, take}
+use Rattle.std.specs.Prelude.{filter, map}
+use Rattle.scr_world.specs.declared.instance.Instance.{Instance}
+use Rattle.scr_consequences.specs.Ends.{ends_making}
+use Rattle.scr_consequences.proofs.failures.configurations_ending.Given as goal
+
+abbrev pub invariant-loop-instance : goal.invariant-loop-instance
+invariant-loop-instance l = l.found.items ≡ map (λ (i : Instance). i.origin.configuration) (filter (ends_making l.open_now l.turn) (take l.instance-index l.instances))

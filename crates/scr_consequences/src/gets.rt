@@ -1,0 +1,131 @@
+//! The gets that stand (OSGi Core 8, chapter 5, "Unregistering Services"; chapter 4, "Stopping Bundles"): those of registered
+//! services for ACTIVE bundles.
+ghost use Rattle.prop_map.specs.Words.{has};
+ghost use Rattle.scr_consequences.specs.Gets.{stands, token_stands, use_stands};
+ghost use Rattle.scr_world.specs.Lists.{is_active_bundle, tokens_in, uses_in};
+ghost use Rattle.scr_world.specs.Worlds.{is_registered};
+ghost use Rattle.std.specs.List.{Contains};
+ghost use Rattle.std.specs.Prelude.{◌≡◌, ◌<◌, ℕ, IfNone, IfOk, IfSome, false, filter, length};
+ghost use Rattle.use_counts.specs.declared.uses.UseRow.{UseRow};
+
+use crate::endings::is_active_bundle;
+use crate::registered::registered_numbers;
+use crate::sorted_numbers::SortedNumbers;
+use prop_map::{Copies, List, OutOfMemory};
+use scr_world::{Token, World};
+use std::alloc::Global;
+use use_counts::{UseCounts, UseRow};
+
+// Whether a get of a service for a bundle stands.
+#[tactic(auto, unfolding(crate::specs::Gets::stands))]
+fn stands(now: &World, registered: &SortedNumbers, service: u64, bundle: u64) -> bool
+    requires { (number : ℕ) → has registered.now number ≡ is_registered now.now number }
+    ensures { result ≡ stands now.now service bundle }
+{
+    registered.has(service) && is_active_bundle(&now.bundles, bundle)
+}
+
+// A get that doesn't stand, if there is one.
+#[tactic(auto, using(crate::proofs::FilterLemmas::there_at))]
+fn first_ended(now: &World, registered: &SortedNumbers, uses: &[UseRow]) -> Option<UseRow>
+    requires { (number : ℕ) → has registered.now number ≡ is_registered now.now number }
+    ensures none { IfNone result (filter (use_stands now.now) uses.now ≡ uses.now) }
+    ensures some { IfSome result (λ row. (use_stands now.now row ≡ false) × Contains uses.now row) }
+{
+    for row in uses {
+        if !stands(now, registered, row.service, row.bundle) {
+            return Some(*row);
+        }
+    }
+    None
+}
+
+// Ends the gets of a bundle that isn't ACTIVE.
+#[tactic(auto, using(crate::proofs::GetLemmas::without_bundle_stand, crate::proofs::GetLemmas::without_bundle_fewer))]
+fn end_of_bundle(now: &World, row: &UseRow, uses: &mut UseCounts)
+    requires { is_active_bundle now.now row.now.bundle ≡ false }
+    ensures kept { filter (use_stands now.now) uses.new ≡ filter (use_stands now.now) uses.old }
+    ensures less { Contains uses.old row.now → length uses.new < length uses.old }
+{
+    uses.release_bundle(row.bundle);
+}
+
+// Ends the gets of a service that isn't registered.
+#[tactic(auto, using(crate::proofs::GetLemmas::without_service_stand, crate::proofs::GetLemmas::without_service_fewer))]
+fn end_of_service(now: &World, row: &UseRow, uses: &mut UseCounts)
+    requires { is_registered now.now row.now.service ≡ false }
+    ensures kept { filter (use_stands now.now) uses.new ≡ filter (use_stands now.now) uses.old }
+    ensures less { Contains uses.old row.now → length uses.new < length uses.old }
+{
+    uses.release_service(row.service);
+}
+
+// Ends the gets that end with one that doesn't stand.
+#[tactic(auto, using(crate::proofs::GetLemmas::ends_for_bundle))]
+fn end_like(now: &World, registered: &SortedNumbers, row: &UseRow, uses: &mut UseCounts)
+    requires known { (number : ℕ) → has registered.now number ≡ is_registered now.now number }
+    requires ended { use_stands now.now row.now ≡ false }
+    ensures kept { filter (use_stands now.now) uses.new ≡ filter (use_stands now.now) uses.old }
+    ensures less { Contains uses.old row.now → length uses.new < length uses.old }
+{
+    if registered.has(row.service) {
+        end_of_bundle(now, row, uses);
+    } else {
+        end_of_service(now, row, uses);
+    }
+}
+
+// Ends the gets that don't stand. It takes no memory.
+fn end_others(now: &World, registered: &SortedNumbers, uses: &mut UseCounts)
+    requires { (number : ℕ) → has registered.now number ≡ is_registered now.now number }
+    ensures { uses.new ≡ filter (use_stands now.now) uses.old }
+{
+    while let Some(row) = first_ended(now, registered, uses.rows()) {
+        end_like(now, registered, &row, uses);
+    }
+}
+
+/// The gets that stand in a world: those of registered services for ACTIVE bundles, by service, then by bundle.
+///
+/// # Errors
+/// Only want of memory.
+#[tactic(auto, unfolding(crate::specs::Gets::stands))]
+pub fn uses_in(alloc: Global, now: &World) -> Result<UseCounts, OutOfMemory>
+    ensures { IfOk result (λ uses. uses ≡ uses_in now.now) }
+{
+    let registered = registered_numbers(alloc, now)?;
+    let mut uses = now.uses.copy(alloc)?;
+    end_others(now, &registered, &mut uses);
+    Ok(uses)
+}
+
+// Those of these gets by token that stand.
+fn tokens_standing(
+    alloc: Global,
+    now: &World,
+    registered: &SortedNumbers,
+    tokens: &[Token],
+) -> Result<List<Token>, OutOfMemory>
+    requires { (number : ℕ) → has registered.now number ≡ is_registered now.now number }
+    ensures { IfOk result (λ found. found ≡ filter (token_stands now.now) tokens.now) }
+{
+    let mut found = Vec::new(alloc);
+    for token in tokens {
+        if stands(now, registered, token.service, token.bundle) {
+            found.push(*token)?;
+        }
+    }
+    Ok(List::of(found))
+}
+
+/// The gets by token that stand in a world, by place.
+///
+/// # Errors
+/// Only want of memory.
+#[tactic(auto, unfolding(crate::specs::Gets::stands))]
+pub fn tokens_in(alloc: Global, now: &World) -> Result<List<Token>, OutOfMemory>
+    ensures { IfOk result (λ tokens. tokens ≡ tokens_in now.now) }
+{
+    let registered = registered_numbers(alloc, now)?;
+    tokens_standing(alloc, now, &registered, now.tokens.as_slice())
+}

@@ -1,0 +1,31 @@
+//! What follows from a step of the journal, as code over borrowed worlds: what its pass stands on, the bundles that have stopped,
+//! the gates that are shut, the gets that stand, and what listeners are told.
+#![tactic(auto)]
+
+mod completed_stops;
+mod endings;
+mod failures;
+mod gates;
+mod gets;
+mod held_services;
+mod instances;
+mod moved_periods;
+mod pass_places;
+mod passes;
+mod platform_services;
+mod registered;
+mod sorted_numbers;
+mod stopped_bundles;
+mod telling;
+
+pub use completed_stops::{complete_stops, note_bundles, note_stops};
+pub use endings::{ends, is_active_bundle, is_ending};
+pub use failures::{ending_in, failing_of, failures_of};
+pub use gates::{draining_in, shut_since};
+pub use gets::{tokens_in, uses_in};
+pub use held_services::{holds, is_service_held, unregistered_held_between};
+pub use instances::{has_failed, has_turn, is_active};
+pub use passes::pass_in;
+pub use platform_services::{condition, direct_services};
+pub use stopped_bundles::{keeps_bundle, stopped_in};
+pub use telling::{note_listeners, tell_changes};

@@ -1,0 +1,9 @@
+pub mod Rows
+pub mod Ranks
+pub mod LastCallbacks
+pub mod Meeting
+pub mod Aside
+pub mod Desired
+pub mod Keys
+pub mod DueLemmas
+pub mod BeginLemmas

@@ -1,0 +1,7 @@
+use Rattle.std.proofs.Common.{◌≡◌, ◌++◌, drop}
+use Rattle.prop_map.specs.Words.{with_places}
+use Rattle.scr_dues.specs.Desires.{desired_for_all}
+use Rattle.scr_dues.proofs.desiring.desired_for_all.Given as goal
+
+abbrev pub invariant-loop-at : goal.invariant-loop-at
+invariant-loop-at l = l.found.items ++ desired_for_all l.ending l.world l.instance (with_places l.at (drop l.at l.references)) ≡ desired_for_all l.ending l.world l.instance (with_places 0 l.references)

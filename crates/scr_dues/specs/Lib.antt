@@ -1,0 +1,4 @@
+pub mod Beginnings
+pub mod Desires
+pub mod FirstDues
+pub mod Wanting

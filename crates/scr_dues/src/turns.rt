@@ -1,0 +1,219 @@
+//! Turns that are under way, and gates that await their drain (turns and gates are our own).
+ghost use Rattle.component_state.specs.declared.component.Component.{Component};
+ghost use Rattle.scr_world.specs.Calls.{next_drain};
+ghost use Rattle.scr_world.specs.Consequences.{gate_of, is_draining};
+ghost use Rattle.scr_world.specs.Instances.{has_turn, last_callback};
+ghost use Rattle.scr_world.specs.Legal.{awaits_drain, is_under_way};
+ghost use Rattle.scr_world.specs.TurnSteps.{class_in, name_in, work_for, work_under_way};
+ghost use Rattle.scr_world.specs.Worlds.{all_instances};
+ghost use Rattle.std.specs.List.{list_any};
+ghost use Rattle.std.specs.Option.{option_copied, option_map_or};
+ghost use Rattle.std.specs.Prelude.{◌≡◌, [], IfOk, find, option_map};
+
+use crate::components::component_in;
+use crate::endings::ends;
+use crate::own_rows::OwnRows;
+use crate::readiness::is_active_instance;
+use callback_orders::{Callback, Called, is_outstanding};
+use component_state::Component;
+use journal_core::GateKey;
+use kind_trait::Site;
+use prop_map::{Copies, OutOfMemory, Str};
+use scr_world::{Instance, World};
+use std::alloc::{AllocError, Global};
+use turn_runner::TurnWork;
+
+// The turn is under way, and the instance is told by it.
+fn has_turn(turn: u64, instance: &Instance) -> bool
+    ensures { result ≡ has_turn turn instance.now }
+{
+    instance.turn == turn && is_outstanding(instance.callbacks.as_slice())
+}
+
+fn told_among(instances: &[Instance], turn: u64) -> Option<&Instance>
+    ensures { option_copied result ≡ find (has_turn turn) instances.now }
+{
+    instances.iter().find(|instance| has_turn(turn, instance))
+}
+
+// The instance that is told by a turn under way.
+fn told_by(world: &World, turn: u64) -> Option<&Instance>
+    ensures { option_copied result ≡ find (has_turn turn) (all_instances world.now) }
+{
+    let whiteboard = &world.whiteboard;
+    if has_turn(turn, whiteboard) {
+        Some(whiteboard)
+    } else {
+        told_among(world.instances.as_slice(), turn)
+    }
+}
+
+fn is_told(instances: &[Instance], turn: u64) -> bool
+    ensures { result ≡ list_any (has_turn turn) instances.now }
+{
+    instances.iter().any(|instance| has_turn(turn, instance))
+}
+
+/// Whether a turn is under way. It takes no memory.
+pub fn is_under_way(world: &World, turn: u64) -> bool
+    ensures { result ≡ is_under_way world.now turn }
+{
+    has_turn(turn, &world.whiteboard) || is_told(world.instances.as_slice(), turn)
+}
+
+// The last callback that an instance was told of.
+#[tactic(auto, using(crate::proofs::LastCallbacks::callback_last))]
+fn last_callback(alloc: Global, calls: &[Called]) -> Result<Option<Callback>, OutOfMemory>
+    ensures { IfOk result (λ callback. callback ≡ last_callback calls.now) }
+{
+    match calls.last() {
+        Some(called) => Ok(Some(called.callback.copy(alloc)?)),
+        None => Ok(None),
+    }
+}
+
+fn name_by(alloc: Global, component: Option<&Component>) -> Result<Str, OutOfMemory>
+    ensures { IfOk result (λ name. name ≡ option_map_or (λ (c : Component). c.description.name) (option_copied component.entry) []) }
+{
+    match component {
+        Some(component) => component.description.get().name.copy(alloc),
+        None => Ok(Str::of(String::new(alloc))),
+    }
+}
+
+fn class_by(alloc: Global, component: Option<&Component>) -> Result<Str, OutOfMemory>
+    ensures { IfOk result (λ class. class ≡ option_map_or (λ (c : Component). c.description.implementation_class) (option_copied component.entry) []) }
+{
+    match component {
+        Some(component) => component.description.get().implementation_class.copy(alloc),
+        None => Ok(Str::of(String::new(alloc))),
+    }
+}
+
+fn name_in(
+    alloc: Global,
+    own: &OwnRows,
+    world: &World,
+    configuration: u64,
+) -> Result<Str, OutOfMemory>
+    ensures { IfOk result (λ name. name ≡ name_in world.now configuration) }
+{
+    name_by(
+        alloc,
+        component_in(own, world.components.as_slice(), configuration),
+    )
+}
+
+fn class_in(
+    alloc: Global,
+    own: &OwnRows,
+    world: &World,
+    configuration: u64,
+) -> Result<Str, OutOfMemory>
+    ensures { IfOk result (λ class. class ≡ class_in world.now configuration) }
+{
+    class_by(
+        alloc,
+        component_in(own, world.components.as_slice(), configuration),
+    )
+}
+
+fn work_for(
+    alloc: Global,
+    own: &OwnRows,
+    world: &World,
+    turn: u64,
+    instance: &Instance,
+    callback: Callback,
+) -> Result<TurnWork, OutOfMemory>
+    ensures { IfOk result (λ work. work ≡ work_for world.now turn instance.now callback) }
+{
+    let configuration = instance.origin.configuration;
+    Ok(TurnWork {
+        number: turn,
+        callback,
+        instance: instance.number,
+        name: name_in(alloc, own, world, configuration)?,
+        site: Site {
+            class: class_in(alloc, own, world, configuration)?,
+            properties: instance.properties.copy(alloc)?,
+        },
+    })
+}
+
+fn work_told(
+    alloc: Global,
+    own: &OwnRows,
+    world: &World,
+    turn: u64,
+    instance: &Instance,
+) -> Result<Option<TurnWork>, OutOfMemory>
+    ensures { IfOk result (λ work. work ≡ option_map (work_for world.now turn instance.now) (last_callback instance.now.callbacks)) }
+{
+    match last_callback(alloc, instance.callbacks.as_slice())? {
+        Some(callback) => Ok(Some(work_for(alloc, own, world, turn, instance, callback)?)),
+        None => Ok(None),
+    }
+}
+
+/// The work of a turn that is under way, none where no such turn is.
+///
+/// # Errors
+/// Only want of memory.
+pub fn work_under_way(
+    alloc: Global,
+    own: &OwnRows,
+    world: &World,
+    turn: u64,
+) -> Result<Option<TurnWork>, OutOfMemory>
+    ensures { IfOk result (λ work. work ≡ work_under_way world.now turn) }
+{
+    match told_by(world, turn) {
+        Some(instance) => work_told(alloc, own, world, turn, instance),
+        None => Ok(None),
+    }
+}
+
+/// Whether the gate of an instance is shut and its drain isn't posted. It takes no memory.
+pub fn awaits_drain(world: &World, instance: &Instance) -> bool
+    ensures { result ≡ awaits_drain world.now instance.now }
+{
+    !instance.drained && is_active_instance(instance) && ends(world, instance)
+}
+
+fn first_awaiting<'a>(world: &World, instances: &'a [Instance]) -> Option<&'a Instance>
+    ensures { option_copied result ≡ find (awaits_drain world.now) instances.now }
+{
+    instances
+        .iter()
+        .find(|instance| awaits_drain(world, instance))
+}
+
+/// The gate of an instance.
+///
+/// # Errors
+/// That its slot is no number of 32 bits counts as want of memory.
+pub fn gate_of(instance: &Instance) -> Result<GateKey, OutOfMemory>
+    ensures { IfOk result (λ key. key ≡ gate_of instance.now) }
+{
+    match u32::try_from(instance.slot) {
+        Ok(slot) => Ok(GateKey {
+            slot,
+            generation: instance.generation,
+        }),
+        Err(_) => Err(AllocError),
+    }
+}
+
+/// The gate of the first instance that awaits its drain, if one does.
+///
+/// # Errors
+/// That its slot is no number of 32 bits counts as want of memory.
+pub fn next_drain(world: &World) -> Result<Option<GateKey>, OutOfMemory>
+    ensures { IfOk result (λ key. key ≡ next_drain world.now) }
+{
+    match first_awaiting(world, world.instances.as_slice()) {
+        Some(instance) => Ok(Some(gate_of(instance)?)),
+        None => Ok(None),
+    }
+}

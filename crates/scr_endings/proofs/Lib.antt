@@ -1,0 +1,7 @@
+pub mod CallbackLists
+pub mod Comings
+pub mod DueCallbacks
+pub mod EndingLaws
+pub mod InstanceComponents
+pub mod PassOrders
+pub mod ViewedReferences

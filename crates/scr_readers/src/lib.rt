@@ -1,0 +1,25 @@
+//! What a platform tells of its world, without changing it: bundles and services, component configurations, what is held, what
+//! listeners were told, and whom a call reaches.
+#![tactic(auto)]
+
+mod best_held;
+mod bundles;
+mod calls;
+mod calls_at;
+mod components;
+mod events;
+mod held;
+mod instances;
+mod live;
+mod numbered_services;
+mod services;
+
+pub use bundles::{bundle_events_after, bundle_lines};
+pub use calls::{active, nested, outer};
+pub use calls_at::{active_at, nested_at, outer_at};
+pub use components::component_lines;
+pub use events::events_after;
+pub use held::{held_lines, held_rows, held_services};
+pub use instances::ending;
+pub use live::{Inward, InwardAt, Live, LiveAt, Outer, OuterAt};
+pub use services::{find_services, service_lines, services_by_number};

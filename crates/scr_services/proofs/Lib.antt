@@ -1,0 +1,4 @@
+pub mod OpenedNumbers
+pub mod RegistrySteps
+pub mod PeriodSteps
+pub mod ServiceLaws

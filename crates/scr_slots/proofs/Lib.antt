@@ -1,0 +1,4 @@
+pub mod AtSlots
+pub mod GateMoves
+pub mod LevelCounts
+pub mod LevelLaws
