@@ -54,7 +54,13 @@ reserved_with_tokens w tokens = sum (map reserved_for (all_instances w)) + token
 
 -- what settles after a pass
 abbrev pub settled_world : Rest → List ℕ → World → World
-settled_world r stopped w = record w { entries = r.entries; uses = r.uses; tokens = r.tokens; unregistered_held = r.unregistered_held; bundles = stop_completed stopped w.bundles }
+settled_world r stopped w = record w {
+  entries = r.entries;
+  uses = r.uses;
+  tokens = r.tokens;
+  unregistered_held = r.unregistered_held;
+  bundles = stop_completed stopped w.bundles;
+}
 
 -- what it is, where this was the world before the step
 pub record IsRest (was w : World) (r : Rest) : Type 0 where
@@ -106,7 +112,8 @@ pub record IsAmid (journal : JournalRows Step) (step : Step) (s : State) (undo :
   pub draining : draining_ones ≡ draining_in (world_at journal.entries)
 
 -- its pass has run, and its periods stand in the world
-pub record IsSettling (journal : JournalRows Step) (step : Step) (s : State) (undo : Draft) (open_then : List OpenPeriod) (lists : Lists) (draining_ones : List ℕ) : Type 0 where
+pub record IsSettling (journal : JournalRows Step) (step : Step) (s : State) (undo : Draft) (open_then : List OpenPeriod) (lists : Lists)
+    (draining_ones : List ℕ) : Type 0 where
   pub pass : Passed
   pub passed : HasPassed (stage_of step (world_at journal.entries)) pass
   pub grows : MayGrow journal step
@@ -132,7 +139,8 @@ pub record WasAdded (before now : JournalRows Step) : Type 0 where
   pub room : length before.entries + before.reserved ≤ before.limit
 
 -- an entry stands, and the world is that after it
-pub record HasSettled (old : JournalRows Step) (step : Step) (lists : Lists) (was : State) (new : JournalRows Step) (now : State) (gates : List GateKey) : Type 0 where
+pub record HasSettled (old : JournalRows Step) (step : Step) (lists : Lists) (was : State) (new : JournalRows Step) (now : State)
+    (gates : List GateKey) : Type 0 where
   pub journal : HasEntered old step lists (reserved now.world) new
   pub state : now ≡ record was { world = world_after_entry (entry_with step lists) (world_at old.entries) }
   pub shut : gates ≡ shut_between (world_at old.entries) now.world

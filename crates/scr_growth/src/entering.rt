@@ -22,7 +22,15 @@ pub(crate) fn add_entry(
     reserved: u64,
 ) -> Result<(), OutOfMemory>
     requires { length journal.old.entries + 1 + reserved ≤ journal.old.limit }
-    ensures ok { OnOk result (journal.new ≡ record journal.old { entries = journal.old.entries ++ record { step = step.value; closed = lists.closed; opened = lists.opened; stopped = lists.stopped } ∷ []; reserved = reserved }) }
+    ensures ok { OnOk result (journal.new ≡ record journal.old {
+      entries = journal.old.entries ++ record {
+        step = step.value;
+        closed = lists.closed;
+        opened = lists.opened;
+        stopped = lists.stopped;
+      } ∷ [];
+      reserved = reserved;
+    }) }
     ensures err { OnErr result (journal.new ≡ journal.old) }
 {
     let before = journal.reserved();

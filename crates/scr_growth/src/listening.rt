@@ -34,7 +34,9 @@ pub(crate) fn tell_last(
     requires cached { AreCached state.old undo.now }
     requires before { HasBefore state.old.world undo.now periods.now }
     requires numbered { AreNumbered state.old.world.listeners.numbered state.old.world.listeners.rows }
-    ensures ok { OnOk result ((entries : Items (Entry Step)) (entry : Entry Step) (was : World) → journal.now.entries ≡ entries ++ entry ∷ [] → IsBefore was state.old.world undo.now periods.now → state.new ≡ record state.old { world = with_listeners_told entry.step was state.old.world }) }
+    ensures ok { OnOk result ((entries : Items (Entry Step)) (entry : Entry Step) (was : World) → journal.now.entries ≡ entries ++ entry ∷ []
+        → IsBefore was state.old.world undo.now periods.now
+        → state.new ≡ record state.old { world = with_listeners_told entry.step was state.old.world }) }
     ensures err { OnErr result (state.new ≡ state.old) }
 {
     match journal.entries().last() {
@@ -56,7 +58,8 @@ fn tell(
     requires cached { AreCached state.old undo.now }
     requires before { HasBefore state.old.world undo.now periods.now }
     requires numbered { AreNumbered state.old.world.listeners.numbered state.old.world.listeners.rows }
-    ensures ok { OnOk result ((was : World) → IsBefore was state.old.world undo.now periods.now → state.new ≡ record state.old { world = with_listeners_told step.now was state.old.world }) }
+    ensures ok { OnOk result ((was : World) → IsBefore was state.old.world undo.now periods.now
+        → state.new ≡ record state.old { world = with_listeners_told step.now was state.old.world }) }
     ensures err { OnErr result (state.new ≡ state.old) }
 {
     let change = listener_change(alloc, step)?;
@@ -85,7 +88,8 @@ fn tell_and_apply(
     requires cached { AreCached state.now undo.now }
     requires before { HasBefore state.now.world undo.now periods.now }
     requires numbered { AreNumbered listeners.old.numbered listeners.old.rows }
-    ensures ok { OnOk result ((was : World) → IsBefore was state.now.world undo.now periods.now → listeners.new ≡ with_listener_change change (after_changes (changes_between was state.now.world) listeners.old)) }
+    ensures ok { OnOk result ((was : World) → IsBefore was state.now.world undo.now periods.now
+        → listeners.new ≡ with_listener_change change (after_changes (changes_between was state.now.world) listeners.old)) }
     ensures err { OnErr result (listeners.new ≡ listeners.old) }
 {
     let saved = listeners.save(alloc)?;
@@ -108,7 +112,8 @@ fn tell_all(
 ) -> Result<(), OutOfMemory>
     requires cached { AreCached state.now undo.now }
     requires numbered { AreNumbered listeners.old.numbered listeners.old.rows }
-    ensures ok { OnOk result ((was : World) → IsBefore was state.now.world undo.now periods.now → listeners.new ≡ after_changes (changes_between was state.now.world) listeners.old) }
+    ensures ok { OnOk result ((was : World) → IsBefore was state.now.world undo.now periods.now
+        → listeners.new ≡ after_changes (changes_between was state.now.world) listeners.old) }
     ensures err { OnErr result (listeners.new ≡ listeners.old) }
 {
     tell_changes(

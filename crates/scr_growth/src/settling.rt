@@ -1,7 +1,8 @@
 //! What an entry leaves once its pass has run: gets, services that are held though they left, gates that are shut, and what is
 //! reserved.
 ghost use Rattle.scr_consequences.specs.Ends.{draining_in};
-ghost use Rattle.scr_growth.specs.Growths.{AreCached, HasBefore, HasEntered, HasSettled, IsBefore, IsRest, IsSettling, reserved_with_tokens, services_among, settled_world, with_listeners_told};
+ghost use Rattle.scr_growth.specs.Growths.{AreCached, HasBefore, HasEntered, HasSettled, IsBefore};
+ghost use Rattle.scr_growth.specs.Growths.{IsRest, IsSettling, reserved_with_tokens, services_among, settled_world, with_listeners_told};
 ghost use Rattle.callback_orders.specs.Grammar.{is_activate};
 ghost use Rattle.bundle_life.specs.Lives.{is_stopping, state_is};
 ghost use Rattle.scr_world.specs.Instances.{is_activated};
@@ -132,7 +133,8 @@ fn enter(
     requires before { HasBefore state.old.world undo.now periods.now }
     requires numbered { AreNumbered state.old.world.listeners.numbered state.old.world.listeners.rows }
     ensures ok { OnOk result (HasEntered journal.old step.value lists reserved journal.new) }
-    ensures told { OnOk result ((was : World) → IsBefore was state.old.world undo.now periods.now → state.new ≡ record state.old { world = with_listeners_told step.value was state.old.world }) }
+    ensures told { OnOk result ((was : World) → IsBefore was state.old.world undo.now periods.now
+        → state.new ≡ record state.old { world = with_listeners_told step.value was state.old.world }) }
     ensures journal { OnErr result (journal.new ≡ journal.old) }
     ensures state { OnErr result (state.new ≡ state.old) }
 {
