@@ -1,0 +1,4 @@
+pub mod Growing
+pub mod ListenerLemmas
+pub mod SettleSteps
+pub mod Settled

@@ -1,0 +1,11 @@
+//! The one way in which a journal grows: an entry at its end, and the state after it, or neither.
+#![tactic(auto)]
+
+mod entering;
+mod growth;
+mod listener_change;
+mod listening;
+mod settling;
+mod undone;
+
+pub use growth::grow;

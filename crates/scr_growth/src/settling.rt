@@ -1,0 +1,234 @@
+//! What an entry leaves once its pass has run: gets, services that are held though they left, gates that are shut, and what is
+//! reserved.
+ghost use Rattle.scr_consequences.specs.Ends.{draining_in};
+ghost use Rattle.scr_growth.specs.Growths.{AreCached, HasBefore, HasEntered, HasSettled, IsBefore};
+ghost use Rattle.scr_growth.specs.Growths.{IsRest, IsSettling, reserved_with_tokens, services_among, settled_world, with_listeners_told};
+ghost use Rattle.callback_orders.specs.Grammar.{is_activate};
+ghost use Rattle.bundle_life.specs.Lives.{is_stopping, state_is};
+ghost use Rattle.scr_world.specs.Instances.{is_activated};
+ghost use Rattle.scr_world.specs.Room.{one_if, reserved_for};
+ghost use Rattle.scr_world.specs.declared.world.World.{World};
+ghost use Rattle.service_listeners.specs.Numbers.{AreNumbered};
+ghost use Rattle.std.specs.List.{All, AllPairs};
+ghost use Rattle.std.specs.Prelude.{◌≡◌, ◌+◌, ◌<◌, ◌≤◌, ℕ, IfOk, IsTrue, OnErr, OnOk, length, map, sum};
+
+use crate::entering::{add_entry, take_entry};
+use crate::listening::tell_last;
+use crate::undone::{periods_before, rows_before};
+use callback_orders::{Callback, Called, Outcome, is_outstanding};
+use component_state::OpenPeriod;
+use journal_core::{GateKey, Journal, Opened};
+use prop_map::{List, OutOfMemory};
+use scr_consequences::{
+    complete_stops, note_bundles, note_listeners, note_stops, shut_since, tokens_in,
+    unregistered_held_between, uses_in,
+};
+use scr_state::{Draft, State};
+use scr_world::{Instance, Step, Token, World};
+use service_registry::ServiceRow;
+use std::alloc::{AllocError, Global};
+use use_counts::UseCounts;
+
+/// The lists of an entry.
+#[derive(Drop)]
+pub(crate) struct Lists {
+    pub(crate) closed: List<u64>,
+    pub(crate) opened: List<Opened>,
+    pub(crate) stopped: List<u64>,
+}
+
+// What an entry leaves.
+#[derive(Drop)]
+pub(crate) struct Rest {
+    entries: u64,
+    uses: UseCounts,
+    tokens: List<Token>,
+    unregistered_held: List<ServiceRow>,
+    shut: List<GateKey>,
+    reserved: u64,
+}
+
+/// Appends the entry of a step whose pass stands in the world, and makes the world what it is after it.
+///
+/// # Errors
+/// Only want of memory. The journal and the state are as they were.
+pub(crate) fn settle(
+    alloc: Global,
+    journal: &mut Journal<Step>,
+    state: &mut State,
+    undo: &Draft,
+    periods: &List<OpenPeriod>,
+    step: Box<Step>,
+    lists: Lists,
+    draining: &List<u64>,
+) -> Result<List<GateKey>, OutOfMemory>
+    requires { IsSettling journal.old step.value state.old undo.now periods.now lists draining.now }
+    ensures settled { IfOk result (λ shut. HasSettled journal.old step.value lists state.old journal.new state.new shut) }
+    ensures journal { OnErr result (journal.new ≡ journal.old) }
+    ensures state { OnErr result (state.new ≡ state.old) }
+{
+    // These let the proof know what holds of every journal, and of the registry.
+    note_listeners();
+    note_bundles();
+    note_stops();
+    let _rows = state.world.registry.rows();
+    let rest = rest_of(alloc, &state.world, undo, periods, draining)?;
+    let stopped = List::of(Vec::from_slice(alloc, lists.stopped.as_slice())?);
+    let given = services_among(lists.opened.as_slice());
+    state.world.registry.give(given)?;
+    match enter(
+        alloc,
+        journal,
+        state,
+        undo,
+        periods,
+        step,
+        lists,
+        rest.reserved,
+    ) {
+        Ok(()) => Ok(leave(&mut state.world, rest, &stopped)),
+        Err(error) => {
+            state.world.registry.give_back(given);
+            Err(error)
+        }
+    }
+}
+
+fn rest_of(
+    alloc: Global,
+    world: &World,
+    undo: &Draft,
+    periods: &List<OpenPeriod>,
+    draining: &List<u64>,
+) -> Result<Rest, OutOfMemory>
+    ensures { IfOk result (λ r. (was : World) → IsBefore was world.now undo.now periods.now → draining.now ≡ draining_in was → IsRest was world.now r) }
+{
+    let tokens = tokens_in(alloc, world)?;
+    let reserved = reserved(world, tokens.as_slice())?;
+    let rows = rows_before(world, undo);
+    let before = periods_before(periods, undo);
+    Ok(Rest {
+        entries: world.entries.checked_add(1).ok_or(AllocError)?,
+        uses: uses_in(alloc, world)?,
+        tokens,
+        unregistered_held: unregistered_held_between(alloc, rows, before, world)?,
+        shut: shut_since(alloc, world, draining.as_slice())?,
+        reserved,
+    })
+}
+
+// Adds an entry, and tells the listeners of it: both or nothing.
+fn enter(
+    alloc: Global,
+    journal: &mut Journal<Step>,
+    state: &mut State,
+    undo: &Draft,
+    periods: &List<OpenPeriod>,
+    step: Box<Step>,
+    lists: Lists,
+    reserved: u64,
+) -> Result<(), OutOfMemory>
+    requires room { length journal.old.entries + 1 + reserved ≤ journal.old.limit }
+    requires cached { AreCached state.old undo.now }
+    requires before { HasBefore state.old.world undo.now periods.now }
+    requires numbered { AreNumbered state.old.world.listeners.numbered state.old.world.listeners.rows }
+    ensures ok { OnOk result (HasEntered journal.old step.value lists reserved journal.new) }
+    ensures told { OnOk result ((was : World) → IsBefore was state.old.world undo.now periods.now
+        → state.new ≡ record state.old { world = with_listeners_told step.value was state.old.world }) }
+    ensures journal { OnErr result (journal.new ≡ journal.old) }
+    ensures state { OnErr result (state.new ≡ state.old) }
+{
+    let before = journal.reserved();
+    // This lets the proof know that what is reserved has room.
+    let _room = journal.room();
+    add_entry(journal, step, lists, reserved)?;
+    match tell_last(alloc, journal, state, undo, periods) {
+        Ok(()) => Ok(()),
+        Err(error) => {
+            take_entry(journal, before);
+            Err(error)
+        }
+    }
+}
+
+// Takes over into the world what an entry leaves.
+fn leave(world: &mut World, rest: Rest, stopped: &List<u64>) -> List<GateKey>
+    requires stopping { All (λ n. IsTrue (state_is is_stopping world.old.bundles.rows n)) stopped.now }
+    requires rising { AllPairs (λ (a b : ℕ). a < b) stopped.now }
+    ensures world { world.new ≡ settled_world rest stopped.now world.old }
+    ensures shut { result ≡ rest.shut }
+{
+    let Rest {
+        entries,
+        uses,
+        tokens,
+        unregistered_held,
+        shut,
+        ..
+    } = rest;
+    world.entries = entries;
+    world.uses = uses;
+    world.tokens = tokens;
+    world.unregistered_held = unregistered_held;
+    complete_stops(&mut world.bundles, stopped.as_slice());
+    shut
+}
+
+// How many services open.
+fn services_among(opened: &[Opened]) -> u64
+    ensures { result ≡ services_among opened.now }
+{
+    opened.iter().filter(|one| one.service != 0).count() as u64
+}
+
+// How many entries are reserved in a world, where these are the gets by token.
+fn reserved(world: &World, tokens: &[Token]) -> Result<u64, OutOfMemory>
+    ensures { IfOk result (λ n. n ≡ reserved_with_tokens world.now (length tokens.now)) }
+{
+    let instances = reserved_for_all(world.instances.as_slice())?;
+    let all = reserved_for(&world.whiteboard)
+        .checked_add(instances)
+        .ok_or(AllocError)?;
+    all.checked_add(tokens.len() as u64).ok_or(AllocError)
+}
+
+fn reserved_for_all(instances: &[Instance]) -> Result<u64, OutOfMemory>
+    ensures { IfOk result (λ n. n ≡ sum (map reserved_for instances.now)) }
+{
+    let mut all: u64 = 0;
+    for instance in instances {
+        all = all.checked_add(reserved_for(instance)).ok_or(AllocError)?;
+    }
+    Ok(all)
+}
+
+// The entries that are reserved for an instance: the end of its turn, and its drain.
+fn reserved_for(instance: &Instance) -> u64
+    ensures { result ≡ reserved_for instance.now }
+{
+    let calls = instance.callbacks.as_slice();
+    one_if(is_outstanding(calls)) + one_if(is_activated(calls) && !instance.drained)
+}
+
+fn one_if(so: bool) -> u64
+    ensures value { result ≡ one_if so }
+    ensures small { result ≤ 1 }
+{
+    if so { 1 } else { 0 }
+}
+
+// Whether an Activate is outstanding or ended Done.
+fn is_activated(calls: &[Called]) -> bool
+    ensures { result ≡ is_activated calls.now }
+{
+    calls.iter().any(|called| {
+        is_activate(&called.callback)
+            && !matches!(called.outcome, Some(Outcome::Refused | Outcome::NoMemory))
+    })
+}
+
+fn is_activate(callback: &Callback) -> bool
+    ensures { result ≡ is_activate callback.now }
+{
+    matches!(callback, Callback::Activate)
+}
