@@ -3,6 +3,7 @@
 use crate::samples::properties;
 use config_admin::{ConfigFault, Configuration, Configurations};
 use prop_map::Value;
+use std::alloc::Global;
 use std::test::Fail;
 
 // Whether a text stands at a key of a configuration.
@@ -95,5 +96,42 @@ fn configurations_go_back_to_what_was_saved(rt: HostRuntime) -> Result<(), Fail>
     assert_eq!(rt; configurations.delete("m~one"), Ok(()));
     configurations.go_back(saved);
     assert!(rt; configurations.of_pid("m~one").is_some());
+    Ok(())
+}
+
+#[test]
+fn each_change_of_configurations_is_undone(rt: HostRuntime) -> Result<(), Fail> {
+    let alloc = rt.alloc();
+    let mut configurations = Configurations::new(alloc)?;
+    let first = configurations.overwrite(alloc, "a", properties(alloc, 1)?)?;
+    let second = configurations.overwrite(alloc, "a", properties(alloc, 2)?)?;
+    configurations.restore(second);
+    assert!(rt; configurations.of_pid("a").is_some());
+    configurations.restore(first);
+    assert!(rt; configurations.rows().is_empty());
+    let third = configurations.overwrite_factory(alloc, "m", "one", properties(alloc, 1)?)?;
+    assert_eq!(rt; third.pid.as_str(), "m~one");
+    Ok(())
+}
+
+// Removes the configuration of a PID and puts it back.
+fn put_back(
+    alloc: Global,
+    configurations: &mut Configurations,
+    pid: &str,
+) -> Result<(), ConfigFault> {
+    let room = configurations.room(alloc)?;
+    let configuration = configurations.remove(pid)?;
+    configurations.put_back(configuration, room);
+    Ok(())
+}
+
+#[test]
+fn a_removed_configuration_is_put_back(rt: HostRuntime) -> Result<(), Fail> {
+    let alloc = rt.alloc();
+    let mut configurations = Configurations::new(alloc)?;
+    configurations.set(alloc, "a", properties(alloc, 1)?)?;
+    put_back(alloc, &mut configurations, "a")?;
+    assert!(rt; configurations.of_pid("a").is_some());
     Ok(())
 }
