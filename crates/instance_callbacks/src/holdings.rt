@@ -1,7 +1,8 @@
-//! The services that are held, in a row for each reference that was bound.
-ghost use Rattle.instance_callbacks.specs.Held.{is_named, services_of};
-ghost use Rattle.std.specs.List.{position};
-ghost use Rattle.std.specs.Prelude.{◌≡◌, ◌==◌, ◌++◌, ◌∷◌, ◌-◌, ℕ, [], filter, length, not, take, List, None, IfOk, OnErr, OnOk, if◌then◌else◌};
+//! The services that are held, in a row for each reference that was bound, by reference in byte order.
+ghost use Rattle.instance_callbacks.specs.Held.{AreByReference, reference_cmp, services_of, sought};
+ghost use Rattle.instance_callbacks.specs.declared.holdings.Holding.{Holding};
+ghost use Rattle.row_places.specs.RowPlaces.{IsPlaceOrGap};
+ghost use Rattle.std.specs.Prelude.{◌≡◌, ◌==◌, ◌++◌, ◌∷◌, ◌-◌, ◌<◌, ◌≤◌, ℕ, [], filter, length, not, take, List, Err, IfOk, MatchResult, OnErr, OnOk, if◌then◌else◌};
 ghost use Rattle.std.specs.Str.{bytes_eq};
 
 use crate::services::Services;
@@ -26,19 +27,22 @@ impl Copies for Holding {
 
 /// The services that are held for a reference, none where it has no row.
 pub(crate) fn services_of<'a>(rows: &'a [Holding], reference: &Str) -> &'a [u64]
+    requires { AreByReference rows.now }
     ensures { result.now ≡ services_of reference.now rows.now }
 {
-    match place_of(rows, reference) {
-        Some(place) => rows[place].services.as_slice(),
-        None => &[],
+    match place_of(rows, reference.as_str()) {
+        Ok(place) => rows[place].services.as_slice(),
+        Err(_) => &[],
     }
 }
 
-// The place of a reference's row.
-fn place_of(rows: &[Holding], reference: &Str) -> Option<usize>
-    ensures { result ≡ position (is_named reference.now) rows.now }
+// Where a reference's row stands, or the gap where it would stand. It is found by halving.
+fn place_of(rows: &[Holding], reference: &str) -> Result<usize, usize>
+    requires { AreByReference rows.now }
+    ensures place { IsPlaceOrGap (λ (h : Holding). reference_cmp h (sought reference.now)) result rows.now }
+    ensures within { MatchResult result (λ place. place < length rows.now) (λ gap. gap ≤ length rows.now) }
 {
-    rows.iter().position(|row| row.reference == *reference)
+    rows.binary_search_by(|row| row.reference.as_str().cmp(reference))
 }
 
 /// Holds a service more for a reference.
@@ -48,51 +52,60 @@ pub(crate) fn add(
     reference: &Str,
     service: u64,
 ) -> Result<(), OutOfMemory>
+    requires { AreByReference rows.old.items }
     ensures ok { OnOk result ((name : List ℕ) → services_of name rows.new.items ≡ (if bytes_eq reference.now name then services_of name rows.old.items ++ service ∷ [] else services_of name rows.old.items)) }
     ensures err { OnErr result ((name : List ℕ) → services_of name rows.new.items ≡ services_of name rows.old.items) }
+    ensures order { AreByReference rows.new.items }
 {
-    match place_of(rows.as_slice(), reference) {
-        Some(place) => rows[place].services.add(service),
-        None => add_row(alloc, rows, reference, service),
+    match place_of(rows.as_slice(), reference.as_str()) {
+        Ok(place) => rows[place].services.add(service),
+        Err(gap) => add_row(alloc, rows, gap, reference, service),
     }
 }
 
-// The first service for a reference.
+// The first service for a reference, in the gap where its row would stand.
 fn add_row(
     alloc: Global,
     rows: &mut Vec<Holding>,
+    gap: usize,
     reference: &Str,
     service: u64,
 ) -> Result<(), OutOfMemory>
-    requires { position (is_named reference.now) rows.old.items ≡ None }
+    requires order { AreByReference rows.old.items }
+    requires place { IsPlaceOrGap (λ (h : Holding). reference_cmp h (sought reference.now)) (Err gap) rows.old.items }
     ensures ok { OnOk result ((name : List ℕ) → services_of name rows.new.items ≡ (if bytes_eq reference.now name then services_of name rows.old.items ++ service ∷ [] else services_of name rows.old.items)) }
     ensures err { OnErr result (rows.new.items ≡ rows.old.items) }
+    ensures order { AreByReference rows.new.items }
 {
     let row = Holding {
         reference: reference.copy(alloc)?,
         services: Services::one(alloc, service)?,
     };
-    rows.push(row)?;
+    rows.insert(gap, row)?;
     Ok(())
 }
 
 /// A service isn't held any more for a reference.
 pub(crate) fn let_go(rows: &mut Vec<Holding>, reference: &Str, service: u64)
-    ensures { (name : List ℕ) → services_of name rows.new.items ≡ (if bytes_eq reference.now name then filter (λ s. not (s == service)) (services_of name rows.old.items) else services_of name rows.old.items) }
+    requires { AreByReference rows.old.items }
+    ensures held { (name : List ℕ) → services_of name rows.new.items ≡ (if bytes_eq reference.now name then filter (λ s. not (s == service)) (services_of name rows.old.items) else services_of name rows.old.items) }
+    ensures order { AreByReference rows.new.items }
 {
-    match place_of(rows.as_slice(), reference) {
-        Some(place) => rows[place].services.let_go(service),
-        None => {}
+    match place_of(rows.as_slice(), reference.as_str()) {
+        Ok(place) => rows[place].services.let_go(service),
+        Err(_) => {}
     }
 }
 
 /// Takes the newest service of a reference back.
 pub(crate) fn take_back(rows: &mut Vec<Holding>, reference: &Str)
-    ensures { (name : List ℕ) → services_of name rows.new.items ≡ (if bytes_eq reference.now name then take (length (services_of name rows.old.items) - 1) (services_of name rows.old.items) else services_of name rows.old.items) }
+    requires { AreByReference rows.old.items }
+    ensures held { (name : List ℕ) → services_of name rows.new.items ≡ (if bytes_eq reference.now name then take (length (services_of name rows.old.items) - 1) (services_of name rows.old.items) else services_of name rows.old.items) }
+    ensures order { AreByReference rows.new.items }
 {
-    match place_of(rows.as_slice(), reference) {
-        Some(place) => rows[place].services.take_back(),
-        None => {}
+    match place_of(rows.as_slice(), reference.as_str()) {
+        Ok(place) => rows[place].services.take_back(),
+        Err(_) => {}
     }
 }
 

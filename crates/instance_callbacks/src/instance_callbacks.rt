@@ -87,8 +87,8 @@ impl InstanceCallbacks {
     }
 
     /// The services that are held for the reference of a name, in the order of their Binds, none where there was no
-    /// Bind. A service is held from the beginning of its Bind to the end of its Unbind. The references that were bound
-    /// are gone through, not the callbacks.
+    /// Bind. A service is held from the beginning of its Bind to the end of its Unbind. Its reference is found by halving
+    /// among those that were bound, and no callback is looked at.
     pub fn held(&self, name: &Str) -> &[u64]
         ensures { result.now ≡ held_for name.now self.now }
     {

@@ -2,7 +2,7 @@
 ghost use Rattle.callback_orders.specs.Lives.{held_by, phase_by, phase_of};
 ghost use Rattle.callback_orders.specs.Sequences.{all_but_last, ended, is_outstanding};
 ghost use Rattle.callback_orders.specs.declared.callback.Outcome.{Outcome};
-ghost use Rattle.instance_callbacks.specs.Held.{AreHeld, services_of};
+ghost use Rattle.instance_callbacks.specs.Held.{AreByReference, AreHeld, services_of};
 ghost use Rattle.std.specs.Prelude.{◌≡◌, ℕ, List, Some, None, IsTrue, OnErr, OnOk};
 
 use crate::holdings::{Holding, add, let_go, take_back};
@@ -30,8 +30,10 @@ pub(crate) fn phase_ended(calls: &[Called], outcome: Outcome, phase: Phase) -> P
 }
 
 fn hold(alloc: Global, rows: &mut Vec<Holding>, callback: &Callback) -> Result<(), OutOfMemory>
+    requires { AreByReference rows.old.items }
     ensures ok { OnOk result ((name : List ℕ) → services_of name rows.new.items ≡ held_by name callback.now None (services_of name rows.old.items)) }
     ensures err { OnErr result ((name : List ℕ) → services_of name rows.new.items ≡ services_of name rows.old.items) }
+    ensures order { AreByReference rows.new.items }
 {
     match callback {
         Callback::Bind { reference, service } => add(alloc, rows, reference, *service),
@@ -54,7 +56,9 @@ pub(crate) fn hold_begun(
 }
 
 fn end_hold(rows: &mut Vec<Holding>, callback: &Callback)
-    ensures { (name : List ℕ) → (outcome : Outcome) → (before : List ℕ) → services_of name rows.old.items ≡ held_by name callback.now None before → services_of name rows.new.items ≡ held_by name callback.now (Some outcome) before }
+    requires { AreByReference rows.old.items }
+    ensures held { (name : List ℕ) → (outcome : Outcome) → (before : List ℕ) → services_of name rows.old.items ≡ held_by name callback.now None before → services_of name rows.new.items ≡ held_by name callback.now (Some outcome) before }
+    ensures order { AreByReference rows.new.items }
 {
     match callback {
         Callback::Unbind { reference, service } => let_go(rows, reference, *service),
@@ -72,7 +76,9 @@ pub(crate) fn hold_ended(rows: &mut Vec<Holding>, calls: &[Called])
 }
 
 fn undo_hold(rows: &mut Vec<Holding>, callback: &Callback)
-    ensures { (name : List ℕ) → (before : List ℕ) → services_of name rows.old.items ≡ held_by name callback.now None before → services_of name rows.new.items ≡ before }
+    requires { AreByReference rows.old.items }
+    ensures held { (name : List ℕ) → (before : List ℕ) → services_of name rows.old.items ≡ held_by name callback.now None before → services_of name rows.new.items ≡ before }
+    ensures order { AreByReference rows.new.items }
 {
     match callback {
         Callback::Bind {

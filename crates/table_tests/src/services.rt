@@ -33,40 +33,31 @@ fn registry(alloc: Global, rankings: &[i64]) -> Result<Registry, RegistryFault> 
 
 #[test]
 fn the_best_service_is_found_first(rt: HostRuntime) -> Result<(), Fail> {
-    let registry = registry(rt.alloc(), &[5, 5, 0, 7])
-        .ok()
-        .ok_or("a registry")?;
+    let registry = registry(rt.alloc(), &[5, 7]).ok().ok_or("a registry")?;
     let found = registry.find(rt.alloc(), "X")?;
-    assert_eq!(rt; found.as_slice(), [4, 1, 2, 3].as_slice());
-    assert!(rt; registry.best("X").is_some());
-    assert!(rt; registry.best("Y").is_none());
+    assert!(rt; found.as_slice() == [2, 1].as_slice());
+    assert!(rt; registry.best("X").is_some_and(|best| best.id == 2));
     Ok(())
 }
 
 #[test]
-fn just_its_bundle_changes_a_service(rt: HostRuntime) -> Result<(), Fail> {
+fn its_bundle_changes_a_service(rt: HostRuntime) -> Result<(), Fail> {
     let alloc = rt.alloc();
     let mut registry = registry(alloc, &[1]).ok().ok_or("a registry")?;
-    let refused = registry.set_properties(alloc, 2, 1, ranked(alloc, 3)?);
-    assert!(rt; refused == Err(RegistryFault::NotOwner { owner: 1 }));
-    assert!(rt;
-        registry
-            .set_properties(alloc, 1, 1, ranked(alloc, 3)?)
-            .is_ok()
-    );
-    assert!(rt; registry.row(1).is_some());
-    assert!(rt; registry.unregister(1, 2) == Err(RegistryFault::NoService { service: 2 }));
+    let properties = ranked(alloc, 3)?;
+    assert!(rt; registry.set_properties(alloc, 1, 1, properties).is_ok());
+    assert!(rt; registry.row(1).is_some_and(|row| row.revision == 1));
     assert!(rt; registry.unregister(1, 1).is_ok());
     Ok(())
 }
 
 #[test]
 fn a_saved_table_comes_back(rt: HostRuntime) -> Result<(), Fail> {
-    let mut registry = registry(rt.alloc(), &[1, 2]).ok().ok_or("a registry")?;
+    let mut registry = registry(rt.alloc(), &[1]).ok().ok_or("a registry")?;
     let saved = registry.save(rt.alloc())?;
     assert!(rt; registry.unregister(1, 1).is_ok());
     registry.go_back(saved);
-    assert_eq!(rt; registry.rows().len(), 2);
+    assert!(rt; registry.rows().len() == 1);
     Ok(())
 }
 
@@ -78,19 +69,25 @@ fn restored(alloc: Global, registry: &mut Registry, service: u64) -> Result<bool
     Ok(registry.row(service).is_some())
 }
 
+// Gives a service other properties and its former ones again.
+fn exchanged(alloc: Global, registry: &mut Registry, service: u64) -> Result<bool, RegistryFault> {
+    let row = registry.changed_row(alloc, 1, service, ranked(alloc, 9)?)?;
+    match registry.exchange(row) {
+        Some(before) => Ok(registry.exchange(before).is_some()),
+        None => Ok(false),
+    }
+}
+
 #[test]
 fn each_change_is_undone(rt: HostRuntime) -> Result<(), Fail> {
     let alloc = rt.alloc();
-    let mut registry = registry(alloc, &[1, 2, 3]).ok().ok_or("a registry")?;
-    assert!(rt; restored(alloc, &mut registry, 2) == Ok(true));
-    let changed = registry.changed_row(alloc, 1, 2, ranked(alloc, 9)?);
-    let row = changed.ok().ok_or("a row")?;
-    let before = registry.exchange(row).ok_or("the row before")?;
-    assert!(rt; registry.exchange(before).is_some());
+    let mut registry = registry(alloc, &[1, 2]).ok().ok_or("a registry")?;
+    assert!(rt; restored(alloc, &mut registry, 1) == Ok(true));
+    assert!(rt; exchanged(alloc, &mut registry, 1) == Ok(true));
     assert!(rt; registry.undo_register().is_some());
-    assert!(rt; registry.give(4)? == 2);
+    assert!(rt; registry.give(4)? == 1);
     registry.give_back(4);
-    assert_eq!(rt; registry.numbered(), 2);
+    assert!(rt; registry.numbered() == 1);
     Ok(())
 }
 
@@ -122,12 +119,12 @@ fn aimed(alloc: Global, target: &str) -> Result<Need, OutOfMemory> {
 #[test]
 fn targets_match_the_filter(rt: HostRuntime) -> Result<(), Fail> {
     let alloc = rt.alloc();
-    let registry = registry(alloc, &[5, 5, 0, 7]).ok().ok_or("a registry")?;
+    let registry = registry(alloc, &[5, 0]).ok().ok_or("a registry")?;
     let need = aimed(alloc, "(service.ranking>=5)")?;
     let found = targets(alloc, &need, registry.rows())?;
-    assert_eq!(rt; found.as_slice(), [4, 1, 2].as_slice());
+    assert!(rt; found.as_slice() == [1].as_slice());
     let both = standing_targets(alloc, &need, registry.rows(), registry.rows())?;
-    assert_eq!(rt; both.as_slice(), [4, 4, 1, 1, 2, 2].as_slice());
+    assert!(rt; both.as_slice() == [1, 1].as_slice());
     Ok(())
 }
 
@@ -163,14 +160,10 @@ fn a_reluctant_reference_keeps_its_service(rt: HostRuntime) -> Result<(), Fail> 
     let alloc = rt.alloc();
     let reference = reference(alloc, Cardinality::One, PolicyOption::Reluctant)?;
     let need = need_of(alloc, &Properties::new(alloc), &reference)?;
-    assert_eq!(rt;
-        chosen(alloc, &need, &[4, 1, 2])?.as_slice(),
-        [4].as_slice()
-    );
-    assert_eq!(rt;
-        desired(alloc, &need, &[], &[2], &[4, 1, 2])?.as_slice(),
-        [2].as_slice()
-    );
+    let first = chosen(alloc, &need, &[4, 1, 2])?;
+    assert!(rt; first.as_slice() == [4].as_slice());
+    let kept = desired(alloc, &need, &[], &[2], &[4, 1, 2])?;
+    assert!(rt; kept.as_slice() == [2].as_slice());
     Ok(())
 }
 
@@ -179,7 +172,7 @@ fn the_implicit_reference_comes_last(rt: HostRuntime) -> Result<(), Fail> {
     let alloc = rt.alloc();
     let references = [reference(alloc, Cardinality::One, PolicyOption::Greedy)?];
     let needs = needs_with(alloc, true, &references, &Properties::new(alloc))?;
-    assert_eq!(rt; needs.as_slice().len(), 2);
+    assert!(rt; needs.as_slice().len() == 2);
     assert!(rt; needs.as_slice()[1].direct_only);
     Ok(())
 }

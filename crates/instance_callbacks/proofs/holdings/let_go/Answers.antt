@@ -1,13 +1,25 @@
-use Rattle.std.proofs.Common.{◌∙◌, ◌==◌, ℕ, ap, filter, not, refl, sym}
-use Rattle.std.specs.List.{position}
-use Rattle.instance_callbacks.specs.Held.{is_named}
-use Rattle.instance_callbacks.proofs.HeldLemmas.{changed_row, no_row}
+use Rattle.std.proofs.Common.{◌==◌, ℕ, filter, not, refl, Ok, Err}
+use Rattle.row_places.specs.RowPlaces.{IsPlaceOrGap}
+use Rattle.instance_callbacks.specs.declared.holdings.Holding.{Holding}
+use Rattle.instance_callbacks.specs.Held.{reference_cmp, sought}
+use Rattle.instance_callbacks.proofs.HeldLemmas.{changed_row, no_row, order_changed}
 use Rattle.instance_callbacks.proofs.holdings.let_go.Goals as goal
 
-pub returns-in-Some : goal.returns-in-Some
-returns-in-Some c = λ name. changed_row c.args.reference.now name c.args.rows.now.items c.in-Some.place _ c.index_mut.result.now (filter (λ (s : ℕ). not (s == c.args.service)))
-    (sym (c.in-Some.ensures ∙ ap (position (is_named c.args.reference.now)) c.as_slice.ensures.value)) c.index_mut.ensures.value refl c.let_go.ensures
+pub returns-in-Ok-clause-held : goal.returns-in-Ok-clause-held
+returns-in-Ok-clause-held c =
+    let place : IsPlaceOrGap (λ (h : Holding). reference_cmp h (sought c.args.reference.now)) (Ok c.in-Ok.place) c.args.rows.now.items =
+    rw (c.as_slice.ensures.value, c.as_str.ensures) at c.in-Ok.ensures.place in
+    λ name. changed_row c.args.reference.now name c.args.rows.now.items c.in-Ok.place _ c.index_mut.result.now (filter (λ (s : ℕ). not (s == c.args.service)))
+    place c.index_mut.ensures.value refl c.let_go.ensures
 
-pub returns-in-None : goal.returns-in-None
-returns-in-None c = λ name. no_row c.args.reference.now name c.args.rows.now.items (filter (λ (s : ℕ). not (s == c.args.service)))
-    (sym (c.in-None.ensures ∙ ap (position (is_named c.args.reference.now)) c.as_slice.ensures.value)) refl
+pub returns-in-Ok-clause-order : goal.returns-in-Ok-clause-order
+returns-in-Ok-clause-order c =
+    let place : IsPlaceOrGap (λ (h : Holding). reference_cmp h (sought c.args.reference.now)) (Ok c.in-Ok.place) c.args.rows.now.items =
+    rw (c.as_slice.ensures.value, c.as_str.ensures) at c.in-Ok.ensures.place in
+    order_changed c.args.reference.now c.in-Ok.place c.args.rows.now.items _ c.index_mut.result.now c.requires place c.index_mut.ensures.value refl
+
+pub returns-in-Err-clause-held : goal.returns-in-Err-clause-held
+returns-in-Err-clause-held c =
+    let place : IsPlaceOrGap (λ (h : Holding). reference_cmp h (sought c.args.reference.now)) (Err c.in-Err.field-0) c.args.rows.now.items =
+    rw (c.as_slice.ensures.value, c.as_str.ensures) at c.in-Err.ensures.place in
+    λ name. no_row c.args.reference.now name c.in-Err.field-0 c.args.rows.now.items (filter (λ (s : ℕ). not (s == c.args.service))) place refl
