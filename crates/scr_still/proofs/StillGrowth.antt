@@ -1,5 +1,6 @@
 -- The world and the state behind an entry without consequences.
-use Rattle.std.proofs.Common.{◌≡◌, ◌+◌, ◌-◌, ◌<◌, ◌∙◌, ◌++◌, ◌∷◌, [], ℕ, List, Bool, true, Option, Some, None, ap, append-nil, arith, cond, length, refl, subst, sym}
+use Rattle.std.proofs.Common.{◌≡◌, ◌+◌, ◌-◌, ◌<◌, ◌∙◌, ◌++◌, ◌∷◌, [], ℕ, List, Bool}
+use Rattle.std.proofs.Common.{true, Option, Some, None, ap, append-nil, arith, cond, length, refl, subst, sym}
 use Rattle.std.specs.Prelude.{◌==◌, ◌&&◌, filter, flat_map, map}
 use Rattle.std.specs.List.{list_any}
 use Rattle.std.specs.Option.{unwrap_or}
@@ -44,7 +45,8 @@ use Rattle.scr_world.specs.Calls.{Grown, world_at}
 use Rattle.scr_world.specs.Consequences.{shut_between, stage_in, stage_of}
 use Rattle.scr_world.specs.Legal.{Follows, IsLegal, MayCome}
 use Rattle.scr_world.specs.Levels.{levels_of}
-use Rattle.scr_world.specs.Lists.{change_between, change_of_one, changes_between, direct_between, is_service_held, row_at, tokens_in, unregistered_held_between, uses_in, with_gets_and_events, with_lists_of, world_after_entry, world_of}
+use Rattle.scr_world.specs.Lists.{change_between, change_of_one, changes_between, direct_between, is_service_held, row_at}
+use Rattle.scr_world.specs.Lists.{tokens_in, unregistered_held_between, uses_in, with_gets_and_events, with_lists_of, world_after_entry, world_of}
 use Rattle.scr_world.specs.Room.{has_room, needed_by, reserved}
 use Rattle.scr_world.specs.Stepping.{world_after_step}
 use Rattle.scr_world.specs.Steps.{History, history_of}
