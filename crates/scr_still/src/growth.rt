@@ -1,0 +1,163 @@
+//! The entry of a step that has no consequences, and the state after it, or neither.
+ghost use Rattle.callback_orders.specs.Grammar.{is_activate};
+ghost use Rattle.scr_entries.specs.Reserving.{reserved_with};
+ghost use Rattle.scr_gates.specs.Gates.{shuts_nothing};
+ghost use Rattle.scr_state.specs.Keeps.{IsDraft, Keeps};
+ghost use Rattle.scr_still.specs.Stillness.{HasRoomLeft, IsHeldAfter, is_release, with_bare};
+ghost use Rattle.scr_world.specs.Calls.{Grown, world_at};
+ghost use Rattle.scr_world.specs.Consequences.{shut_between};
+ghost use Rattle.scr_world.specs.Legal.{MayCome};
+ghost use Rattle.scr_world.specs.Lists.{unregistered_held_between};
+ghost use Rattle.scr_world.specs.Room.{has_room, needed_by};
+ghost use Rattle.scr_world.specs.declared.world.World.{World};
+ghost use Rattle.std.specs.Option.{unwrap_or};
+ghost use Rattle.std.specs.Prelude.{◌≡◌, ◌+◌, [], IfOk, OnErr, OnOk, true};
+
+use callback_orders::Callback;
+use journal_core::{Entry, Journal};
+use prop_map::{List, OutOfMemory};
+use scr_consequences::unregistered_held_between;
+use scr_state::{Draft, State, swap_in};
+use scr_world::{Step, World};
+use service_registry::ServiceRow;
+use std::alloc::{AllocError, Global};
+
+/// Appends the entry of a turn's beginning, a drain, a get by token or its release, whose draft this is. No pass runs, since
+/// none of them changes what one looks at; no gate is shut.
+///
+/// # Errors
+/// Only want of memory. That a number is too high counts as such. The journal and the state are as they were.
+pub fn grow_still(
+    alloc: Global,
+    journal: &mut Journal<Step>,
+    state: &mut State,
+    step: Box<Step>,
+    draft: Draft,
+) -> Result<(), OutOfMemory>
+    requires shuts { shuts_nothing step.value ≡ true }
+    requires keeps { Keeps journal.old state.old }
+    requires may { MayCome state.old.world step.value }
+    requires room { has_room journal.old.limit state.old.world (needed_by step.value) ≡ true }
+    requires draft { IsDraft state.old step.value draft }
+    ensures keeps { Keeps journal.new state.new }
+    ensures limit { journal.new.limit ≡ journal.old.limit }
+    ensures grown { OnOk result (Grown journal.old.limit journal.old.entries step.value journal.new.entries) }
+    ensures shut { OnOk result (shut_between (world_at journal.old.entries) (world_at journal.new.entries) ≡ []) }
+    ensures as_before { OnErr result (journal.new ≡ journal.old) }
+    ensures state { OnErr result (state.new ≡ state.old) }
+{
+    let entries = one_more(state.world.entries)?;
+    let mut undo = draft;
+    swap_in(alloc, &mut state.world, &mut undo);
+    match enter(alloc, journal, &state.world, step) {
+        Ok(held) => {
+            state.world.entries = entries;
+            put(&mut state.world.unregistered_held, held);
+            Ok(())
+        }
+        Err(error) => {
+            swap_in(alloc, &mut state.world, &mut undo);
+            Err(error)
+        }
+    }
+}
+
+fn one_more(entries: u64) -> Result<u64, OutOfMemory>
+    ensures { IfOk result (λ more. more ≡ entries + 1) }
+{
+    entries.checked_add(1).ok_or(AllocError)
+}
+
+fn put<T: Drop>(now: &mut T, then: Option<T>)
+    ensures { now.new ≡ unwrap_or then now.old }
+{
+    if let Some(other) = then {
+        *now = other;
+    }
+}
+
+// Adds the bare entry of a step that stands in the world, and answers which services are held though they left, none where these
+// are none as before.
+fn enter(
+    alloc: Global,
+    journal: &mut Journal<Step>,
+    world: &World,
+    step: Box<Step>,
+) -> Result<Option<List<ServiceRow>>, OutOfMemory>
+    requires shuts { shuts_nothing step.value ≡ true }
+    requires room { HasRoomLeft journal.old step.value }
+    ensures entry { OnOk result (journal.new ≡ with_bare step.value world.now journal.old) }
+    ensures held { IfOk result (λ held. IsHeldAfter world.now held) }
+    ensures as_before { OnErr result (journal.new ≡ journal.old) }
+{
+    let held = held_after(alloc, world)?;
+    add_bare(alloc, journal, step)?;
+    Ok(held)
+}
+
+fn held_after(alloc: Global, world: &World) -> Result<Option<List<ServiceRow>>, OutOfMemory>
+    ensures { IfOk result (λ held. IsHeldAfter world.now held) }
+{
+    if world.unregistered_held.as_slice().is_empty() {
+        return Ok(None);
+    }
+    let rows = world.registry.rows();
+    let periods = world.open_periods.as_slice();
+    let held = unregistered_held_between(alloc, rows, periods, world)?;
+    Ok(Some(held))
+}
+
+fn add_bare(alloc: Global, journal: &mut Journal<Step>, step: Box<Step>) -> Result<(), OutOfMemory>
+    requires shuts { shuts_nothing step.value ≡ true }
+    requires room { HasRoomLeft journal.old step.value }
+    ensures ok { OnOk result ((w : World) → journal.new ≡ with_bare step.value w journal.old) }
+    ensures err { OnErr result (journal.new ≡ journal.old) }
+{
+    let release = is_release(&step);
+    let more = reserved_with(&step);
+    let entry = Entry {
+        step: Box::into_inner(step),
+        closed: List::of(Vec::new(alloc)),
+        opened: List::of(Vec::new(alloc)),
+        stopped: List::of(Vec::new(alloc)),
+    };
+    if release {
+        return match journal.append_reserved(entry) {
+            Ok(()) => Ok(()),
+            Err(_) => Err(AllocError),
+        };
+    }
+    match journal.reserve(more) {
+        Ok(()) => match journal.append(entry) {
+            Ok(()) => Ok(()),
+            Err(_) => {
+                journal.give_back(more);
+                Err(AllocError)
+            }
+        },
+        Err(_) => Err(AllocError),
+    }
+}
+
+// Whether a step's entry is one that was reserved.
+fn is_release(step: &Step) -> bool
+    ensures { result ≡ is_release step.now }
+{
+    matches!(step, Step::Drained { .. } | Step::Released { .. })
+}
+
+fn reserved_with(step: &Step) -> u64
+    ensures { result ≡ reserved_with step.now }
+{
+    match step {
+        Step::Begin { callback, .. } => { if is_activate(callback) { 2 } else { 1 } }
+        Step::Got { .. } => 1,
+        _ => 0,
+    }
+}
+
+fn is_activate(callback: &Callback) -> bool
+    ensures { result ≡ is_activate callback.now }
+{
+    matches!(callback, Callback::Activate)
+}
