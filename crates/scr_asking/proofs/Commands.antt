@@ -3,7 +3,7 @@ use Rattle.std.proofs.Common.{◌≡◌, ℕ, ◌+◌, List, [], ◌∷◌, ◌+
 use Rattle.std.specs.Prelude.{filter, length, map, suc}
 use Rattle.component_state.specs.declared.component.Component.{Component}
 use Rattle.component_state.specs.declared.open_period.OpenPeriod.{OpenPeriod}
-use Rattle.component_state.specs.ComponentConfigurations.{component_after, components_after, new_components, with_number, with_numbers}
+use Rattle.component_state.specs.ComponentConfigurations.{component_after, components_after, new_components, with_numbers}
 use Rattle.component_state.specs.Components.{exists}
 use Rattle.component_state.specs.Marks.{exists_unchanged, failed_after}
 use Rattle.component_state.specs.Rows.{with_present_properties}

@@ -1,5 +1,5 @@
 -- Commands that leave what is asked for.
-use Rattle.std.proofs.Common.{◌≡◌, ℕ, ◌+◌, List, [], ◌∷◌, ap, sym, ◌∙◌, refl, true, ◌||◌}
+use Rattle.std.proofs.Common.{◌≡◌, List, [], ap, sym, ◌∙◌, refl, true, ◌||◌}
 use Rattle.std.specs.Prelude.{◌==◌, length}
 use Rattle.std.specs.List.{list_any}
 use Rattle.component_state.specs.declared.component.Component.{Component}
@@ -7,7 +7,7 @@ use Rattle.component_state.specs.ComponentConfigurations.{components_after, new_
 use Rattle.scr_asking.specs.Asked.{is_command, leaves_asked}
 use Rattle.scr_laws.proofs.Asking.{forgetting_stays}
 use Rattle.scr_laws.proofs.Histories.{asking_leaves}
-use Rattle.scr_laws.specs.Askeds.{AreAsked, IsAsked, asked_in}
+use Rattle.scr_laws.specs.Askeds.{IsAsked, asked_in}
 use Rattle.scr_world.specs.declared.command.Command.{Command}
 use Rattle.scr_world.specs.declared.command.Command.TheVariants.{Install, Update, Start, Stop, Uninstall, Enable, Disable, Register, Unregister, SetProperties, Get, Unget, Listen, Unlisten, Configure, ConfigureFactory, Unconfigure}
 use Rattle.scr_world.specs.declared.instance.Instance.{Instance}
