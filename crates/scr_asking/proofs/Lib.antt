@@ -1,0 +1,4 @@
+mod Commands
+mod Leaving
+mod States
+mod Given
