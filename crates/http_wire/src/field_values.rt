@@ -5,6 +5,7 @@ ghost use Rattle.httparse.specs.Spans.{IsHeaderWithin, header_bytes};
 ghost use Rattle.http_wire.specs.FieldValues.{is_same_word, values_named, has_item, has_item_named};
 
 use crate::pieces::Pieces;
+use http_header::HeaderName;
 use httparse::is_space_or_tab;
 use httparse::spans::HeaderSpan;
 
@@ -49,13 +50,13 @@ fn has_item(value: &[u8], word: &[u8]) -> bool
 }
 
 /// How many fields have the name.
-pub(crate) fn count_named(bytes: &[u8], fields: &[HeaderSpan], name: &[u8]) -> usize
+pub(crate) fn count_named(bytes: &[u8], fields: &[HeaderSpan], name: &HeaderName) -> usize
     requires { All (IsHeaderWithin (length bytes.now)) fields.now }
     ensures { result ≡ length (values_named name.now (map (header_bytes bytes.now) fields.now)) }
 {
     let mut count = 0;
     for field in fields {
-        if is_same_word(field.name.of(bytes), name) {
+        if is_same_word(field.name.of(bytes), name.as_bytes()) {
             count += 1;
         }
     }
@@ -66,13 +67,13 @@ pub(crate) fn count_named(bytes: &[u8], fields: &[HeaderSpan], name: &[u8]) -> u
 pub(crate) fn first_named<'b>(
     bytes: &'b [u8],
     fields: &[HeaderSpan],
-    name: &[u8],
+    name: &HeaderName,
 ) -> Option<&'b [u8]>
     requires { All (IsHeaderWithin (length bytes.now)) fields.now }
     ensures { option_copied result ≡ slice_get (values_named name.now (map (header_bytes bytes.now) fields.now)) 0 }
 {
     for field in fields {
-        if is_same_word(field.name.of(bytes), name) {
+        if is_same_word(field.name.of(bytes), name.as_bytes()) {
             return Some(field.value.of(bytes));
         }
     }
@@ -80,12 +81,19 @@ pub(crate) fn first_named<'b>(
 }
 
 /// Whether a field with the name has the word among its items.
-pub(crate) fn has_item_named(bytes: &[u8], fields: &[HeaderSpan], name: &[u8], word: &[u8]) -> bool
+pub(crate) fn has_item_named(
+    bytes: &[u8],
+    fields: &[HeaderSpan],
+    name: &HeaderName,
+    word: &[u8],
+) -> bool
     requires { All (IsHeaderWithin (length bytes.now)) fields.now }
     ensures { result ≡ has_item_named name.now word.now (map (header_bytes bytes.now) fields.now) }
 {
     for field in fields {
-        if is_same_word(field.name.of(bytes), name) && has_item(field.value.of(bytes), word) {
+        if is_same_word(field.name.of(bytes), name.as_bytes())
+            && has_item(field.value.of(bytes), word)
+        {
             return true;
         }
     }

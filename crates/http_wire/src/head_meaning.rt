@@ -10,6 +10,7 @@ use crate::messages::{Framing, Head, HeadRead};
 use crate::target_path::path_of;
 use fault_count::decimal;
 use http::Method;
+use http_header::{CONNECTION, CONTENT_LENGTH, HOST, TRANSFER_ENCODING};
 use httparse::spans::{HeaderSpan, RequestSpans};
 use prop_map::{OutOfMemory, Str};
 use std::alloc::{AllocError, Global};
@@ -27,14 +28,14 @@ fn lacks_host(version: u8, bytes: &[u8], fields: &[HeaderSpan]) -> bool
     requires { All (IsHeaderWithin (length bytes.now)) fields.now }
     ensures { result ≡ lacks_host version (map (header_bytes bytes.now) fields.now) }
 {
-    version == 1 && count_named(bytes, fields, b"host") != 1
+    version == 1 && count_named(bytes, fields, &HOST) != 1
 }
 
 fn ends_connection(version: u8, bytes: &[u8], fields: &[HeaderSpan]) -> bool
     requires { All (IsHeaderWithin (length bytes.now)) fields.now }
     ensures { result ≡ ends_connection version (map (header_bytes bytes.now) fields.now) }
 {
-    version == 0 || has_item_named(bytes, fields, b"connection", b"close")
+    version == 0 || has_item_named(bytes, fields, &CONNECTION, b"close")
 }
 
 // How the body comes where no Content-Length is given.
@@ -42,10 +43,10 @@ fn coded_plan(bytes: &[u8], fields: &[HeaderSpan]) -> Plan
     requires { All (IsHeaderWithin (length bytes.now)) fields.now }
     ensures { result ≡ coded_by (values_named (codes "transfer-encoding") (map (header_bytes bytes.now) fields.now)) }
 {
-    match first_named(bytes, fields, b"transfer-encoding") {
+    match first_named(bytes, fields, &TRANSFER_ENCODING) {
         None => Plan::Known(Framing::Sized(0)),
         Some(coding) => {
-            if count_named(bytes, fields, b"transfer-encoding") == 1
+            if count_named(bytes, fields, &TRANSFER_ENCODING) == 1
                 && is_same_word(coding, b"chunked")
             {
                 Plan::Known(Framing::Chunked)
@@ -60,14 +61,14 @@ fn plan_of(bytes: &[u8], fields: &[HeaderSpan]) -> Plan
     requires { All (IsHeaderWithin (length bytes.now)) fields.now }
     ensures { result ≡ plan_of_lines (map (header_bytes bytes.now) fields.now) }
 {
-    let Some(value) = first_named(bytes, fields, b"content-length") else {
+    let Some(value) = first_named(bytes, fields, &CONTENT_LENGTH) else {
         return coded_plan(bytes, fields);
     };
-    if count_named(bytes, fields, b"content-length") != 1 {
+    if count_named(bytes, fields, &CONTENT_LENGTH) != 1 {
         return Plan::Bad;
     }
     match decimal(value) {
-        Some(size) if count_named(bytes, fields, b"transfer-encoding") == 0 => {
+        Some(size) if count_named(bytes, fields, &TRANSFER_ENCODING) == 0 => {
             Plan::Known(Framing::Sized(size))
         }
         _ => Plan::Bad,

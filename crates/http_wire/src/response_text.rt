@@ -5,6 +5,7 @@ ghost use Rattle.http_wire.specs.ResponseText.{phrase_or_none, status_text, line
 
 use crate::messages::Answered;
 use http::StatusCode;
+use http_header::{CONNECTION, CONTENT_LENGTH, CONTENT_TYPE, HeaderName};
 use itoa::Buffer;
 use prop_map::OutOfMemory;
 use std::alloc::Global;
@@ -39,35 +40,37 @@ fn push_status(bytes: &mut Vec<u8>, status: u16) -> Result<(), OutOfMemory>
     push(bytes, phrase_of(status).as_bytes())
 }
 
+// A field of an answer: its name, a colon and a blank, its value and CRLF.
 #[tactic(auto, unfolding(crate::specs::ResponseText::line))]
-fn push_line(bytes: &mut Vec<u8>, name: &[u8], value: &[u8]) -> Result<(), OutOfMemory>
-    ensures ok { OnOk result (bytes.new.items ≡ bytes.old.items ++ line name.now value.now) }
+fn push_field(bytes: &mut Vec<u8>, name: &HeaderName, value: &[u8]) -> Result<(), OutOfMemory>
+    ensures ok { OnOk result (bytes.new.items ≡ bytes.old.items ++ line (name.now ++ codes ": ") value.now) }
     ensures grows { Grows bytes.old.items bytes.new.items }
 {
-    bytes.extend_from_slice(name)?;
+    bytes.extend_from_slice(name.as_bytes())?;
+    bytes.extend_from_slice(b": ")?;
     bytes.extend_from_slice(value)?;
     bytes.extend_from_slice(b"\r\n")
 }
 
-fn push_number_line(bytes: &mut Vec<u8>, name: &[u8], number: u64) -> Result<(), OutOfMemory>
-    ensures ok { OnOk result (bytes.new.items ≡ bytes.old.items ++ line name.now (decimal number)) }
+fn push_number_field(bytes: &mut Vec<u8>, name: &HeaderName, number: u64) -> Result<(), OutOfMemory>
+    ensures ok { OnOk result (bytes.new.items ≡ bytes.old.items ++ line (name.now ++ codes ": ") (decimal number)) }
     ensures grows { Grows bytes.old.items bytes.new.items }
 {
     let mut digits = Buffer::new();
-    push_line(bytes, name, digits.format(number).as_bytes())
+    push_field(bytes, name, digits.format(number).as_bytes())
 }
 
-fn push_line_if(
+fn push_field_if(
     bytes: &mut Vec<u8>,
     asked: bool,
-    name: &[u8],
+    name: &HeaderName,
     value: &[u8],
 ) -> Result<(), OutOfMemory>
-    ensures ok { OnOk result (bytes.new.items ≡ bytes.old.items ++ line_if asked name.now value.now) }
+    ensures ok { OnOk result (bytes.new.items ≡ bytes.old.items ++ line_if asked (name.now ++ codes ": ") value.now) }
     ensures grows { Grows bytes.old.items bytes.new.items }
 {
     if asked {
-        push_line(bytes, name, value)
+        push_field(bytes, name, value)
     } else {
         Ok(())
     }
@@ -91,16 +94,17 @@ fn push_head(bytes: &mut Vec<u8>, answer: &Answered) -> Result<(), OutOfMemory>
     ensures grows { Grows bytes.old.items bytes.new.items }
 {
     let length = answer.body.as_slice().len();
+    let service = HeaderName::from_static("service-id");
     push_status_line(bytes, answer.status)?;
-    push_number_line(bytes, b"service-id: ", answer.service)?;
-    push_line_if(
+    push_number_field(bytes, &service, answer.service)?;
+    push_field_if(
         bytes,
         answer.status == 200,
-        b"content-type: ",
+        &CONTENT_TYPE,
         b"text/plain; charset=utf-8",
     )?;
-    push_number_line(bytes, b"content-length: ", length as u64)?;
-    push_line_if(bytes, answer.last, b"connection: ", b"close")?;
+    push_number_field(bytes, &CONTENT_LENGTH, length as u64)?;
+    push_field_if(bytes, answer.last, &CONNECTION, b"close")?;
     push(bytes, b"\r\n")?;
     Ok(())
 }

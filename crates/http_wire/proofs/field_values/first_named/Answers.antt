@@ -8,4 +8,4 @@ pub returns-then-is_same_word : goal.returns-then-is_same_word
 returns-then-is_same_word c =
     ap Some c.of-then-is_same_word.ensures
     ∙ sym (first_at (header_bytes c.args.bytes.now) c.args.name.now c.args.fields.now c.loop-field.field-index _ c.loop-field-test.true c.loop-field.invariant
-    (ap (λ w. is_same_word w c.args.name.now) (sym c.of.ensures) ∙ sym c.if-is_same_word.ensures))
+    (ap (λ w. is_same_word w c.args.name.now) (sym c.of.ensures) ∙ ap (is_same_word c.of.result.now) (sym c.as_bytes.ensures.value) ∙ sym c.if-is_same_word.ensures))
