@@ -2,3 +2,4 @@ mod Commands
 mod Leaving
 mod States
 mod Given
+mod Filling

@@ -1,9 +1,9 @@
 -- What a command makes of the component configurations and of what hangs on them. OSGi Compendium 8, chapter 112, "Component Configuration"; numbers and failures are our own.
-use Rattle.std.specs.Prelude.{◌≡◌, ◌+◌, Bool, true, false, Option, Some, None}
+use Rattle.std.specs.Prelude.{◌≡◌, ◌+◌, ◌==◌, ◌&&◌, filter, length, nat_lt, not, Bool, true, false, Option, Some, None}
 use Rattle.bundle_life.specs.declared.bundle.BundleState.TheVariants.{Installed, Stopping, Active}
 use Rattle.scr_asking.specs.declared.after.StateGiven.{StateGiven}
 use Rattle.scr_asking.specs.declared.asked.Asked.{Asked}
-use Rattle.scr_world.specs.Stepping.{components_added_by, components_by, failed_by, periods_with}
+use Rattle.scr_world.specs.Stepping.{components_added_by, components_by, failed_by, is_counted, periods_with}
 use Rattle.scr_world.specs.declared.command.Command.{Command}
 use Rattle.scr_world.specs.declared.command.Command.TheVariants.{Update, Start, Stop, Register, Unregister, SetProperties, Get, Unget, Listen, Unlisten}
 use Rattle.scr_world.specs.declared.step.Step.{Step}
@@ -43,3 +43,7 @@ state_given (Commanded (Update bundle doc)) = Some (record { bundle = bundle; st
 state_given (Commanded (Start bundle)) = Some (record { bundle = bundle; state = Active })
 state_given (Commanded (Stop bundle)) = Some (record { bundle = bundle; state = Stopping })
 state_given _ = None
+
+-- component configurations would come, and there would be more than 512
+abbrev pub are_too_many : Step → World → Bool
+are_too_many step w = not (components_added_by step w == 0) && nat_lt 512 (length (filter (is_counted w.instances) (components_by step w)))

@@ -43,7 +43,7 @@ pub(crate) fn copied(alloc: Global, world: &World) -> Result<List<Component>, Ou
     Ok(List::of(counted))
 }
 
-fn is_counted(instances: &[Instance], component: &Component) -> bool
+pub(crate) fn is_counted(instances: &[Instance], component: &Component) -> bool
     ensures { result ≡ is_counted instances.now component.now }
 {
     component.exists || has_instance(instances, component.number)
