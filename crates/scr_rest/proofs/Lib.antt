@@ -1,0 +1,10 @@
+pub mod AllActive
+pub mod GoingOn
+pub mod Heights
+pub mod InstanceInterfaces
+pub mod NoneEnding
+pub mod Providers
+pub mod Quietness
+pub mod RightLaws
+pub mod Sets
+pub mod Waits
