@@ -1,5 +1,5 @@
 -- In a quiet world every instance that isn't ending is active and holds what it desires, and so does that of the whiteboard: one waits only for one of a lower level.
-use Rattle.std.proofs.Common.{◌≡◌, ◌<◌, ℕ, zero, suc, ◌+◌, List, ap, sym, ◌∙◌, refl, subst, arith, true, false, ◌&&◌, None}
+use Rattle.std.proofs.Common.{◌≡◌, ◌<◌, ℕ, zero, suc, ◌+◌, List, ap, sym, ◌∙◌, refl, subst, arith, Bool, true, false, ◌&&◌, None}
 use Rattle.std.specs.Prelude.{map, ◌==◌}
 use Rattle.std.specs.List.{Contains, list_any}
 use Rattle.std.proofs.lemmas.Bool.{and_from, and_parts, both_ways, eq-eqb, eqb-true, or_left, or_right}
@@ -32,8 +32,8 @@ use Rattle.scr_world.specs.Legal.{IsLegal}
 use Rattle.scr_world.specs.Lists.{world_of}
 use Rattle.scr_world.specs.Quiet.{IsQuiet}
 use Rattle.scr_world.specs.Steps.{History}
-use Rattle.scr_world.specs.Views.{bundle_of_instance, desired_services, ends, is_ready, reference_view, references_in, serves, view_of, views_of, whiteboard_view}
-use Rattle.scr_world.specs.Worlds.{all_instances, direct_services}
+use Rattle.scr_world.specs.Views.{bundle_of_instance, desired_services, ends, is_ready, reference_view, references_in, serves, view_of, whiteboard_view}
+use Rattle.scr_world.specs.Worlds.{direct_services}
 use Rattle.scr_world.specs.declared.instance.Instance.{Instance}
 use Rattle.scr_world.specs.declared.world.World.{World}
 use Rattle.service_registry.specs.declared.row.ServiceRow.{ServiceRow}
@@ -51,7 +51,7 @@ data IsMet (w : World) (i : Instance) (s : ℕ) (interface : List ℕ) : Type 0 
   by_direct : (row : ServiceRow) → Contains (direct_services w) row → row.id ≡ s → IsMet w i s interface
   by_one : (x : Instance) → IsServedBy w i s interface x → IsMet w i s interface
 
-active_phase : (phase : Phase) → is_active_phase phase ≡ true → phase ≡ Active
+pub active_phase : (phase : Phase) → is_active_phase phase ≡ true → phase ≡ Active
 active_phase Making is = cc
 active_phase Active is = refl
 active_phase Left is = cc
@@ -79,17 +79,17 @@ module _ (limit : ℕ) (past : History) (legal : IsLegal limit past) (quiet : Is
       ready : (r : ℕ × Reference) → Contains (with_places 0 (references_in w i)) r → (s : ℕ) → has (desired_services w i r.0 r.1) s ≡ true → is_ready w (bundle_of_instance w i) s ≡ true
       ready r in_r s wish = go (met r in_r s wish)
         where
-          by_number : ServiceRow → _
+          by_number : ServiceRow → Bool
           by_number = λ (q : ServiceRow). q.id == s
 
-          serving : Instance → _
+          serving : Instance → Bool
           serving = λ (j : Instance). serves (world_of past) (bundle_of_instance (world_of past) i) s j && is_active_instance j
 
           go : IsMet (world_of past) i s r.1.interface_name → is_ready (world_of past) (bundle_of_instance (world_of past) i) s ≡ true
           go (by_direct row there number) = or_left (list_any by_number (direct_services (world_of past))) (list_any serving (world_of past).instances) (any_from by_number (direct_services (world_of past)) row there (eq-eqb row.id s number))
           go (by_one x is) = or_right (list_any by_number (direct_services (world_of past))) (list_any serving (world_of past).instances)
               (any_from serving (world_of past).instances x is.there (and_from (serves (world_of past) (bundle_of_instance (world_of past) i) s x) (is_active_instance x) is.serving
-              (active x is.there is.going_on is.component is.its r.1 (placed_was 0 (references_in (world_of past) i) r.0 r.1 in_r) is.interface)))
+              (active x is.there is.going_on is.component is.its r.1 (placed_was 0 (references_in (world_of past) i) r.0 r.1 in_r) is.has_it)))
 
       all_ready : AllReady v.references
       all_ready q h y k =

@@ -1,6 +1,6 @@
 -- Who desires services: an instance that isn't ending, and that of the whiteboard. Each service that it desires is registered with the interface of its reference, directly or
 -- by an open period.
-use Rattle.std.proofs.Common.{◌≡◌, ◌<◌, ◌⊎◌, ℕ, List, [], ◌∷◌, ap, sym, ◌∙◌, refl, subst, true, false, inl, inr}
+use Rattle.std.proofs.Common.{◌≡◌, ◌<◌, ◌⊎◌, ℕ, List, [], ap, sym, ◌∙◌, refl, subst, true, false, inl, inr}
 use Rattle.std.specs.Prelude.{map}
 use Rattle.std.specs.List.{Contains, list_any}
 use Rattle.std.proofs.lemmas.Bool.{both_ways}

@@ -9,7 +9,6 @@ use Rattle.component_state.specs.declared.component.Component.{Component}
 use Rattle.component_state.specs.declared.open_period.OpenPeriod.{OpenPeriod}
 use Rattle.component_state.specs.Components.{component_of}
 use Rattle.component_state.specs.Rows.{no_row, row_by, service_in}
-use Rattle.component_state.proofs.Apart.{in_either}
 use Rattle.journal_core.specs.declared.entry.Entry.{Entry}
 use Rattle.scr_endings.proofs.Comings.{WasBefore}
 use Rattle.scr_endings.proofs.EndingLaws.{comes, none_at_first}
@@ -109,5 +108,5 @@ module _ (limit : ℕ) (entry : Entry Step) (past : History) (legal : IsLegal li
   ]
 
 pub have_interfaces : (limit : ℕ) (past : History) → IsLegal limit past → HaveInterfaces (world_of past)
-have_interfaces limit [] legal x h = absurd (none_at_first x h)
+have_interfaces limit [] legal = λ x h. absurd (none_at_first x h)
 have_interfaces limit (entry ∷ past) legal = interfaces_then limit entry past legal (have_interfaces limit past legal.1)

@@ -32,7 +32,7 @@ use Rattle.scr_world.specs.Legal.{IsLegal, awaits_drain}
 use Rattle.scr_world.specs.Lists.{holds, world_of}
 use Rattle.scr_world.specs.Quiet.{IsQuiet}
 use Rattle.scr_world.specs.Steps.{History}
-use Rattle.scr_world.specs.Views.{bundle_of_instance, desired_services, ends, has_holder, is_holder, references_in, serves, view_of, whiteboard_view}
+use Rattle.scr_world.specs.Views.{bundle_of_instance, ends, has_holder, is_holder, references_in, serves, view_of, whiteboard_view}
 use Rattle.scr_world.specs.Whiteboard.{condition, platform_rows}
 use Rattle.scr_world.specs.Worlds.{all_instances, direct_services}
 use Rattle.scr_world.specs.declared.instance.Instance.{Instance}

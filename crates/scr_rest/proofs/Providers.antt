@@ -1,10 +1,10 @@
 -- A service of an open period that an instance desires: the key of the instance that is to serve it is wanted, and an instance of this key serves it, isn't ending and stands lower.
-use Rattle.std.proofs.Common.{◌≡◌, ◌<◌, ◌⊎◌, ℕ, List, [], ◌∷◌, ap, sym, ◌∙◌, refl, subst, cond, Bool, true, false, ◌&&◌, ◌||◌, inl, inr, Option, Some, None}
+use Rattle.std.proofs.Common.{◌≡◌, ◌<◌, ◌⊎◌, ℕ, List, [], ◌∷◌, ap, sym, ◌∙◌, refl, subst, cond, arith, Bool, true, false, ◌&&◌, ◌||◌, inl, inr, Option, Some, None}
 use Rattle.std.specs.Prelude.{filter, find, flat_map, map, not, ◌==◌}
 use Rattle.std.specs.List.{Contains, list_any}
 use Rattle.std.specs.Option.{option_map_or}
 use Rattle.std.specs.Str.{bytes_eq}
-use Rattle.std.proofs.lemmas.Bool.{and_from, eq-eqb, eqb-true, or_left, or_right}
+use Rattle.std.proofs.lemmas.Bool.{and_from, eq-eqb, eqb-true, ne_eqb, or_left, or_right}
 use Rattle.bundle_life.specs.declared.bundle.BundleLife.{BundleLife}
 use Rattle.bundle_life.specs.Lives.{bundle_of, is_active}
 use Rattle.callback_orders.specs.declared.instance_view.InstanceView.{InstanceView}
@@ -15,7 +15,7 @@ use Rattle.component_dto.specs.declared.description.Reference.{Reference}
 use Rattle.component_state.specs.declared.component.Component.{Component}
 use Rattle.component_state.specs.declared.open_period.OpenPeriod.{OpenPeriod}
 use Rattle.component_state.specs.Components.{component_of, consumer_for, has_singleton_scope}
-use Rattle.component_state.specs.Periods.{is_current, is_open}
+use Rattle.component_state.specs.Periods.{is_current}
 use Rattle.component_state.specs.Rows.{service_in}
 use Rattle.component_state.proofs.Apart.{any_from, in_cases, in_first, in_left, in_none, in_rest, in_right, kept_from, one_of}
 use Rattle.level_order.specs.Levels.{provides}
@@ -31,7 +31,6 @@ use Rattle.scr_laws.proofs.ReadyStages.{open_current_one}
 use Rattle.scr_laws.proofs.Sounding.{legal_sound}
 use Rattle.scr_rest.proofs.GoingOn.{GoesOn}
 use Rattle.scr_rest.proofs.InstanceInterfaces.{period_interfaces}
-use Rattle.scr_services.proofs.ServiceLaws.{some_number}
 use Rattle.scr_world.specs.Legal.{IsLegal}
 use Rattle.scr_world.specs.Lists.{is_active_bundle, world_of}
 use Rattle.scr_world.specs.Steps.{History}
@@ -47,6 +46,9 @@ joined_in {X = X} f (z ∷ zs) x y h k = elim (in_cases z zs x h) [
   | inl same ↦ in_left (f z) (flat_map f zs) y (subst (λ (q : X). Contains (f q) y) (sym same) k)
   | inr later ↦ in_right (f z) (flat_map f zs) y (joined_in f zs x y later k)
 ]
+
+some_number : (n : ℕ) → 0 < n → not (n == 0) ≡ true
+some_number n low = ap not (ne_eqb n 0 (λ e. omega (arith, e, low)))
 
 -- ---- the consumers that there can be
 
@@ -79,7 +81,7 @@ pub record IsServedBy (w : World) (i : Instance) (s : ℕ) (interface : List ℕ
   pub going_on : ends w x ≡ false
   pub component : Component
   pub its : IsComponentOf w x component
-  pub interface : provides component.description interface ≡ true
+  pub has_it : provides component.description interface ≡ true
 
 module _ (limit : ℕ) (past : History) (legal : IsLegal limit past) where
   abbrev w : World
@@ -87,13 +89,13 @@ module _ (limit : ℕ) (past : History) (legal : IsLegal limit past) where
 
   module _ (i : Instance) (v : InstanceView) (on : GoesOn w i v) (r : ℕ × Reference) (in_r : Contains (with_places 0 (references_in w i)) r) (s : ℕ) (wish : has (desired_services w i r.0 r.1) s ≡ true)
       (p : OpenPeriod) (here : Contains w.open_periods p) (number : p.row.id ≡ s) (some : 0 < s) (has_it : has_interface r.1.interface_name p.row ≡ true) where
-    home : (c : Component) × (Contains w.components c × (c.number ≡ p.configuration))
+    pub home : (c : Component) × (Contains w.components c × (c.number ≡ p.configuration))
     home = of_number w.components p.configuration ((legal_sound limit past legal).periods p here).known
 
-    abbrev c : Component
+    abbrev pub c : Component
     c = home.0
 
-    abbrev consumer : ℕ
+    abbrev pub consumer : ℕ
     consumer = consumer_for c (bundle_of_instance w i)
 
     abbrev pub key : Key
@@ -155,5 +157,5 @@ module _ (limit : ℕ) (past : History) (legal : IsLegal limit past) where
         going_on = serving_goes_on limit past legal p here s number some (bundle_of_instance w i) on.bundle x h serving;
         component = c;
         its = its;
-        interface = ap (λ (names : List (List ℕ)). list_any (λ name. bytes_eq name r.1.interface_name) names) (sym (period_interfaces w (legal_sound limit past legal) p here c home.1.0 home.1.1)) ∙ has_it;
+        has_it = ap (λ (names : List (List ℕ)). list_any (λ name. bytes_eq name r.1.interface_name) names) (sym (period_interfaces w (legal_sound limit past legal) p here c home.1.0 home.1.1)) ∙ has_it;
       }

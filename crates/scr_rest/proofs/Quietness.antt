@@ -1,5 +1,5 @@
 -- What a quiet world says of its instances one by one: nothing is due, nothing is under way and nothing is missing.
-use Rattle.std.proofs.Common.{◌≡◌, ℕ, List, [], ◌∷◌, ◌++◌, ap, sym, ◌∙◌, refl, true, false, inl, inr, Option, Some, None}
+use Rattle.std.proofs.Common.{◌≡◌, List, [], ◌∷◌, ◌++◌, ap, refl, Bool, true, false, inl, inr, Option, Some, None}
 use Rattle.std.specs.Prelude.{map, not}
 use Rattle.std.specs.List.{Contains, list_any}
 use Rattle.std.proofs.lemmas.Bool.{both_ways, cases_Bool}

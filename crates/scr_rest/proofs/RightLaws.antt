@@ -38,7 +38,7 @@ use Rattle.scr_world.specs.Lists.{world_of}
 use Rattle.scr_world.specs.Quiet.{IsQuiet, IsRight, holds_right}
 use Rattle.scr_world.specs.Steps.{History}
 use Rattle.scr_world.specs.Tables.{descriptions_of}
-use Rattle.scr_world.specs.Views.{desired_services, desired_unless_ending, ends, properties_in, references_in, targets_for, view_of, whiteboard_view}
+use Rattle.scr_world.specs.Views.{desired_services, ends, properties_in, references_in, targets_for, view_of, whiteboard_view}
 use Rattle.scr_world.specs.Worlds.{direct_services, origins_of, satisfied_in, sorted}
 use Rattle.scr_world.specs.declared.instance.Instance.{Instance}
 use Rattle.scr_world.specs.declared.world.World.{World}
@@ -85,7 +85,7 @@ dynamic_greedy Dynamic Reluctant multiple choice held services off greedy = cc
 dynamic_greedy Dynamic Greedy true choice held services off greedy = refl
 dynamic_greedy Dynamic Greedy false choice held services off greedy = refl
 
-static_desired : (policy : Policy) (option : PolicyOption) (multiple : Bool) (choice held services : List ℕ) → is_static policy ≡ true → desired_by policy option multiple choice held services ≡ choice
+pub static_desired : (policy : Policy) (option : PolicyOption) (multiple : Bool) (choice held services : List ℕ) → is_static policy ≡ true → desired_by policy option multiple choice held services ≡ choice
 static_desired Static option multiple choice held services on = refl
 static_desired Dynamic option multiple choice held services on = cc
 

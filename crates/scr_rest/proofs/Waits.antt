@@ -102,10 +102,13 @@ HoldsIts r = (holds_all r ≡ true) × (desires_all r ≡ true)
 holds_its : (r : ReferenceView) → ((x : Wish) → Contains r.desired x → x.ready ≡ true) → to_bind r ≡ None → to_unbind r ≡ None → HoldsIts r
 holds_its r ready no_bind no_unbind = let all = holds_ready r ready no_bind in (all, desires_held r all no_unbind)
 
-pub desired_held : (r : ReferenceView) → HoldsIts r → (s : ℕ) → is_desired r s ≡ true → is_held r s ≡ true
-desired_held r its s on =
+pub holds_desired : (r : ReferenceView) → holds_all r ≡ true → (s : ℕ) → is_desired r s ≡ true → is_held r s ≡ true
+holds_desired r all s on =
     let x = any_found (λ (y : Wish). y.service == s) r.desired on in
-    ap (is_held r) (sym (eqb-true x.0.service s x.2)) ∙ all_to (λ (y : Wish). is_held r y.service) r.desired its.0 x.0 x.1
+    ap (is_held r) (sym (eqb-true x.0.service s x.2)) ∙ all_to (λ (y : Wish). is_held r y.service) r.desired all x.0 x.1
+
+pub desired_held : (r : ReferenceView) → HoldsIts r → (s : ℕ) → is_desired r s ≡ true → is_held r s ≡ true
+desired_held r its = holds_desired r its.0
 
 pub held_desired : (r : ReferenceView) → HoldsIts r → (s : ℕ) → is_held r s ≡ true → is_desired r s ≡ true
 held_desired r its s on =
