@@ -1,0 +1,10 @@
+pub mod ApartServices
+pub mod CallbackSteps
+pub mod ChosenMinimums
+pub mod DesiredMinimums
+pub mod DueUnbinds
+pub mod EnoughTargets
+pub mod FreshChoices
+pub mod LeastMinimums
+pub mod MinimumLaws
+pub mod TargetLists
