@@ -4,7 +4,7 @@ use Rattle.std.specs.Option.{unwrap_or}
 use Rattle.journal_core.specs.Rooms.{JournalRows}
 use Rattle.scr_asking.specs.Asked.{IsAskedAfter}
 use Rattle.scr_asking.specs.declared.asked.Asked.{Asked}
-use Rattle.scr_judgements.specs.Drafting.{AreTablesAfter, command_draft}
+use Rattle.scr_judgements.specs.Drafting.{AreTablesAfter, AreTablesBy, command_draft}
 use Rattle.scr_judgements.specs.declared.drafting.TablesAfter.{TablesAfter}
 use Rattle.scr_laws.proofs.Histories.{legal_is_asked}
 use Rattle.scr_laws.specs.Askeds.{IsAsked}
@@ -18,7 +18,7 @@ use Rattle.scr_world.specs.Tables.{descriptions_of, documents_by_command}
 use Rattle.scr_world.specs.declared.command.Command.{Command}
 use Rattle.scr_world.specs.declared.contents.Contents.{Contents}
 use Rattle.scr_world.specs.declared.step.Step.{Step}
-use Rattle.scr_world.specs.declared.step.Step.TheVariants.{Command as Commanded}
+use Rattle.scr_world.specs.declared.step.Step.TheVariants.{Command as Commanded, Begin, End, Drained, Got, Released}
 use Rattle.scr_world.specs.declared.world.World.{World}
 
 plus_none : (n : ℕ) → n + 0 ≡ n
@@ -60,6 +60,21 @@ module _ (s : State) (command : Command) (asked : Asked) (tables : TablesAfter) 
     levels = levelled ∙ after.levels ∙ ap (λ (cs : List Contents). levels_of (descriptions_of cs)) (sym (documents_then command s.world));
   }
 
+-- ---- the same, of a step
+
+pub drafted_step : (s : State) (step : Step) (asked : Asked) (tables : TablesAfter) → IsAskedAfter step s.world asked → AreTablesBy s step tables → IsDraft s step (command_draft s.world asked tables)
+unfolding AreTablesBy
+drafted_step s (Commanded command) asked tables known after = drafted s command asked tables known after
+drafted_step s (Begin turn instance configuration consumer callback chosen) asked tables known after = absurd after
+drafted_step s (End turn outcome) asked tables known after = absurd after
+drafted_step s (Drained instance) asked tables known after = absurd after
+drafted_step s (Got bundle service) asked tables known after = absurd after
+drafted_step s (Released place) asked tables known after = absurd after
+
+pub tables_step : (s : State) (step : Step) (command : Command) (tables : TablesAfter) → step ≡ Commanded command → AreTablesAfter s command tables → AreTablesBy s step tables
+unfolding AreTablesBy
+tables_step s step command tables is after = subst (λ (x : Step). AreTablesBy s x tables) (sym is) after
+
 -- ---- where the documents stay, what is kept with them stays
 
 module _ (j : JournalRows Step) (s : State) (keeps : Keeps j s) (documents : List Contents) (same : documents ≡ s.world.documents) where
@@ -71,5 +86,5 @@ module _ (j : JournalRows Step) (s : State) (keeps : Keeps j s) (documents : Lis
 
 -- ---- in the state of a legal journal the component configurations are as they are asked for
 
-pub asked : (j : JournalRows Step) (s : State) → Keeps j s → IsAsked s.world
-asked j s keeps = subst (λ (w : World). IsAsked w) (sym keeps.world) (legal_is_asked j.limit (history_of j.entries) keeps.legal)
+pub kept_asked : (j : JournalRows Step) (s : State) → Keeps j s → IsAsked s.world
+kept_asked j s keeps = subst (λ (w : World). IsAsked w) (sym keeps.world) (legal_is_asked j.limit (history_of j.entries) keeps.legal)

@@ -1,3 +1,4 @@
 pub mod Drafted
 pub mod Judged
+pub mod Plain
 pub mod Roominess

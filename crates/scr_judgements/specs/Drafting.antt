@@ -9,6 +9,8 @@ use Rattle.scr_state.specs.declared.state.State.{State}
 use Rattle.scr_world.specs.Levels.{levels_of}
 use Rattle.scr_world.specs.Tables.{configurations_by_command, descriptions_of, documents_by_command, registry_by_command, uses_by_command}
 use Rattle.scr_world.specs.declared.command.Command.{Command}
+use Rattle.scr_world.specs.declared.step.Step.{Step}
+use Rattle.scr_world.specs.declared.step.Step.TheVariants.{Command as Commanded}
 use Rattle.scr_world.specs.declared.world.World.{World}
 
 abbrev pub no_tables : TablesAfter
@@ -22,6 +24,11 @@ pub record AreTablesAfter (s : State) (command : Command) (t : TablesAfter) : Ty
   pub uses : unwrap_or t.uses s.world.uses ≡ uses_by_command command s.world.tokens s.world.uses
   pub descriptions : unwrap_or t.descriptions s.descriptions ≡ descriptions_of (documents_by_command command (s.world.bundles.numbered + 1) s.world.documents)
   pub levels : unwrap_or t.levels s.levels ≡ levels_of (descriptions_of (documents_by_command command (s.world.bundles.numbered + 1) s.world.documents))
+
+-- the same of a step, which is then a command
+unfoldable pub AreTablesBy : State → Step → TablesAfter → Type 0
+AreTablesBy s (Commanded command) t = AreTablesAfter s command t
+AreTablesBy s _ t = ⊥
 
 -- the draft with the component configurations as they are asked for, and these tables
 unfoldable pub command_draft : World → Asked → TablesAfter → Draft
