@@ -1,0 +1,5 @@
+mod Active
+mod ListenersNumbered
+mod RefusedInTurn
+mod RegisteredServices
+mod TablesThen
