@@ -32,18 +32,18 @@ module _ (s : State) (command : Command) (asked : Asked) (tables : TablesAfter) 
   drafted_world : with_draft (command_draft s.world asked tables) (with_bundles_by (Commanded command) s.world) ≡ world_after_step (Commanded command) s.world
   unfolding with_draft command_draft world_after_step
   drafted_world = rw (
-      after.documents,
-      after.registry,
-      after.configurations,
-      after.uses,
-      known.components,
-      known.components_numbered,
-      known.open_periods,
-      known.failed,
-      plus_none s.world.instances_numbered,
-      plus_none s.world.turns_begun,
-      append-nil s.world.failures,
-    ) refl
+    after.documents,
+    after.registry,
+    after.configurations,
+    after.uses,
+    known.components,
+    known.components_numbered,
+    known.open_periods,
+    known.failed,
+    plus_none s.world.instances_numbered,
+    plus_none s.world.turns_begun,
+    append-nil s.world.failures,
+  ) refl
 
   described : unwrap_or (command_draft s.world asked tables).descriptions s.descriptions ≡ unwrap_or tables.descriptions s.descriptions
   unfolding command_draft

@@ -25,6 +25,9 @@ pub judged_step : (limit : ℕ) (s : State) (step : Step) (command : Command) (j
 unfolding JudgesStep
 judged_step limit s step command judged is judges = subst (λ (x : Step). JudgesStep limit s x judged) (sym is) judges
 
+pub drafted_as : (s : State) (step : Step) (command : Command) (draft : Draft) → step ≡ Commanded command → IsDraft s step draft → IsDraft s (Commanded command) draft
+drafted_as s step command draft is drafted = subst (λ (x : Step). IsDraft s x draft) is drafted
+
 module _ (limit : ℕ) (s : State) (command : Command) where
   pub no_memory : Judges limit s command (Err OutOfMemory)
   unfolding Judges

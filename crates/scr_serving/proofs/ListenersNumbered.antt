@@ -1,7 +1,8 @@
 -- A world has numbered as many listeners as its journal has entries that add one.
-use Rattle.std.proofs.Common.{◌≡◌, ◌+◌, ◌∙◌, ℕ, List, [], ◌∷◌, ◌++◌, ap, arith, cond, length, refl, sym, Bool, true, false}
+use Rattle.std.proofs.Common.{◌≡◌, ◌+◌, ◌∙◌, ℕ, List, [], ◌∷◌, ◌++◌, ap, arith, cond, length, length-append, refl, sym, Bool, true, false}
 use Rattle.std.specs.Prelude.{filter, reverse}
 use Rattle.std.proofs.lemmas.List.{reverse-append}
+use Rattle.std.proofs.lemmas.List.Elements.{filter-append}
 use Rattle.journal_core.specs.Rooms.{JournalRows}
 use Rattle.journal_core.specs.declared.entry.Entry.{Entry}
 use Rattle.service_listeners.specs.Listening.{ListenerTable, after_changes}
@@ -63,12 +64,7 @@ numbered_in (entry ∷ past) =
 
 -- from either end
 both_ends : (xs ys : List (Entry Step)) → length (filter adds (xs ++ ys)) ≡ length (filter adds xs) + length (filter adds ys)
-both_ends [] ys = omega arith
-both_ends (x ∷ xs) ys = go (both_ends xs ys) (adds x)
-  where
-    go : length (filter adds (xs ++ ys)) ≡ length (filter adds xs) + length (filter adds ys) → (b : Bool) → length (cond b (x ∷ filter adds (xs ++ ys)) (filter adds (xs ++ ys))) ≡ length (cond b (x ∷ filter adds xs) (filter adds xs)) + length (filter adds ys)
-    go later true = omega (arith, later)
-    go later false = later
+both_ends xs ys = ap length (filter-append adds xs ys) ∙ length-append (filter adds xs) (filter adds ys)
 
 turned : (xs : List (Entry Step)) → length (filter adds (reverse xs)) ≡ length (filter adds xs)
 turned [] = refl
