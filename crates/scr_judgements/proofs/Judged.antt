@@ -1,5 +1,5 @@
 -- What is right to say of any command, by its refusal, its effect and the room.
-use Rattle.std.proofs.Common.{◌≡◌, ◌∙◌, ℕ, List, [], ap, refl, subst, sym, Bool, true, false, Option, Some, None, Result, Ok, Err}
+use Rattle.std.proofs.Common.{◌≡◌, ℕ, List, [], ap, refl, subst, sym, Bool, true, false, Some, None, Result, Ok, Err}
 use Rattle.scr_judgements.specs.Judgements.{Judges, JudgesStep}
 use Rattle.scr_judgements.specs.declared.judgement.Judgement.{Judgement}
 use Rattle.scr_judgements.specs.declared.judgement.Judgement.TheVariants.{Unchanged, Changes}
@@ -7,7 +7,7 @@ use Rattle.scr_state.specs.Keeps.{IsDraft}
 use Rattle.scr_state.specs.declared.draft.Draft.{Draft}
 use Rattle.scr_state.specs.declared.state.State.{State}
 use Rattle.scr_world.specs.Refusals.{refusal}
-use Rattle.scr_world.specs.Replies.{Replies, TellsPath, answer, changes, has_effect, reply}
+use Rattle.scr_world.specs.Replies.{TellsPath, answer, has_effect, reply}
 use Rattle.scr_world.specs.Room.{has_room}
 use Rattle.scr_world.specs.declared.command.Command.{Command}
 use Rattle.scr_world.specs.declared.reply.CoreFault.{CoreFault}

@@ -7,7 +7,7 @@ use Rattle.journal_core.specs.Rooms.{JournalRows}
 use Rattle.scr_numbers.proofs.CreatedLaws.{entries_of}
 use Rattle.scr_state.specs.Keeps.{Keeps}
 use Rattle.scr_state.specs.declared.state.State.{State}
-use Rattle.scr_world.specs.Room.{has_room, reserved}
+use Rattle.scr_world.specs.Room.{has_room}
 use Rattle.scr_world.specs.Steps.{history_of}
 use Rattle.scr_world.specs.declared.step.Step.{Step}
 use Rattle.scr_world.specs.declared.world.World.{World}

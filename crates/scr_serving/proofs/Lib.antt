@@ -1,5 +1,3 @@
-mod Active
 mod ListenersNumbered
-mod RefusedInTurn
 mod RegisteredServices
 mod TablesThen

@@ -43,8 +43,15 @@ module _ (service : ℕ) (some : service ≢ 0) where
       go true zero = absurd (some (sym (eqb-true 0 service zero)))
       go false other = refl
 
-  pub registered_is : (w : World) → (is_some (row_of w.registry.rows service) || list_any is_open_with w.open_periods) ≡ is_registered w service
+  registered_is : (w : World) → (is_some (row_of w.registry.rows service) || list_any is_open_with w.open_periods) ≡ is_registered w service
   registered_is w =
       ap (λ b. b || list_any is_open_with w.open_periods) (found_any (has_number service) w.registry.rows ∙ ap (λ b. b || list_any is_that w.registry.rows) (sym own))
       ∙ ap (λ b. list_any is_that (direct_services w) || b) (sym (of_periods w.open_periods))
       ∙ sym (list_any-append is_that (direct_services w) (rows_of w.open_periods))
+
+  module _ (w : World) (direct : Bool) (direct_is : direct ≡ is_some (row_of w.registry.rows service)) where
+    pub by_direct : direct ≡ true → direct ≡ is_registered w service
+    by_direct on = on ∙ ap (λ b. b || list_any is_open_with w.open_periods) (sym on ∙ direct_is) ∙ registered_is w
+
+    pub by_period : (opened : Bool) → direct ≡ false → opened ≡ list_any is_open_with w.open_periods → opened ≡ is_registered w service
+    by_period opened off open_is = open_is ∙ ap (λ b. b || list_any is_open_with w.open_periods) (sym off ∙ direct_is) ∙ registered_is w
