@@ -1,3 +1,3 @@
 mod ListenersNumbered
 mod RegisteredServices
-mod TablesThen
+mod Served

@@ -24,6 +24,7 @@ adds entry = adds_listener entry.step
 
 -- one entry more
 numbered_by_command : (command : Command) (t : ListenerTable) → (listeners_by (Commanded command) t).numbered ≡ cond (adds_listener (Commanded command)) (t.numbered + 1) t.numbered
+unfolding adds_listener
 numbered_by_command (Install doc) t = refl
 numbered_by_command (Update bundle doc) t = refl
 numbered_by_command (Start bundle) t = refl
@@ -43,6 +44,7 @@ numbered_by_command (ConfigureFactory factory name properties) t = refl
 numbered_by_command (Unconfigure pid) t = refl
 
 numbered_by : (step : Step) (t : ListenerTable) → (listeners_by step t).numbered ≡ cond (adds_listener step) (t.numbered + 1) t.numbered
+unfolding adds_listener
 numbered_by (Commanded command) t = numbered_by_command command t
 numbered_by (Begin turn instance configuration consumer callback chosen) t = refl
 numbered_by (End turn outcome) t = refl

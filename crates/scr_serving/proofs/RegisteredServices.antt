@@ -1,5 +1,5 @@
 -- Services but the platform's own that are registered: those that a command registered, and those of open periods.
-use Rattle.std.proofs.Common.{◌≡◌, ◌≢◌, ◌∙◌, ℕ, List, [], ◌∷◌, ap, cond, refl, sym, Bool, true, false, Some, None}
+use Rattle.std.proofs.Common.{◌≡◌, ◌≢◌, ◌∙◌, ℕ, List, [], ◌∷◌, ap, cond, refl, sym, Bool, true, false, Some}
 use Rattle.std.specs.Prelude.{◌==◌, ◌||◌, find, is_some, not}
 use Rattle.std.specs.List.{list_any}
 use Rattle.std.proofs.lemmas.Bool.{eqb-true}

@@ -4,6 +4,6 @@ use Rattle.scr_world.specs.declared.command.Command.TheVariants.{Listen}
 use Rattle.scr_world.specs.declared.step.Step.{Step}
 use Rattle.scr_world.specs.declared.step.Step.TheVariants.{Command as Commanded}
 
-abbrev pub adds_listener : Step → Bool
+unfoldable pub adds_listener : Step → Bool
 adds_listener (Commanded (Listen bundle filter)) = true
 adds_listener _ = false

@@ -1,5 +1,5 @@
 //! A listener of the events of services is added (OSGi Core 8, chapter 5, "Service Listeners").
-ghost use Rattle.journal_core.specs.Rooms.{JournalRows};
+ghost use Rattle.journal_core.specs.declared.entry.Entry.{Entry};
 ghost use Rattle.ldap_filter.specs.Trees.{Tree};
 ghost use Rattle.scr_judgements.specs.Judgements.{Judges};
 ghost use Rattle.scr_serving.specs.Listeners.{adds_listener};
@@ -7,12 +7,13 @@ ghost use Rattle.scr_state.specs.Keeps.{Keeps};
 ghost use Rattle.scr_world.specs.Refusals.{refusal, refuse_if};
 ghost use Rattle.scr_world.specs.declared.command.Command.TheVariants.{Listen};
 ghost use Rattle.scr_world.specs.declared.reply.CoreFault.TheVariants.{ListenersFull};
+ghost use Rattle.scr_world.specs.declared.step.Step.{Step};
 ghost use Rattle.scr_world.specs.declared.step.Step.TheVariants.{Command as Commanded};
-ghost use Rattle.std.specs.Prelude.{◌≡◌, ◌+◌, IfOk, length, nat_le};
+ghost use Rattle.std.specs.Prelude.{◌≡◌, ◌+◌, IfOk, count_by, length, nat_le};
 
 use crate::active::refusal_of_inactive;
 use crate::drafts::draft_with;
-use journal_core::Journal;
+use journal_core::{Entry, Journal};
 use ldap_filter::Filter;
 use prop_map::OutOfMemory;
 use scr_judgements::{Judgement, TablesAfter, has_room_for_command};
@@ -32,11 +33,11 @@ pub fn judge_listen(
     state: &State,
     step: &Step,
     bundle: u64,
-    _filter: &Filter,
+    filter: &Filter,
 ) -> Result<Judgement, CoreFault>
     requires keeps { Keeps journal.now state.now }
-    requires command { step.now ≡ Commanded (Listen bundle _filter.now) }
-    ensures judged { Judges journal.now.limit state.now (Listen bundle _filter.now) result }
+    requires command { step.now ≡ Commanded (Listen bundle filter.now) }
+    ensures judged { Judges journal.now.limit state.now (Listen bundle filter.now) result }
 {
     if let Some(fault) = refusal_of_listen(&state.world, bundle) {
         return Err(fault);
@@ -64,27 +65,43 @@ fn refusal_of_full(listeners: &Listeners) -> Option<CoreFault>
     Some(CoreFault::ListenersFull)
 }
 
-// The number of the next listener: each entry that adds one has numbered one.
-fn next_listener(journal: &Journal<Step>, _state: &State) -> Result<u64, OutOfMemory>
-    requires keeps { Keeps journal.now _state.now }
-    ensures { IfOk result (λ number. number ≡ _state.now.world.listeners.numbered + 1) }
+// The number of the next listener.
+fn next_listener(journal: &Journal<Step>, state: &State) -> Result<u64, OutOfMemory>
+    requires { Keeps journal.now state.now }
+    ensures { IfOk result (λ number. number ≡ state.now.world.listeners.numbered + 1) }
 {
-    let numbered = listeners_numbered(journal);
+    number_behind(listeners_numbered(journal, state))
+}
+
+fn number_behind(numbered: usize) -> Result<u64, OutOfMemory>
+    ensures { IfOk result (λ number. number ≡ numbered + 1) }
+{
     (numbered as u64).checked_add(1).ok_or(AllocError)
 }
 
-fn listeners_numbered(journal: &Journal<Step>) -> usize
-    ensures { result ≡ length (filter (λ (entry : Entry Step). adds_listener entry.step) journal.now.entries) }
+// How many listeners were numbered: each entry that added one has numbered one.
+fn listeners_numbered(journal: &Journal<Step>, state: &State) -> usize
+    requires { Keeps journal.now state.now }
+    ensures { result ≡ state.now.world.listeners.numbered }
 {
-    journal
-        .entries()
-        .iter()
-        .filter(|entry| adds_listener(&entry.step))
-        .count()
+    listeners_added(journal.entries())
 }
 
-fn adds_listener(step: &Step) -> bool
-    ensures { result ≡ adds_listener step.now }
+fn listeners_added(entries: &[Entry<Step>]) -> usize
+    ensures { result ≡ count_by (λ (entry : Entry Step). adds_listener entry.step) entries.now }
 {
-    matches!(step, Step::Command(Command::Listen { .. }))
+    let mut added = 0;
+    for entry in entries {
+        if adds_listener(entry) {
+            added += 1;
+        }
+    }
+    added
+}
+
+#[tactic(auto, unfolding(crate::specs::Listeners::adds_listener))]
+fn adds_listener(entry: &Entry<Step>) -> bool
+    ensures { result ≡ adds_listener entry.now.step }
+{
+    matches!(entry.step, Step::Command(Command::Listen { .. }))
 }

@@ -1,11 +1,12 @@
 //! A service is released that was got for a bundle (OSGi Core 8, chapter 5, "Releasing Services").
+ghost use Rattle.bundle_life.specs.Lives.{bundle_of};
 ghost use Rattle.scr_judgements.specs.Judgements.{Judges};
 ghost use Rattle.scr_state.specs.Keeps.{Keeps};
-ghost use Rattle.scr_world.specs.Refusals.{no_bundle, refusal, refuse_if};
+ghost use Rattle.scr_world.specs.Refusals.{refusal, refuse_if};
 ghost use Rattle.scr_world.specs.declared.command.Command.TheVariants.{Unget};
-ghost use Rattle.scr_world.specs.declared.reply.CoreFault.TheVariants.{NotUsing};
+ghost use Rattle.scr_world.specs.declared.reply.CoreFault.TheVariants.{NoBundle, NotUsing};
 ghost use Rattle.scr_world.specs.declared.step.Step.TheVariants.{Command as Commanded};
-ghost use Rattle.std.specs.Prelude.{◌≡◌, ◌+◌, ◌==◌, IfOk};
+ghost use Rattle.std.specs.Prelude.{◌≡◌, ◌+◌, ◌==◌, IfOk, is_none};
 ghost use Rattle.use_counts.specs.Uses.{after_unget, holder_count, use_count};
 ghost use Rattle.use_counts.specs.declared.uses.Holder.TheVariants.{Shell};
 
