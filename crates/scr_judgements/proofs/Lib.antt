@@ -1,4 +1,4 @@
+pub mod CommandRoom
 pub mod Drafted
 pub mod Judged
 pub mod Plain
-pub mod Roominess

@@ -9,9 +9,9 @@ use scr_world::Step;
 
 /// Whether the journal has room for the entry of a command, beside those that are reserved. It takes no memory, and the time of
 /// no table.
-pub fn has_room_for_command(journal: &Journal<Step>, _state: &State) -> bool
-    requires { Keeps journal.now _state.now }
-    ensures { result ≡ has_room journal.now.limit _state.now.world 1 }
+pub fn has_room_for_command(journal: &Journal<Step>, state: &State) -> bool
+    requires { Keeps journal.now state.now }
+    ensures { result ≡ has_room journal.now.limit state.now.world 1 }
 {
     journal.room() > 0
 }
