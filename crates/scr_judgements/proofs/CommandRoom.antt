@@ -1,0 +1,25 @@
+-- Room for a command, by what the journal counts.
+use Rattle.std.proofs.Common.{◌≡◌, ◌+◌, ◌∙◌, ℕ, ap, arith, length}
+use Rattle.std.specs.Prelude.{nat_lt}
+use Rattle.std.proofs.lemmas.Bool.Decides.{nat_tests}
+use Rattle.std.proofs.lemmas.List.{length-reverse}
+use Rattle.journal_core.specs.Rooms.{JournalRows}
+use Rattle.scr_numbers.proofs.CreatedLaws.{entries_of}
+use Rattle.scr_state.specs.Keeps.{Keeps}
+use Rattle.scr_state.specs.declared.state.State.{State}
+use Rattle.scr_world.specs.Room.{has_room}
+use Rattle.scr_world.specs.Steps.{history_of}
+use Rattle.scr_world.specs.declared.step.Step.{Step}
+use Rattle.scr_world.specs.declared.world.World.{World}
+
+-- the journal and the world count the same entries
+pub entries_are : (j : JournalRows Step) (s : State) → Keeps j s → s.world.entries ≡ length j.entries
+entries_are j s keeps = ap (λ (w : World). w.entries) keeps.world ∙ entries_of (history_of j.entries) ∙ length-reverse j.entries
+
+-- a command has room exactly where the journal has room for one entry more
+pub room_is : (j : JournalRows Step) (s : State) (room : ℕ) → Keeps j s → length j.entries + j.reserved + room ≡ j.limit → nat_lt 0 room ≡ has_room j.limit s.world 1
+unfolding has_room
+room_is j s room keeps left =
+    let counted = entries_are j s keeps in
+    let kept = keeps.reserved in
+    grind (arith, nat_tests)

@@ -1,0 +1,4 @@
+pub mod CommandRoom
+pub mod Drafted
+pub mod Judged
+pub mod Plain

@@ -1,0 +1,3 @@
+mod ListenersNumbered
+mod RegisteredServices
+mod Served
