@@ -1,0 +1,6 @@
+mod Allowing
+mod Drafting
+mod Idle
+mod LevelsAre
+mod Numbering
+mod Updates

@@ -1,0 +1,43 @@
+//! Whether a bundle is there and neither ACTIVE nor STOPPING (OSGi Core 8, chapter 4, "Bundle State"). That an update and an
+//! uninstall are refused else is our own.
+ghost use Rattle.scr_installing.specs.Idle.{IsRefusedBy, idle_refusal};
+ghost use Rattle.scr_world.specs.Refusals.{lowest_keeping};
+ghost use Rattle.std.specs.Prelude.{◌≡◌};
+
+use bundle_life::BundleState;
+use scr_consequences::keeps_bundle;
+use scr_world::{CoreFault, World};
+
+/// That a bundle is there and rests.
+///
+/// # Errors
+/// `NoBundle` where it isn't there, `WrongState` where it is ACTIVE, `Stopping` where it is STOPPING.
+pub(crate) fn check_idle(world: &World, bundle: u64) -> Result<(), CoreFault>
+    ensures { IsRefusedBy (idle_refusal world.now bundle) result }
+{
+    match world.bundles.state_of(bundle) {
+        None => Err(CoreFault::NoBundle { bundle }),
+        Some(BundleState::Active) => Err(CoreFault::WrongState {
+            state: BundleState::Active.number(),
+        }),
+        Some(BundleState::Stopping) => Err(CoreFault::Stopping {
+            instance: lowest_keeping(world, bundle),
+        }),
+        Some(BundleState::Installed | BundleState::Resolved) => Ok(()),
+    }
+}
+
+// The lowest instance that keeps a bundle from having stopped, 0 where there is none.
+fn lowest_keeping(world: &World, bundle: u64) -> u64
+    ensures { result ≡ lowest_keeping world.now bundle }
+{
+    let components = world.components.as_slice();
+    let instances = world.instances.as_slice();
+    let keeping = instances
+        .iter()
+        .find(|instance| keeps_bundle(components, bundle, instance));
+    match keeping {
+        Some(instance) => instance.number,
+        None => 0,
+    }
+}
