@@ -1,6 +1,7 @@
 mod Allowing
-mod Drafting
-mod Idle
+mod DocumentDrafts
+mod IdleBundles
+mod Installs
+mod LastInstalled
 mod LevelsAre
-mod Numbering
 mod Updates

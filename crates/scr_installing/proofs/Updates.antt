@@ -1,23 +1,20 @@
 -- When an update is refused, in the order of its tests.
-use Rattle.std.proofs.Common.{◌≡◌, ◌∙◌, ℕ, List, [], ◌∷◌, ◌++◌, ap, refl, subst, sym, Bool, true, false, Option, Some, None, Result, Ok, Err}
-use Rattle.std.specs.Prelude.{map, option_map}
+use Rattle.std.proofs.Common.{◌≡◌, ◌∙◌, ℕ, List, [], ◌∷◌, ◌++◌, ap, refl, sym, false, Option, Some, None, Result, Ok, Err}
+use Rattle.std.specs.Prelude.{option_map}
 use Rattle.bundle_doc.specs.declared.document.BundleDoc.{BundleDoc}
 use Rattle.bundle_life.specs.declared.bundle.BundleLife.{BundleLife}
 use Rattle.bundle_life.specs.Lives.{namesake}
-use Rattle.component_dto.specs.declared.description.Description.{Description}
 use Rattle.prop_map.specs.Words.{first_some}
 use Rattle.scr_installing.specs.Allowed.{IsAllowed}
 use Rattle.scr_installing.specs.Described.{AreDescribed, IsDescribed}
 use Rattle.scr_installing.specs.declared.described.Described.{Described}
 use Rattle.scr_installing.specs.Idle.{idle_refusal}
 use Rattle.scr_installing.specs.Updates.{update_refusal}
-use Rattle.scr_installing.proofs.Idle.{idle_plain}
+use Rattle.scr_installing.proofs.IdleBundles.{idle_plain}
 use Rattle.scr_judgements.proofs.Judged.{is_cycle, refused}
 use Rattle.scr_judgements.specs.Judgements.{Judges}
 use Rattle.scr_state.specs.declared.state.State.{State}
 use Rattle.scr_world.specs.Refusals.{cyclic, descriptions_with, no_bundle, refusal, same_name, still_active, still_stopping}
-use Rattle.scr_world.specs.Tables.{descriptions_of, replaced}
-use Rattle.scr_world.specs.declared.command.Command.{Command}
 use Rattle.scr_world.specs.declared.command.Command.TheVariants.{Update}
 use Rattle.scr_world.specs.declared.reply.CoreFault.{CoreFault}
 use Rattle.scr_world.specs.declared.reply.CoreFault.TheVariants.{SameName, Cycle, OutOfMemory}
@@ -48,7 +45,6 @@ named_plain None fault is = absurd cc
 named_plain (Some b) fault is = let e : fault ≡ SameName b.number = cc in ap is_cycle e
 
 module _ (w : World) (bundle : ℕ) (doc : BundleDoc) where
-
   pub idle_refuses : (fault : CoreFault) → idle_refusal w bundle ≡ Some fault → update_refusal w bundle doc ≡ Some fault
   idle_refuses fault is = first_more (no_bundle w bundle ∷ still_active w bundle ∷ still_stopping w bundle ∷ []) (same_name w doc bundle ∷ []) fault is
 
@@ -71,15 +67,19 @@ module _ (w : World) (bundle : ℕ) (doc : BundleDoc) where
 
   -- with the descriptions after it
   module _ (free : update_refusal w bundle doc ≡ None) where
-    pub update_cyclic : (fault : CoreFault) → IsDescribed (descriptions_with w doc bundle) (Err fault) → IsAllowed w (Update bundle doc) (Err fault)
+    update_cyclic : (fault : CoreFault) → IsDescribed (descriptions_with w doc bundle) (Err fault) → IsAllowed w (Update bundle doc) (Err fault)
     unfolding IsAllowed
     update_cyclic (Cycle path) is = (tests_of free ∙ rw is.0 refl, is.1)
     update_cyclic OutOfMemory is = tt
     update_cyclic fault is = absurd is
 
-    pub update_allowed : (described : Described) → AreDescribed (descriptions_with w doc bundle) described → IsAllowed w (Update bundle doc) (Ok described)
+    update_allowed : (described : Described) → AreDescribed (descriptions_with w doc bundle) described → IsAllowed w (Update bundle doc) (Ok described)
     unfolding IsAllowed
     update_allowed described are = (tests_of free ∙ rw are.has_levels refl, are)
+
+    pub update_answer : (answer : Result Described CoreFault) → IsDescribed (descriptions_with w doc bundle) answer → IsAllowed w (Update bundle doc) answer
+    update_answer (Ok described) are = update_allowed described are
+    update_answer (Err fault) is = update_cyclic fault is
 
 pub update_refused : (limit : ℕ) (s : State) (bundle : ℕ) (doc : BundleDoc) (fault : CoreFault) → update_refusal s.world bundle doc ≡ Some fault → Judges limit s (Update bundle doc) (Err fault)
 update_refused limit s bundle doc fault is = refused limit s (Update bundle doc) fault (update_plain s.world bundle doc fault is)

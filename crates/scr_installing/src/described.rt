@@ -22,7 +22,7 @@ pub(crate) struct Described {
 ///
 /// # Errors
 /// `Cycle`, with the told path, exactly where some of them has no level.
-pub(crate) fn described(
+pub(crate) fn with_levels(
     alloc: Global,
     descriptions: List<Description>,
 ) -> Result<Described, CoreFault>

@@ -1,12 +1,15 @@
 //! Whether a bundle is there and neither ACTIVE nor STOPPING (OSGi Core 8, chapter 4, "Bundle State"). That an update and an
 //! uninstall are refused else is our own.
 ghost use Rattle.scr_installing.specs.Idle.{IsRefusedBy, idle_refusal};
+ghost use Rattle.scr_world.specs.Consequences.{keeps_bundle};
 ghost use Rattle.scr_world.specs.Refusals.{lowest_keeping};
-ghost use Rattle.std.specs.Prelude.{◌≡◌};
+ghost use Rattle.std.specs.Option.{option_copied};
+ghost use Rattle.std.specs.Prelude.{◌≡◌, find};
 
 use bundle_life::BundleState;
+use component_state::Component;
 use scr_consequences::keeps_bundle;
-use scr_world::{CoreFault, World};
+use scr_world::{CoreFault, Instance, World};
 
 /// That a bundle is there and rests.
 ///
@@ -32,12 +35,20 @@ fn lowest_keeping(world: &World, bundle: u64) -> u64
     ensures { result ≡ lowest_keeping world.now bundle }
 {
     let components = world.components.as_slice();
-    let instances = world.instances.as_slice();
-    let keeping = instances
-        .iter()
-        .find(|instance| keeps_bundle(components, bundle, instance));
-    match keeping {
+    match first_keeping(components, world.instances.as_slice(), bundle) {
         Some(instance) => instance.number,
         None => 0,
     }
+}
+
+fn first_keeping<'i>(
+    components: &[Component],
+    instances: &'i [Instance],
+    bundle: u64,
+) -> Option<&'i Instance>
+    ensures { option_copied result ≡ find (keeps_bundle components.now bundle) instances.now }
+{
+    instances
+        .iter()
+        .find(|instance| keeps_bundle(components, bundle, instance))
 }

@@ -10,7 +10,7 @@ ghost use Rattle.scr_world.specs.declared.command.Command.TheVariants.{Install};
 ghost use Rattle.scr_world.specs.declared.step.Step.TheVariants.{Command as Commanded};
 ghost use Rattle.std.specs.Prelude.{◌≡◌, ◌+◌, IfOk, length, nat_le, option_map};
 
-use crate::described::{Described, both, described};
+use crate::described::{Described, both, with_levels};
 use crate::documents::documents_with;
 use crate::drafting::documents_draft;
 use crate::names::namesake;
@@ -95,7 +95,7 @@ fn described_after(alloc: Global, state: &State, doc: &BundleDoc) -> Result<Desc
         state.descriptions.as_slice(),
         doc.descriptions.as_slice(),
     )?;
-    let described = described(alloc, all)?;
+    let described = with_levels(alloc, all)?;
     if is_full(&state.world.bundles) {
         return Err(CoreFault::BundlesFull);
     }

@@ -13,7 +13,7 @@ use std::alloc::AllocError;
 ///
 /// # Errors
 /// Only that no number is left, which counts as want of memory.
-#[tactic(auto, using(crate::proofs::Numbering::kept_number))]
+#[tactic(auto, using(crate::proofs::LastInstalled::kept_number))]
 pub(crate) fn next_number(state: &State) -> Result<u64, OutOfMemory>
     requires { IsKept state.now }
     ensures { IfOk result (λ number. number ≡ state.now.world.bundles.numbered + 1) }

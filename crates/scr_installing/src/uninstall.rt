@@ -6,7 +6,7 @@ ghost use Rattle.scr_world.specs.declared.command.Command.TheVariants.{Uninstall
 ghost use Rattle.scr_world.specs.declared.step.Step.TheVariants.{Command as Commanded};
 ghost use Rattle.std.specs.Prelude.{◌≡◌, IfOk};
 
-use crate::described::{Described, described, descriptions_in};
+use crate::described::{Described, descriptions_in, with_levels};
 use crate::documents::documents_without;
 use crate::drafting::documents_draft;
 use crate::idle::check_idle;
@@ -62,13 +62,10 @@ fn uninstall_draft(
 }
 
 // Some of the descriptions that all have levels, with theirs: no cycle comes where descriptions go.
-fn described_still(
-    alloc: Global,
-    descriptions: List<Description>,
-) -> Result<Described, OutOfMemory>
+fn described_still(alloc: Global, descriptions: List<Description>) -> Result<Described, OutOfMemory>
     ensures { IfOk result (λ described. AreDescribed descriptions described) }
 {
-    match described(alloc, descriptions) {
+    match with_levels(alloc, descriptions) {
         Ok(described) => Ok(described),
         Err(_) => Err(AllocError),
     }

@@ -9,7 +9,7 @@ ghost use Rattle.scr_world.specs.declared.command.Command.TheVariants.{Update};
 ghost use Rattle.scr_world.specs.declared.step.Step.TheVariants.{Command as Commanded};
 ghost use Rattle.std.specs.Prelude.{◌≡◌, IfOk, map};
 
-use crate::described::{Described, described, descriptions_in};
+use crate::described::{Described, descriptions_in, with_levels};
 use crate::documents::documents_replaced;
 use crate::drafting::documents_draft;
 use crate::idle::check_idle;
@@ -76,5 +76,5 @@ fn described_after(
     ensures { IsAllowed world.now (Update bundle doc.now) result }
 {
     let descriptions = descriptions_in(alloc, documents)?;
-    described(alloc, descriptions)
+    with_levels(alloc, descriptions)
 }

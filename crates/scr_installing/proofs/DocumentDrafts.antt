@@ -1,7 +1,6 @@
 -- The draft of a command that changes what the bundles hold.
-use Rattle.std.proofs.Common.{◌≡◌, ◌∙◌, ◌+◌, ℕ, List, ap, refl, sym, true}
-use Rattle.config_admin.specs.declared.configuration.Configuration.{Configuration}
-use Rattle.scr_asking.specs.Asked.{IsAskedAfter, is_command}
+use Rattle.std.proofs.Common.{◌≡◌, ◌∙◌, ◌+◌, List, ap, refl, true}
+use Rattle.scr_asking.specs.Asked.{IsAskedAfter}
 use Rattle.scr_asking.specs.declared.asked.Asked.{Asked}
 use Rattle.scr_installing.specs.Described.{AreDescribed}
 use Rattle.scr_installing.specs.Drafting.{changes_documents, is_of_documents, tables_with}
@@ -11,48 +10,12 @@ use Rattle.scr_judgements.specs.Drafting.{AreTablesAfter, command_draft}
 use Rattle.scr_state.specs.Keeps.{IsDraft}
 use Rattle.scr_state.specs.declared.state.State.{State}
 use Rattle.scr_world.specs.Levels.{levels_of}
-use Rattle.scr_world.specs.Tables.{configurations_by, configurations_by_command, descriptions_of, documents_by, documents_by_command, registry_by_command, uses_by_command}
+use Rattle.scr_world.specs.Tables.{configurations_by_command, descriptions_of, documents_by, documents_by_command, registry_by_command, uses_by_command}
 use Rattle.scr_world.specs.declared.command.Command.{Command}
 use Rattle.scr_world.specs.declared.command.Command.TheVariants.{Install, Update, Start, Stop, Uninstall, Enable, Disable, Register, Unregister, SetProperties, Get, Unget, Listen, Unlisten, Configure, ConfigureFactory, Unconfigure}
 use Rattle.scr_world.specs.declared.contents.Contents.{Contents}
 use Rattle.scr_world.specs.declared.step.Step.{Step}
 use Rattle.scr_world.specs.declared.step.Step.TheVariants.{Command as Commanded, Begin, End, Drained, Got, Released}
-
--- commands of documents are commands, and leave the configurations
-pub of_documents : (step : Step) → changes_documents step ≡ true → is_command step ≡ true
-of_documents (Commanded command) is = refl
-of_documents (Begin turn instance configuration consumer callback chosen) is = absurd cc
-of_documents (End turn outcome) is = absurd cc
-of_documents (Drained instance) is = absurd cc
-of_documents (Got bundle service) is = absurd cc
-of_documents (Released place) is = absurd cc
-
-configurations_of : (command : Command) (cs : List Configuration) → is_of_documents command ≡ true → cs ≡ configurations_by (Commanded command) cs
-configurations_of (Install doc) cs is = refl
-configurations_of (Update bundle doc) cs is = refl
-configurations_of (Uninstall bundle) cs is = refl
-configurations_of (Start bundle) cs is = absurd cc
-configurations_of (Stop bundle) cs is = absurd cc
-configurations_of (Enable bundle name) cs is = absurd cc
-configurations_of (Disable bundle name) cs is = absurd cc
-configurations_of (Register bundle interfaces properties) cs is = absurd cc
-configurations_of (Unregister bundle service) cs is = absurd cc
-configurations_of (SetProperties bundle service properties) cs is = absurd cc
-configurations_of (Get bundle service) cs is = absurd cc
-configurations_of (Unget bundle service) cs is = absurd cc
-configurations_of (Listen bundle test) cs is = absurd cc
-configurations_of (Unlisten listener) cs is = absurd cc
-configurations_of (Configure pid properties) cs is = absurd cc
-configurations_of (ConfigureFactory factory name properties) cs is = absurd cc
-configurations_of (Unconfigure pid) cs is = absurd cc
-
-pub same_configurations : (step : Step) (cs : List Configuration) → changes_documents step ≡ true → cs ≡ configurations_by step cs
-same_configurations (Commanded command) cs is = configurations_of command cs is
-same_configurations (Begin turn instance configuration consumer callback chosen) cs is = absurd cc
-same_configurations (End turn outcome) cs is = absurd cc
-same_configurations (Drained instance) cs is = absurd cc
-same_configurations (Got bundle service) cs is = absurd cc
-same_configurations (Released place) cs is = absurd cc
 
 module _ (s : State) (documents : List Contents) (described : Described) (are : AreDescribed (descriptions_of documents) described) where
   -- the tables after a command, where it leaves those of services

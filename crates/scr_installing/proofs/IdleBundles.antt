@@ -1,5 +1,5 @@
 -- Whether a bundle rests, by its state.
-use Rattle.std.proofs.Common.{◌≡◌, ◌∙◌, ℕ, [], ◌∷◌, ap, refl, sym, Bool, true, false, Option, Some, None}
+use Rattle.std.proofs.Common.{◌≡◌, ◌∙◌, ℕ, [], ◌∷◌, ap, refl, sym, false, Option, Some, None}
 use Rattle.std.specs.Prelude.{is_none, option_and_then, option_map}
 use Rattle.bundle_life.specs.declared.bundle.BundleLife.{BundleLife}
 use Rattle.bundle_life.specs.declared.bundle.BundleState.{BundleState}
