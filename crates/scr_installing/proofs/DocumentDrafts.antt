@@ -1,0 +1,60 @@
+-- The draft of a command that changes what the bundles hold.
+use Rattle.std.proofs.Common.{◌≡◌, ◌∙◌, ◌+◌, List, ap, refl, true}
+use Rattle.scr_asking.specs.Asked.{IsAskedAfter}
+use Rattle.scr_asking.specs.declared.asked.Asked.{Asked}
+use Rattle.scr_installing.specs.Described.{AreDescribed}
+use Rattle.scr_installing.specs.Drafting.{changes_documents, is_of_documents, tables_with}
+use Rattle.scr_installing.specs.declared.described.Described.{Described}
+use Rattle.scr_judgements.proofs.Drafted.{drafted}
+use Rattle.scr_judgements.specs.Drafting.{AreTablesAfter, command_draft}
+use Rattle.scr_state.specs.Keeps.{IsDraft}
+use Rattle.scr_state.specs.declared.state.State.{State}
+use Rattle.scr_world.specs.Levels.{levels_of}
+use Rattle.scr_world.specs.Tables.{configurations_by_command, descriptions_of, documents_by, documents_by_command, registry_by_command, uses_by_command}
+use Rattle.scr_world.specs.declared.command.Command.{Command}
+use Rattle.scr_world.specs.declared.command.Command.TheVariants.{Install, Update, Start, Stop, Uninstall, Enable, Disable, Register, Unregister, SetProperties, Get, Unget, Listen, Unlisten, Configure, ConfigureFactory, Unconfigure}
+use Rattle.scr_world.specs.declared.contents.Contents.{Contents}
+use Rattle.scr_world.specs.declared.step.Step.{Step}
+use Rattle.scr_world.specs.declared.step.Step.TheVariants.{Command as Commanded, Begin, End, Drained, Got, Released}
+
+module _ (s : State) (documents : List Contents) (described : Described) (are : AreDescribed (descriptions_of documents) described) where
+  -- the tables after a command, where it leaves those of services
+  after : (command : Command) → documents ≡ documents_by_command command (s.world.bundles.numbered + 1) s.world.documents
+      → s.world.registry ≡ registry_by_command command s.world.registry → s.world.configurations ≡ configurations_by_command command s.world.configurations
+      → s.world.uses ≡ uses_by_command command s.world.tokens s.world.uses → AreTablesAfter s command (tables_with documents described)
+  after command held registry configurations uses = record {
+    documents = held;
+    registry = registry;
+    configurations = configurations;
+    uses = uses;
+    descriptions = are.descriptions ∙ ap descriptions_of held;
+    levels = are.levels ∙ ap (λ (cs : List Contents). levels_of (descriptions_of cs)) held;
+  }
+
+  after_command : (command : Command) → is_of_documents command ≡ true → documents ≡ documents_by_command command (s.world.bundles.numbered + 1) s.world.documents → AreTablesAfter s command (tables_with documents described)
+  after_command (Install doc) is held = after (Install doc) held refl refl refl
+  after_command (Update bundle doc) is held = after (Update bundle doc) held refl refl refl
+  after_command (Uninstall bundle) is held = after (Uninstall bundle) held refl refl refl
+  after_command (Start bundle) is held = absurd cc
+  after_command (Stop bundle) is held = absurd cc
+  after_command (Enable bundle name) is held = absurd cc
+  after_command (Disable bundle name) is held = absurd cc
+  after_command (Register bundle interfaces properties) is held = absurd cc
+  after_command (Unregister bundle service) is held = absurd cc
+  after_command (SetProperties bundle service properties) is held = absurd cc
+  after_command (Get bundle service) is held = absurd cc
+  after_command (Unget bundle service) is held = absurd cc
+  after_command (Listen bundle test) is held = absurd cc
+  after_command (Unlisten listener) is held = absurd cc
+  after_command (Configure pid properties) is held = absurd cc
+  after_command (ConfigureFactory factory name properties) is held = absurd cc
+  after_command (Unconfigure pid) is held = absurd cc
+
+  pub documents_drafted : (step : Step) → changes_documents step ≡ true → documents ≡ documents_by step (s.world.bundles.numbered + 1) s.world.documents → (asked : Asked) → IsAskedAfter step s.world asked
+      → IsDraft s step (command_draft s.world asked (tables_with documents described))
+  documents_drafted (Commanded command) is held asked known = drafted s command asked (tables_with documents described) known (after_command command is held)
+  documents_drafted (Begin turn instance configuration consumer callback chosen) is held asked known = absurd cc
+  documents_drafted (End turn outcome) is held asked known = absurd cc
+  documents_drafted (Drained instance) is held asked known = absurd cc
+  documents_drafted (Got bundle service) is held asked known = absurd cc
+  documents_drafted (Released place) is held asked known = absurd cc

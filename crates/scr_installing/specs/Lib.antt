@@ -1,0 +1,6 @@
+pub mod Allowed
+pub mod Described
+pub mod Drafting
+pub mod Idle
+pub mod Numbering
+pub mod Updates
