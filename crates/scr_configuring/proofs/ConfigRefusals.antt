@@ -58,7 +58,7 @@ module _ (limit : ℕ) (s : State) (command : Command) (tests : List (Bool × Co
   by_table : (fault : ConfigFault) → of_table tests ≡ Some fault → refusal s.world command ≡ Some (core_fault fault)
   by_table fault is = same ∙ translated tests (components_full s.world command) fault is
 
-  judged : {A : Type 0} (fault : ConfigFault) → IsRefusedBy {A} (of_table tests) (Err fault) → Judges limit s command (Err (core_fault fault))
+  judged : (fault : ConfigFault) → IsRefusedBy {A = List Configuration} (of_table tests) (Err fault) → Judges limit s command (Err (core_fault fault))
   judged BadPid is = refused limit s command (core_fault BadPid) refl (by_table BadPid is)
   judged FactoryClash is = refused limit s command (core_fault FactoryClash) refl (by_table FactoryClash is)
   judged NoConfiguration is = refused limit s command (core_fault NoConfiguration) refl (by_table NoConfiguration is)
@@ -82,14 +82,14 @@ delete_alone pid cs = alone (delete_refusal pid cs)
     alone (Some f) = refl
 
 module _ (limit : ℕ) (s : State) where
-  pub own_refused : {A : Type 0} (pid : List ℕ) (properties : List Property) (fault : ConfigFault) → IsRefusedBy {A} (set_refusal pid s.world.configurations) (Err fault) → Judges limit s (Configure pid properties) (Err (core_fault fault))
+  pub own_refused : (pid : List ℕ) (properties : List Property) (fault : ConfigFault) → IsRefusedBy {A = List Configuration} (set_refusal pid s.world.configurations) (Err fault) → Judges limit s (Configure pid properties) (Err (core_fault fault))
   own_refused pid properties fault is = judged limit s (Configure pid properties) (own_tests pid s.world.configurations) refl fault is
 
-  pub factory_refused : {A : Type 0} (factory name : List ℕ) (properties : List Property) (fault : ConfigFault) → IsRefusedBy {A} (set_factory_refusal factory name s.world.configurations) (Err fault)
+  pub factory_refused : (factory name : List ℕ) (properties : List Property) (fault : ConfigFault) → IsRefusedBy {A = List Configuration} (set_factory_refusal factory name s.world.configurations) (Err fault)
       → Judges limit s (ConfigureFactory factory name properties) (Err (core_fault fault))
   factory_refused factory name properties fault is = judged limit s (ConfigureFactory factory name properties) (factory_tests factory name s.world.configurations) refl fault is
 
-  pub delete_refused : {A : Type 0} (pid : List ℕ) (fault : ConfigFault) → IsRefusedBy {A} (delete_refusal pid s.world.configurations) (Err fault) → Judges limit s (Unconfigure pid) (Err (core_fault fault))
+  pub delete_refused : (pid : List ℕ) (fault : ConfigFault) → IsRefusedBy {A = List Configuration} (delete_refusal pid s.world.configurations) (Err fault) → Judges limit s (Unconfigure pid) (Err (core_fault fault))
   delete_refused pid fault is =
       judged limit s (Unconfigure pid) (delete_tests pid s.world.configurations) refl fault (rw (delete_alone pid s.world.configurations) is)
 
