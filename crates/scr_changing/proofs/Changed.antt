@@ -1,5 +1,5 @@
 -- The judgement of a command by its last refusals.
-use Rattle.std.proofs.Common.{◌≡◌, ◌∙◌, ℕ, ap, cond, refl, subst, sym, Bool, true, false, Option, Some, None, Result, Ok, Err}
+use Rattle.std.proofs.Common.{◌≡◌, ℕ, refl, subst, sym, Bool, true, false, Some, None, Result, Ok, Err}
 use Rattle.scr_asking.specs.Asked.{IsAskedAfter, are_too_many}
 use Rattle.scr_asking.specs.declared.asked.Asked.{Asked}
 use Rattle.scr_changing.specs.Changing.{AreTablesBy, Changes, ChangesFreely, ChangesUnlessFull}
@@ -25,7 +25,7 @@ use Rattle.scr_world.specs.declared.world.World.{World}
 -- ---- a step that little refuses is a command
 
 pub tables_freely : (s : State) (step : Step) (reply : Reply) (tables : TablesAfter) → ChangesFreely s step reply tables → AreTablesBy s step tables
-tables_freely s (Commanded command) reply tables changes = changes.tables
+tables_freely s (Commanded command) reply tables changes = changes.after
 tables_freely s (Begin turn instance configuration consumer callback chosen) reply tables changes = absurd changes
 tables_freely s (End turn outcome) reply tables changes = absurd changes
 tables_freely s (Drained instance) reply tables changes = absurd changes
@@ -33,7 +33,7 @@ tables_freely s (Got bundle service) reply tables changes = absurd changes
 tables_freely s (Released place) reply tables changes = absurd changes
 
 pub tables_unless_full : (s : State) (step : Step) (reply : Reply) (tables : TablesAfter) → ChangesUnlessFull s step reply tables → AreTablesBy s step tables
-tables_unless_full s (Commanded command) reply tables changes = changes.tables
+tables_unless_full s (Commanded command) reply tables changes = changes.after
 tables_unless_full s (Begin turn instance configuration consumer callback chosen) reply tables changes = absurd changes
 tables_unless_full s (End turn outcome) reply tables changes = absurd changes
 tables_unless_full s (Drained instance) reply tables changes = absurd changes
@@ -69,7 +69,7 @@ module _ (w : World) (command : Command) (last : refusal w command ≡ component
 pub full : (limit : ℕ) (s : State) (step : Step) (reply : Reply) (tables : TablesAfter) → ChangesUnlessFull s step reply tables → are_too_many step s.world ≡ true → JudgesStep limit s step (Err ComponentsFull)
 unfolding JudgesStep
 full limit s (Commanded command) reply tables changes many =
-    judged.refused limit s command ComponentsFull refl (refused_full s.world command changes.refused many)
+    judged.refused limit s command ComponentsFull refl (refused_full s.world command changes.refusals many)
 full limit s (Begin turn instance configuration consumer callback chosen) reply tables changes many = tt
 full limit s (End turn outcome) reply tables changes many = tt
 full limit s (Drained instance) reply tables changes many = tt
@@ -78,10 +78,10 @@ full limit s (Released place) reply tables changes many = tt
 
 pub freely : (s : State) (step : Step) (reply : Reply) (tables : TablesAfter) → ChangesUnlessFull s step reply tables → are_too_many step s.world ≡ false → ChangesFreely s step reply tables
 freely s (Commanded command) reply tables changes few = record {
-  refused = not_refused s.world command changes.refused few;
+  refusals = not_refused s.world command changes.refusals few;
   effect = changes.effect;
   answers = changes.answers;
-  tables = changes.tables;
+  after = changes.after;
 }
 freely s (Begin turn instance configuration consumer callback chosen) reply tables changes few = absurd changes
 freely s (End turn outcome) reply tables changes few = absurd changes
@@ -93,7 +93,7 @@ freely s (Released place) reply tables changes few = absurd changes
 
 pub no_room : (limit : ℕ) (s : State) (step : Step) (reply : Reply) (tables : TablesAfter) → ChangesFreely s step reply tables → has_room limit s.world 1 ≡ false → JudgesStep limit s step (Err JournalFull)
 unfolding JudgesStep
-no_room limit s (Commanded command) reply tables changes room = judged.no_room limit s command changes.refused changes.effect room
+no_room limit s (Commanded command) reply tables changes room = judged.no_room limit s command changes.refusals changes.effect room
 no_room limit s (Begin turn instance configuration consumer callback chosen) reply tables changes room = tt
 no_room limit s (End turn outcome) reply tables changes room = tt
 no_room limit s (Drained instance) reply tables changes room = tt
@@ -104,7 +104,7 @@ pub changed : (limit : ℕ) (s : State) (step : Step) (reply : Reply) (asked : A
     → has_room limit s.world 1 ≡ true → draft ≡ command_draft s.world asked tables → JudgesStep limit s step (Ok (WithDraft reply draft))
 unfolding JudgesStep
 changed limit s (Commanded command) reply asked tables draft changes known room is =
-    rw is (judged.changed limit s command changes.refused reply (command_draft s.world asked tables) changes.effect room (sym changes.answers) (drafted s command asked tables known changes.tables))
+    rw is (judged.changed limit s command changes.refusals reply (command_draft s.world asked tables) changes.effect room (sym changes.answers) (drafted s command asked tables known changes.after))
 changed limit s (Begin turn instance configuration consumer callback chosen) reply asked tables draft changes known room is = tt
 changed limit s (End turn outcome) reply asked tables draft changes known room is = tt
 changed limit s (Drained instance) reply asked tables draft changes known room is = tt

@@ -1,5 +1,5 @@
 -- The tables after a step.
-use Rattle.std.proofs.Common.{◌≡◌, ◌+◌, true}
+use Rattle.std.proofs.Common.{◌≡◌, ◌+◌, refl, true}
 use Rattle.std.specs.Option.{unwrap_or}
 use Rattle.scr_asking.specs.Asked.{is_command}
 use Rattle.scr_changing.specs.Changing.{AreTablesBy}

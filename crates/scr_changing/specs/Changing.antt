@@ -13,10 +13,10 @@ use Rattle.scr_world.specs.declared.step.Step.TheVariants.{Command as Commanded}
 
 -- a command changes something, is refused so but for want of room, answers this, and these are its tables
 pub record Changes (s : State) (command : Command) (refused : Option CoreFault) (reply : Reply) (tables : TablesAfter) : Type 0 where
-  pub refused : refusal s.world command ≡ refused
+  pub refusals : refusal s.world command ≡ refused
   pub effect : has_effect s.world command ≡ true
   pub answers : answer s.world command ≡ reply
-  pub tables : AreTablesAfter s command tables
+  pub after : AreTablesAfter s command tables
 
 -- nothing refuses it
 abbrev pub ChangesFreely : State → Step → Reply → TablesAfter → Type 0

@@ -99,10 +99,10 @@ module _ (j : JournalRows Step) (s : State) (keeps : Keeps j s) (after : List Co
   pub own_changes : (pid : List ℕ) (properties : List Property) → set_refusal pid s.world.configurations ≡ None → after ≡ with_configuration (own_configuration pid properties) s.world.configurations
       → Changes s (Configure pid properties) (components_full s.world (Configure pid properties)) Done (record no_tables { configurations = Some after })
   own_changes pid properties free is = record {
-    refused = left (own_tests pid s.world.configurations) (components_full s.world (Configure pid properties)) free;
+    refusals = left (own_tests pid s.world.configurations) (components_full s.world (Configure pid properties)) free;
     effect = refl;
     answers = refl;
-    tables = record {
+    after = record {
       documents = refl;
       registry = refl;
       configurations = is;
@@ -116,10 +116,10 @@ module _ (j : JournalRows Step) (s : State) (keeps : Keeps j s) (after : List Co
       → after ≡ with_configuration (factory_configuration factory name properties) s.world.configurations
       → Changes s (ConfigureFactory factory name properties) (components_full s.world (ConfigureFactory factory name properties)) Done (record no_tables { configurations = Some after })
   factory_changes factory name properties free is = record {
-    refused = left (factory_tests factory name s.world.configurations) (components_full s.world (ConfigureFactory factory name properties)) free;
+    refusals = left (factory_tests factory name s.world.configurations) (components_full s.world (ConfigureFactory factory name properties)) free;
     effect = refl;
     answers = refl;
-    tables = record {
+    after = record {
       documents = refl;
       registry = refl;
       configurations = is;
@@ -132,10 +132,10 @@ module _ (j : JournalRows Step) (s : State) (keeps : Keeps j s) (after : List Co
   pub delete_changes : (pid : List ℕ) → delete_refusal pid s.world.configurations ≡ None → after ≡ without_pid pid s.world.configurations
       → Changes s (Unconfigure pid) (components_full s.world (Unconfigure pid)) Done (record no_tables { configurations = Some after })
   delete_changes pid free is = record {
-    refused = left (delete_tests pid s.world.configurations) (components_full s.world (Unconfigure pid)) (delete_alone pid s.world.configurations ∙ free);
+    refusals = left (delete_tests pid s.world.configurations) (components_full s.world (Unconfigure pid)) (delete_alone pid s.world.configurations ∙ free);
     effect = refl;
     answers = refl;
-    tables = record {
+    after = record {
       documents = refl;
       registry = refl;
       configurations = is;
