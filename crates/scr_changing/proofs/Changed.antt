@@ -1,5 +1,5 @@
 -- The judgement of a command by its last refusals.
-use Rattle.std.proofs.Common.{◌≡◌, ℕ, refl, subst, sym, Bool, true, false, Some, None, Result, Ok, Err}
+use Rattle.std.proofs.Common.{◌≡◌, ◌∙◌, ℕ, refl, subst, sym, Bool, true, false, Some, None, Result, Ok, Err}
 use Rattle.scr_asking.specs.Asked.{IsAskedAfter, are_too_many}
 use Rattle.scr_asking.specs.declared.asked.Asked.{Asked}
 use Rattle.scr_changing.specs.Changing.{AreTablesBy, Changes, ChangesFreely, ChangesUnlessFull}
