@@ -2,6 +2,6 @@ mod RemainingServices
 mod EnabledFlags
 pub mod BundleStates
 mod ContentsAfter
-mod Starting
-mod Stopping
-mod Enabling
+mod Starts
+mod Stops
+mod ComponentFlags

@@ -45,7 +45,8 @@ pub(crate) fn component_refusal(
     }
 }
 
-fn is_active(state: BundleState) -> bool
+/// Whether a state is ACTIVE.
+pub(crate) fn is_active(state: BundleState) -> bool
     ensures { result ≡ is_active state }
 {
     matches!(state, BundleState::Active)

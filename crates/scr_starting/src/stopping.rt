@@ -7,8 +7,8 @@ ghost use Rattle.scr_world.specs.declared.command.Command.TheVariants.{Stop};
 ghost use Rattle.scr_world.specs.declared.step.Step.TheVariants.{Command as Commanded};
 ghost use Rattle.std.specs.Prelude.{◌≡◌, None, true};
 
+use crate::known_components::is_active;
 use crate::remaining_services::without_bundle;
-use bundle_life::BundleState;
 use journal_core::Journal;
 use scr_changing::change_freely;
 use scr_judgements::{Judgement, TablesAfter};
@@ -34,9 +34,11 @@ pub fn judge_stop(
 {
     match state.world.bundles.state_of(bundle) {
         None => Err(CoreFault::NoBundle { bundle }),
-        Some(BundleState::Active) => stop_active(alloc, journal, state, step, bundle),
-        Some(BundleState::Installed | BundleState::Resolved | BundleState::Stopping) => {
-            Ok(Judgement::Unchanged(Reply::Done))
+        Some(now) => {
+            if !is_active(now) {
+                return Ok(Judgement::Unchanged(Reply::Done));
+            }
+            stop_active(alloc, journal, state, step, bundle)
         }
     }
 }
