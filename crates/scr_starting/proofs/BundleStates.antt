@@ -1,5 +1,5 @@
 -- What is known of a bundle whose state is known.
-use Rattle.std.proofs.Common.{◌≡◌, ap, refl, sym, Bool, true, false, Option, Some, None}
+use Rattle.std.proofs.Common.{◌≡◌, ap, refl, sym, Bool, false, Option, Some, None}
 use Rattle.std.specs.Option.{option_map_or, unwrap_or}
 use Rattle.std.specs.Prelude.{[], ◌∷◌, option_map}
 use Rattle.bundle_life.specs.declared.bundle.BundleLife.{BundleLife}

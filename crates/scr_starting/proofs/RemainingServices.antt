@@ -6,7 +6,7 @@ use Rattle.std.proofs.lemmas.List.Folds.{find-append}
 use Rattle.std.proofs.Math.Seq.{take-suc, drop-cons}
 use Rattle.std.specs.List.{AllPairs}
 use Rattle.std.specs.Option.{option_or}
-use Rattle.std.specs.Prelude.{◌==◌, filter, find, not, Option, Some, None}
+use Rattle.std.specs.Prelude.{◌==◌, filter, not, Some, None}
 use Rattle.row_places.specs.RowPlaces.{NoneOf}
 use Rattle.row_places.proofs.RowPlaceLaws.{filter_none, find_none}
 use Rattle.service_registry.specs.declared.row.ServiceRow.{ServiceRow}

@@ -1,6 +1,5 @@
 -- What refuses the start of a bundle, by its state, and the tables after it.
-use Rattle.std.proofs.Common.{◌≡◌, ◌∙◌, ℕ, List, [], ◌∷◌, ◌++◌, ap, cond, refl, subst, sym, Bool, true, false, arith, Option, Some, None}
-use Rattle.std.specs.Option.{option_map_or, unwrap_or}
+use Rattle.std.proofs.Common.{◌≡◌, ◌∙◌, ℕ, List, [], ◌∷◌, ap, refl, subst, sym, arith, Option, Some, None}
 use Rattle.std.specs.Prelude.{is_none, map, not, option_and_then, if◌then◌else◌}
 use Rattle.bundle_life.specs.Lives.{bundle_of, is_active, is_stopping}
 use Rattle.bundle_life.specs.declared.bundle.BundleLife.{BundleLife}

@@ -1,5 +1,5 @@
 -- What refuses the stop of a bundle, by its state, and the tables after it.
-use Rattle.std.proofs.Common.{◌≡◌, ◌∙◌, ℕ, [], ◌∷◌, ap, refl, subst, sym, Bool, true, Option, Some, None}
+use Rattle.std.proofs.Common.{◌≡◌, ℕ, [], ◌∷◌, ap, refl, subst, sym, Option, Some, None}
 use Rattle.std.specs.Prelude.{is_none}
 use Rattle.bundle_life.specs.Lives.{bundle_of, is_active}
 use Rattle.bundle_life.specs.declared.bundle.BundleLife.{BundleLife}
@@ -15,7 +15,6 @@ use Rattle.scr_state.specs.declared.state.State.{State}
 use Rattle.scr_world.specs.Refusals.{refusal, refuse_if}
 use Rattle.scr_world.specs.Replies.{has_effect}
 use Rattle.scr_world.specs.declared.command.Command.TheVariants.{Stop}
-use Rattle.scr_world.specs.declared.reply.CoreFault.{CoreFault}
 use Rattle.scr_world.specs.declared.reply.CoreFault.TheVariants.{NoBundle}
 use Rattle.scr_world.specs.declared.step.Step.{Step}
 use Rattle.scr_world.specs.declared.world.World.{World}

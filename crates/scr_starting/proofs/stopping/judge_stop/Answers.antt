@@ -1,5 +1,4 @@
-use Rattle.std.proofs.Common.{◌∙◌, ap, refl, sym}
-use Rattle.std.specs.Prelude.{Bool, not}
+use Rattle.std.proofs.Common.{◌∙◌, refl, sym}
 use Rattle.scr_changing.proofs.Changed.{of_command}
 use Rattle.scr_judgements.proofs.Judged.{unchanged}
 use Rattle.scr_judgements.proofs.Plain.{refused_plainly}
