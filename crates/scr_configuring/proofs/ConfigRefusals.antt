@@ -1,6 +1,6 @@
 -- The refusals of the table of configurations as those of commands, and the tables after these.
-use Rattle.std.proofs.Common.{◌≡◌, ◌∙◌, ℕ, List, [], ◌∷◌, ◌++◌, ap, refl, sym, Bool, true, false, Option, Some, None, Result, Ok, Err}
-use Rattle.std.specs.Prelude.{is_none, is_some, map, nat_le, not}
+use Rattle.std.proofs.Common.{◌≡◌, ◌∙◌, ℕ, List, [], ◌∷◌, ◌++◌, ap, refl, subst, sym, Bool, true, false, Option, Some, None, Err}
+use Rattle.std.specs.Prelude.{is_none, is_some, map, not}
 use Rattle.config_admin.specs.Configurations.{factory_configuration, factory_pid, of_factory, of_pid, own_configuration, with_configuration, without_pid}
 use Rattle.config_admin.specs.Refusals.{IsRefusedBy, delete_refusal, is_full, is_pid, set_factory_refusal, set_refusal}
 use Rattle.config_admin.specs.Refusals as table
@@ -14,19 +14,16 @@ use Rattle.scr_changing.specs.Changing.{Changes}
 use Rattle.scr_configuring.specs.ConfigRefusals.{core_fault}
 use Rattle.scr_judgements.proofs.Drafted.{descriptions_stay, levels_stay}
 use Rattle.scr_judgements.proofs.Judged.{no_memory, refused}
-use Rattle.scr_judgements.specs.Drafting.{AreTablesAfter, no_tables}
+use Rattle.scr_judgements.specs.Drafting.{no_tables}
 use Rattle.scr_judgements.specs.Judgements.{Judges}
-use Rattle.scr_judgements.specs.declared.judgement.Judgement.{Judgement}
 use Rattle.scr_state.specs.Keeps.{Keeps}
 use Rattle.scr_state.specs.declared.state.State.{State}
 use Rattle.scr_world.specs.Refusals.{components_full, refusal, refuse_if}
-use Rattle.scr_world.specs.Tables.{configurations_by_command}
 use Rattle.scr_world.specs.declared.command.Command.{Command}
 use Rattle.scr_world.specs.declared.command.Command.TheVariants.{Configure, ConfigureFactory, Unconfigure}
 use Rattle.scr_world.specs.declared.reply.CoreFault.{CoreFault}
 use Rattle.scr_world.specs.declared.reply.Reply.TheVariants.{Done}
 use Rattle.scr_world.specs.declared.step.Step.{Step}
-use Rattle.scr_world.specs.declared.world.World.{World}
 
 -- ---- the same tests refuse the change of the table and the command, in one order; behind them the command has one refusal more
 
@@ -91,7 +88,8 @@ module _ (limit : ℕ) (s : State) where
 
   pub delete_refused : (pid : List ℕ) (fault : ConfigFault) → IsRefusedBy {A = List Configuration} (delete_refusal pid s.world.configurations) (Err fault) → Judges limit s (Unconfigure pid) (Err (core_fault fault))
   delete_refused pid fault is =
-      judged limit s (Unconfigure pid) (delete_tests pid s.world.configurations) refl fault (rw (delete_alone pid s.world.configurations) is)
+      judged limit s (Unconfigure pid) (delete_tests pid s.world.configurations) refl fault
+      (subst (λ (o : Option ConfigFault). IsRefusedBy {A = List Configuration} o (Err fault)) (sym (delete_alone pid s.world.configurations)) is)
 
 -- ---- what isn't refused so changes the configurations alone
 
