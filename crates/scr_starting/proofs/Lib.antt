@@ -1,0 +1,7 @@
+mod RemainingServices
+mod EnabledFlags
+pub mod BundleStates
+mod ContentsAfter
+mod Starts
+mod Stops
+mod ComponentFlags

@@ -1,0 +1,22 @@
+use Rattle.std.proofs.Common.{refl, subst, sym}
+use Rattle.std.proofs.lemmas.Result.{err_from_is_err_and}
+use Rattle.scr_changing.proofs.Changed.{no_memory}
+use Rattle.scr_changing.specs.Changing.{ChangesFreely}
+use Rattle.scr_starting.proofs.ComponentFlags.{disable_tables}
+use Rattle.scr_world.specs.declared.reply.Reply.TheVariants.{Done}
+use Rattle.scr_world.specs.declared.step.Step.{Step}
+use Rattle.scr_starting.proofs.enabling.disable_enabled.Goals as goal
+
+pub returns-in_err-tables : goal.returns-in_err-tables
+returns-in_err-tables c =
+    let p = err_from_is_err_and c.from_residual.result c.from_residual.ensures.1 in
+    rw (p.1) (no_memory c.args.journal.now.limit c.args.state.now c.args.step.now p.0 p.2)
+
+pub change_freely-requires-clause-changes : goal.change_freely-requires-clause-changes
+change_freely-requires-clause-changes c =
+    subst (λ (x : Step). ChangesFreely c.args.state.now x Done c.in_ok-tables.tables) (sym c.requires.command) (record {
+      refusals = c.requires.free;
+      effect = c.requires.effect;
+      answers = refl;
+      after = disable_tables c.args.journal.now c.args.state.now c.requires.keeps c.args.bundle c.args.name.now c.in_ok-tables.tables c.in_ok-tables.ensures;
+    })

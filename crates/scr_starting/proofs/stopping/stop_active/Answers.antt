@@ -1,0 +1,22 @@
+use Rattle.std.proofs.Common.{refl, subst, sym, Some}
+use Rattle.std.proofs.lemmas.Result.{err_from_is_err_and}
+use Rattle.scr_changing.proofs.Changed.{no_memory}
+use Rattle.scr_changing.specs.Changing.{ChangesFreely}
+use Rattle.scr_starting.proofs.Stops.{tables}
+use Rattle.scr_world.specs.declared.reply.Reply.TheVariants.{Done}
+use Rattle.scr_world.specs.declared.step.Step.{Step}
+use Rattle.scr_starting.proofs.stopping.stop_active.Goals as goal
+
+pub returns-in_err-registry : goal.returns-in_err-registry
+returns-in_err-registry c =
+    let p = err_from_is_err_and c.from_residual.result c.from_residual.ensures.1 in
+    rw (p.1) (no_memory c.args.journal.now.limit c.args.state.now c.args.step.now p.0 p.2)
+
+pub change_freely-requires-clause-changes : goal.change_freely-requires-clause-changes
+change_freely-requires-clause-changes c =
+    subst (λ (x : Step). ChangesFreely c.args.state.now x Done (record c.none-tables.result { registry = Some c.in_ok-registry.registry })) (sym c.requires.command) (record {
+      refusals = c.requires.free;
+      effect = c.requires.effect;
+      answers = refl;
+      after = tables c.args.journal.now c.args.state.now c.requires.keeps c.args.bundle c.in_ok-registry.registry c.none-tables.result c.none-tables.ensures c.in_ok-registry.ensures;
+    })
