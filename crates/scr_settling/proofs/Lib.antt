@@ -1,0 +1,4 @@
+pub mod GrowingServices
+pub mod GrowingChoices
+pub mod SettlingEnds
+pub mod NothingCloses

@@ -1,0 +1,6 @@
+//! How a platform settles, in every legal journal: each law is a clause of a function that does nothing.
+#![tactic(auto)]
+
+mod nothing_closes;
+
+pub use nothing_closes::note_nothing_closes;
