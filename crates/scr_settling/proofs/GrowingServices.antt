@@ -39,7 +39,7 @@ module _ {X : Type 0} (before : X → X → Bool) where
       go true rest one = first one
       go false rest one = later rest one
 
-  ordered_in : (xs : List X) (z : X) → Contains xs z → Contains (in_order before xs) z
+  pub ordered_in : (xs : List X) (z : X) → Contains xs z → Contains (in_order before xs) z
   ordered_in [] z h = absurd (in_none z h)
   ordered_in (x ∷ xs) z h = elim (in_cases x xs z h) [
     | inl same ↦ inserted_in x (in_order before xs) z (inl same)

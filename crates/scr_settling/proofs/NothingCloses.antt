@@ -63,13 +63,13 @@ use Rattle.service_registry.specs.declared.row.ServiceRow.{ServiceRow}
 -- ---- the service of an open period
 
 -- the component configuration of an open period, whose service it offers
-record IsOffered (cs : List Component) (p : OpenPeriod) : Type 0 where
-  by : Component
-  there : Contains cs by
-  number : by.number ≡ p.configuration
-  row : p.row ≡ row_by by p.row.id p.row.revision
+pub record IsOffered (cs : List Component) (p : OpenPeriod) : Type 0 where
+  pub by : Component
+  pub there : Contains cs by
+  pub number : by.number ≡ p.configuration
+  pub row : p.row ≡ row_by by p.row.id p.row.revision
 
-is_offered : (w : World) → IsSound w → (p : OpenPeriod) → IsPeriodOf w.components p → IsOffered w.components p
+pub is_offered : (w : World) → IsSound w → (p : OpenPeriod) → IsPeriodOf w.components p → IsOffered w.components p
 is_offered w sound p is =
     let found = keyed number_of w.components p.configuration is.known in
     let c = found.0 in record {

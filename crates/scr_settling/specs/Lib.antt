@@ -1,1 +1,3 @@
 pub mod Settlings
+pub mod Names
+pub mod Bounds

@@ -2,5 +2,7 @@
 #![tactic(auto)]
 
 mod nothing_closes;
+mod settle_bound;
 
 pub use nothing_closes::note_nothing_closes;
+pub use settle_bound::note_settles_within_bound;

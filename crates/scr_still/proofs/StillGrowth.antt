@@ -40,7 +40,8 @@ use Rattle.scr_state.specs.Drafts.{with_draft}
 use Rattle.scr_state.specs.Keeps.{IsDraft, Keeps, with_bundles_by}
 use Rattle.scr_state.specs.declared.draft.Draft.{Draft}
 use Rattle.scr_state.specs.declared.state.State.{State}
-use Rattle.scr_still.specs.Stillness.{HasRoomLeft, IsHeldAfter, is_release, with_bare}
+use Rattle.scr_still.specs.Stillness.{HasRoomLeft, is_release, with_bare}
+use Rattle.scr_still.proofs.KeptHeld.{held_same}
 use Rattle.scr_world.specs.Calls.{Grown, world_at}
 use Rattle.scr_world.specs.Consequences.{shut_between, stage_in, stage_of}
 use Rattle.scr_world.specs.Legal.{Follows, IsLegal, MayCome}
@@ -165,7 +166,7 @@ flat_none : {X Y : Type 0} (f : X → List Y) → ((x : X) → f x ≡ []) → (
 flat_none f none [] = refl
 flat_none f none (x ∷ xs) = ap (λ ys. ys ++ flat_map f xs) (none x) ∙ flat_none f none xs
 
-no_changes : (was now : World) → now.registry.rows ≡ was.registry.rows → now.open_periods ≡ was.open_periods → changes_between was now ≡ []
+pub no_changes : (was now : World) → now.registry.rows ≡ was.registry.rows → now.open_periods ≡ was.open_periods → changes_between was now ≡ []
 no_changes was now rows periods =
     let ds = descriptions_of now.documents in
     ap (λ xs. xs ++ flat_map (λ (c : Component). change_between (row_at was.open_periods c.number) (row_at now.open_periods c.number))
@@ -181,52 +182,26 @@ rows_untold : (rows : List Listener) → map (with_changes []) rows ≡ rows
 rows_untold [] = refl
 rows_untold (l ∷ ls) = ap (λ es. record l { events = es } ∷ map (with_changes []) ls) (append-nil l.events) ∙ ap (λ ms. l ∷ ms) (rows_untold ls)
 
-untold : (t : ListenerTable) → after_changes [] t ≡ t
+pub untold : (t : ListenerTable) → after_changes [] t ≡ t
 untold t = ap (λ rows. record t { rows = rows }) (rows_untold t.rows)
 
 rows_unresolved : (rows : List BundleLife) → map (resolved_among []) rows ≡ rows
 rows_unresolved [] = refl
 rows_unresolved (b ∷ bs) = ap (λ xs. b ∷ xs) (rows_unresolved bs)
 
-none_completed : (t : BundleTable) → stop_completed [] t ≡ t
+pub none_completed : (t : BundleTable) → stop_completed [] t ≡ t
 none_completed t = ap (λ rows. record t { rows = rows; events = t.events ++ [] }) (rows_unresolved t.rows)
     ∙ ap (λ es. record t { events = es }) (append-nil t.events)
 
 plus_none : (n : ℕ) → n + 0 ≡ n
 plus_none n = grind (arith)
 
-none_given : (t : Registered) → with_numbers_given 0 t ≡ t
+pub none_given : (t : Registered) → with_numbers_given 0 t ≡ t
 none_given t = ap (λ n. record t { numbered = n }) (plus_none t.numbered)
 
-world_of_more : (entry : Entry Step) (past : History) → world_of (entry ∷ past) ≡ world_after_entry entry (world_of past)
+pub world_of_more : (entry : Entry Step) (past : History) → world_of (entry ∷ past) ≡ world_after_entry entry (world_of past)
 unfolding world_of
 world_of_more entry past = refl
-
--- ---- no service left
-
-is_there : (xs : List ServiceRow) (r : ServiceRow) → Among xs r → list_any (λ (q : ServiceRow). q.id == r.id) xs ≡ true
-is_there [] r here = absurd here
-is_there (x ∷ xs) r (inl same) = or_left (x.id == r.id) (list_any (λ (q : ServiceRow). q.id == r.id) xs) (eq-eqb x.id r.id (ap (λ (q : ServiceRow). q.id) same))
-is_there (x ∷ xs) r (inr later) = or_right (x.id == r.id) (list_any (λ (q : ServiceRow). q.id == r.id) xs) (is_there xs r later)
-
-none_gone : (w : World) → filter (λ (r : ServiceRow). not (is_registered w r.id) && is_service_held w r.id) (registered_services w) ≡ []
-none_gone w = filter_none (λ (r : ServiceRow). not (is_registered w r.id) && is_service_held w r.id) (registered_services w)
-    (λ r here. ap (λ b. not b && is_service_held w r.id) (is_there (registered_services w) r here))
-
-pub none_of_length : (rows : List ServiceRow) → true ≡ (length rows == 0) → rows ≡ []
-none_of_length [] is = refl
-none_of_length (r ∷ rs) is = let none = eqb-true (length (r ∷ rs)) 0 (sym is) in absurd (omega (arith, none))
-
-pub none_held : (was w : World) → was.registry.rows ≡ w.registry.rows → was.open_periods ≡ w.open_periods → was.unregistered_held ≡ w.unregistered_held
-    → w.unregistered_held ≡ [] → w.unregistered_held ≡ unregistered_held_between was w
-none_held was w rows periods held none =
-    none ∙ sym (none_gone w)
-    ∙ ap (λ (rs : List ServiceRow). filter (λ (r : ServiceRow). not (is_registered w r.id) && is_service_held w r.id)
-    ((platform_rows ++ rs) ++ rows_of w.open_periods)) (sym rows)
-    ∙ ap (λ (ps : List OpenPeriod). filter (λ (r : ServiceRow). not (is_registered w r.id) && is_service_held w r.id)
-    ((platform_rows ++ was.registry.rows) ++ rows_of ps)) (sym periods)
-    ∙ ap (λ (hs : List ServiceRow). filter (λ (r : ServiceRow). not (is_registered w r.id) && is_service_held w r.id) (hs ++ registered_services was))
-    (sym none ∙ sym held)
 
 -- ---- the entry and the world behind it
 
@@ -292,13 +267,16 @@ module _ (limit : ℕ) (past : History) (legal : IsLegal limit past) (step : Ste
       (no_changes (world_of past) later (ap (λ (t : Registered). t.rows) left.registry) left.periods)
       ∙ ap (listeners_by step) (untold (world_of past).listeners) ∙ listeners_stay step (world_of past).listeners shuts ∙ sym left.listeners
 
-  pub world_then : world_after_entry (bare step) (world_of past)
-      ≡ record m { entries = m.entries + 1; unregistered_held = unregistered_held_between (world_of past) m }
+  held_now : unregistered_held_between (world_of past) m ≡ m.unregistered_held
+  held_now = held_same past step shuts ∙ sym left.held
+
+  pub world_then : world_after_entry (bare step) (world_of past) ≡ record m { entries = m.entries + 1 }
   world_then =
       settles
       ∙ ap (λ (us : List UseRow). record (with_gets_and_events step (world_of past) later) { uses = us }) uses_now
       ∙ ap (λ (ts : List Token). record (with_gets_and_events step (world_of past) later) { uses = m.uses; tokens = ts }) tokens_now
       ∙ ap (λ (t : ListenerTable). record (with_gets_and_events step (world_of past) later) { uses = m.uses; tokens = m.tokens; listeners = t }) listeners_now
+      ∙ ap (λ (rows : List ServiceRow). record m { entries = m.entries + 1; unregistered_held = rows }) held_now
 
   -- ---- what is satisfied and reserved then
 
@@ -306,7 +284,7 @@ module _ (limit : ℕ) (past : History) (legal : IsLegal limit past) (step : Ste
   met_by rows periods cs number = list_any (λ (c : Component).
       (c.number == number) && (c.exists && is_satisfied ((platform_rows ++ rows) ++ rows_of periods) c)) cs
 
-  satisfied_by : (w : World) → w ≡ record m { entries = m.entries + 1; unregistered_held = unregistered_held_between (world_of past) m } → (number : ℕ)
+  satisfied_by : (w : World) → w ≡ record m { entries = m.entries + 1 } → (number : ℕ)
       → some_numbered (meets_all w) w.components number ≡ some_numbered (meets_all (world_of past)) (world_of past).components number
   satisfied_by w is number =
       ap (λ (v : World). some_numbered (meets_all v) v.components number) is
@@ -314,7 +292,7 @@ module _ (limit : ℕ) (past : History) (legal : IsLegal limit past) (step : Ste
       ∙ ap (λ (ps : List OpenPeriod). met_by (world_of past).registry.rows ps m.components number) left.periods
       ∙ ap (λ (cs : List Component). met_by (world_of past).registry.rows (world_of past).open_periods cs number) left.components
 
-  then_is : world_of (bare step ∷ past) ≡ record m { entries = m.entries + 1; unregistered_held = unregistered_held_between (world_of past) m }
+  then_is : world_of (bare step ∷ past) ≡ record m { entries = m.entries + 1 }
   then_is = world_of_more (bare step) past ∙ world_then
 
   pub satisfied_then : (number : ℕ) → has (satisfied_in (world_of past)) number ≡ has (satisfied_in (world_of (bare step ∷ past))) number
@@ -366,78 +344,53 @@ module _ (journal : JournalRows Step) (s : State) (keeps : Keeps journal s) (ste
       let same = keeps.reserved ∙ ap reserved keeps.world in
       omega (arith, some, same)
 
-  module _ (held : Option (List ServiceRow)) (held_is : IsHeldAfter m held) where
-    held_now : unwrap_or held m.unregistered_held ≡ unregistered_held_between (world_of (history_of journal.entries))
-        (world_after_step step (world_of (history_of journal.entries)))
-    held_now =
-        let l = leaves step s.world shuts in
-        held_is s.world (ap (λ (t : Registered). t.rows) (sym l.registry) ∙ ap (λ (w : World). w.registry.rows) (sym step_in))
-        (sym l.periods ∙ ap (λ (w : World). w.open_periods) (sym step_in)) (sym l.held ∙ ap (λ (w : World). w.unregistered_held) (sym step_in))
-        ∙ ap (unregistered_held_between s.world) stepped_is
-        ∙ ap (λ (w : World). unregistered_held_between w (world_after_step step (world_of (history_of journal.entries)))) keeps.world
+  entries_now : s.world.entries + 1 ≡ m.entries + 1
+  entries_now = ap (λ n. n + 1) (sym (leaves step s.world shuts).entries) ∙ ap (λ (w : World). w.entries + 1) (sym step_in)
 
-    entries_now : s.world.entries + 1 ≡ (world_after_step step (world_of (history_of journal.entries))).entries + 1
-    entries_now = ap (λ (w : World). w.entries + 1) keeps.world ∙ ap (λ n. n + 1) (sym (leaves step (world_of (history_of journal.entries)) shuts).entries)
+  world_is : record m { entries = s.world.entries + 1 } ≡ world_of (bare step ∷ history_of journal.entries)
+  world_is =
+      ap (λ (n : ℕ). record m { entries = n }) entries_now
+      ∙ ap (λ (w : World). record w { entries = w.entries + 1 }) stepped_is
+      ∙ sym (world_then journal.limit (history_of journal.entries) keeps.legal step shuts may_come has_space)
+      ∙ sym (world_of_more (bare step) (history_of journal.entries))
 
-    world_is : record m { entries = s.world.entries + 1; unregistered_held = unwrap_or held m.unregistered_held }
-        ≡ world_of (bare step ∷ history_of journal.entries)
-    world_is =
-        ap (λ (rows : List ServiceRow). record m { entries = s.world.entries + 1; unregistered_held = rows }) held_now
-        ∙ ap (λ (n : ℕ). record m {
-          entries = n;
-          unregistered_held =
-              unregistered_held_between (world_of (history_of journal.entries)) (world_after_step step (world_of (history_of journal.entries)));
-        }) entries_now
-        ∙ ap (λ (w : World). record w {
-          entries = (world_after_step step (world_of (history_of journal.entries))).entries + 1;
-          unregistered_held =
-              unregistered_held_between (world_of (history_of journal.entries)) (world_after_step step (world_of (history_of journal.entries)));
-        }) stepped_is
-        ∙ sym (world_then journal.limit (history_of journal.entries) keeps.legal step shuts may_come has_space)
-        ∙ sym (world_of_more (bare step) (history_of journal.entries))
+  module _ (new : JournalRows Step) (new_is : new ≡ with_bare step m journal) where
+    history_then : history_of new.entries ≡ bare step ∷ history_of journal.entries
+    history_then = ap (λ (j : JournalRows Step). history_of j.entries) new_is ∙ reverse-append journal.entries (bare step ∷ [])
 
-    module _ (new : JournalRows Step) (new_is : new ≡ with_bare step m journal) where
-      history_then : history_of new.entries ≡ bare step ∷ history_of journal.entries
-      history_then = ap (λ (j : JournalRows Step). history_of j.entries) new_is ∙ reverse-append journal.entries (bare step ∷ [])
+    documents_stay : m.documents ≡ s.world.documents
+    documents_stay = ap (λ (w : World). w.documents) step_in ∙ (leaves step s.world shuts).documents
 
-      documents_stay : m.documents ≡ s.world.documents
-      documents_stay = ap (λ (w : World). w.documents) step_in ∙ (leaves step s.world shuts).documents
+    kept_so : Keeps new (record s { world = record m { entries = s.world.entries + 1 } })
+    kept_so = record {
+      world = world_is ∙ ap world_of (sym history_then);
+      descriptions = keeps.descriptions ∙ ap descriptions_of (sym documents_stay);
+      levels = keeps.levels;
+      satisfied = λ number.
+          keeps.satisfied number ∙ ap (λ (w : World). has (satisfied_in w) number) keeps.world
+          ∙ satisfied_then journal.limit (history_of journal.entries) keeps.legal step shuts may_come has_space number
+          ∙ ap (λ (w : World). has (satisfied_in w) number) (sym world_is);
+      reserved =
+          ap (λ (j : JournalRows Step). j.reserved) new_is
+          ∙ ap (λ (n : ℕ). (n + reserved_with step) - given_back_by step m) (keeps.reserved ∙ ap reserved keeps.world)
+          ∙ sym (reserved_now journal.limit (history_of journal.entries) keeps.legal step shuts may_come has_space m)
+          ∙ ap reserved (sym world_is);
+      legal = subst (λ (h : History). IsLegal new.limit h) (sym history_then)
+          (subst (λ (l : ℕ). IsLegal l (bare step ∷ history_of journal.entries)) (sym (ap (λ (j : JournalRows Step). j.limit) new_is))
+          (it_follows journal.limit (history_of journal.entries) keeps.legal step shuts may_come has_space, keeps.legal));
+    }
 
-      kept_so : Keeps new (record s { world = record m { entries = s.world.entries + 1; unregistered_held = unwrap_or held m.unregistered_held } })
-      kept_so = record {
-        world = world_is ∙ ap world_of (sym history_then);
-        descriptions = keeps.descriptions ∙ ap descriptions_of (sym documents_stay);
-        levels = keeps.levels;
-        satisfied = λ number.
-            keeps.satisfied number ∙ ap (λ (w : World). has (satisfied_in w) number) keeps.world
-            ∙ satisfied_then journal.limit (history_of journal.entries) keeps.legal step shuts may_come has_space number
-            ∙ ap (λ (w : World). has (satisfied_in w) number) (sym world_is);
-        reserved =
-            ap (λ (j : JournalRows Step). j.reserved) new_is
-            ∙ ap (λ (n : ℕ). (n + reserved_with step) - given_back_by step m) (keeps.reserved ∙ ap reserved keeps.world)
-            ∙ sym (reserved_now journal.limit (history_of journal.entries) keeps.legal step shuts may_come has_space m)
-            ∙ ap reserved (sym world_is);
-        legal = subst (λ (h : History). IsLegal new.limit h) (sym history_then)
-            (subst (λ (l : ℕ). IsLegal l (bare step ∷ history_of journal.entries)) (sym (ap (λ (j : JournalRows Step). j.limit) new_is))
-            (it_follows journal.limit (history_of journal.entries) keeps.legal step shuts may_come has_space, keeps.legal));
-      }
+    pub kept : (n : ℕ) → n ≡ s.world.entries + 1 → Keeps new (record s { world = record m { entries = n } })
+    kept n n_is = subst (λ (k : ℕ). Keeps new (record s { world = record m { entries = k } })) (sym n_is) kept_so
 
-      pub kept : (n : ℕ) → n ≡ s.world.entries + 1 → (rows : List ServiceRow) → rows ≡ unwrap_or held m.unregistered_held
-          → Keeps new (record s { world = record m { entries = n; unregistered_held = rows } })
-      kept n n_is rows rows_are =
-          subst (λ (k : ℕ). Keeps new (record s { world = record m { entries = k; unregistered_held = rows } })) (sym n_is)
-          (subst (λ (rs : List ServiceRow). Keeps new (record s { world = record m { entries = s.world.entries + 1; unregistered_held = rs } }))
-          (sym rows_are) kept_so)
+    pub grown : Grown journal.limit journal.entries step new.entries
+    grown = (
+      bare step,
+      refl,
+      it_follows journal.limit (history_of journal.entries) keeps.legal step shuts may_come has_space,
+      ap (λ (j : JournalRows Step). j.entries) new_is,
+    )
 
-      pub grown : Grown journal.limit journal.entries step new.entries
-      grown = (
-        bare step,
-        refl,
-        it_follows journal.limit (history_of journal.entries) keeps.legal step shuts may_come has_space,
-        ap
-            (λ (j : JournalRows Step). j.entries) new_is,
-      )
-
-      pub shut : shut_between (world_at journal.entries) (world_at new.entries) ≡ []
-      shut = ap (λ (h : History). shut_between (world_of (history_of journal.entries)) (world_of h)) history_then
-          ∙ shut_none journal.limit (history_of journal.entries) keeps.legal step shuts may_come has_space
+    pub shut : shut_between (world_at journal.entries) (world_at new.entries) ≡ []
+    shut = ap (λ (h : History). shut_between (world_of (history_of journal.entries)) (world_of h)) history_then
+        ∙ shut_none journal.limit (history_of journal.entries) keeps.legal step shuts may_come has_space

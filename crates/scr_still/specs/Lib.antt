@@ -1,1 +1,2 @@
+pub mod StillEnds
 pub mod Stillness

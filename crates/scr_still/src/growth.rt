@@ -3,23 +3,19 @@ ghost use Rattle.callback_orders.specs.Grammar.{is_activate};
 ghost use Rattle.scr_entries.specs.Reserving.{reserved_with};
 ghost use Rattle.scr_gates.specs.Gates.{shuts_nothing};
 ghost use Rattle.scr_state.specs.Keeps.{IsDraft, Keeps};
-ghost use Rattle.scr_still.specs.Stillness.{HasRoomLeft, IsHeldAfter, is_release, with_bare};
+ghost use Rattle.scr_still.specs.Stillness.{HasRoomLeft, is_release, with_bare};
 ghost use Rattle.scr_world.specs.Calls.{Grown, world_at};
 ghost use Rattle.scr_world.specs.Consequences.{shut_between};
 ghost use Rattle.scr_world.specs.Legal.{MayCome};
-ghost use Rattle.scr_world.specs.Lists.{unregistered_held_between};
 ghost use Rattle.scr_world.specs.Room.{has_room, needed_by};
 ghost use Rattle.scr_world.specs.declared.world.World.{World};
-ghost use Rattle.std.specs.Option.{unwrap_or};
 ghost use Rattle.std.specs.Prelude.{◌≡◌, ◌+◌, [], IfOk, OnErr, OnOk, true};
 
 use callback_orders::Callback;
 use journal_core::{Entry, Journal};
 use prop_map::{List, OutOfMemory};
-use scr_consequences::unregistered_held_between;
 use scr_state::{Draft, State, swap_in};
-use scr_world::{Step, World};
-use service_registry::ServiceRow;
+use scr_world::Step;
 use std::alloc::{AllocError, Global};
 
 /// Appends the entry of a turn's beginning, a drain, a get by token or its release, whose draft this is. No pass runs, since
@@ -49,10 +45,9 @@ pub fn grow_still(
     let entries = one_more(state.world.entries)?;
     let mut undo = draft;
     swap_in(alloc, &mut state.world, &mut undo);
-    match enter(alloc, journal, &state.world, step) {
-        Ok(held) => {
+    match add_bare(alloc, journal, step) {
+        Ok(()) => {
             state.world.entries = entries;
-            put(&mut state.world.unregistered_held, held);
             Ok(())
         }
         Err(error) => {
@@ -62,51 +57,14 @@ pub fn grow_still(
     }
 }
 
-fn one_more(entries: u64) -> Result<u64, OutOfMemory>
+/// One entry more. That there are too many counts as want of memory.
+pub(crate) fn one_more(entries: u64) -> Result<u64, OutOfMemory>
     ensures { IfOk result (λ more. more ≡ entries + 1) }
 {
     entries.checked_add(1).ok_or(AllocError)
 }
 
-fn put<T: Drop>(now: &mut T, then: Option<T>)
-    ensures { now.new ≡ unwrap_or then now.old }
-{
-    if let Some(other) = then {
-        *now = other;
-    }
-}
-
-// Adds the bare entry of a step that stands in the world, and answers which services are held though they left, none where these
-// are none as before.
-fn enter(
-    alloc: Global,
-    journal: &mut Journal<Step>,
-    world: &World,
-    step: Box<Step>,
-) -> Result<Option<List<ServiceRow>>, OutOfMemory>
-    requires shuts { shuts_nothing step.value ≡ true }
-    requires room { HasRoomLeft journal.old step.value }
-    ensures entry { OnOk result (journal.new ≡ with_bare step.value world.now journal.old) }
-    ensures held { IfOk result (λ held. IsHeldAfter world.now held) }
-    ensures as_before { OnErr result (journal.new ≡ journal.old) }
-{
-    let held = held_after(alloc, world)?;
-    add_bare(alloc, journal, step)?;
-    Ok(held)
-}
-
-fn held_after(alloc: Global, world: &World) -> Result<Option<List<ServiceRow>>, OutOfMemory>
-    ensures { IfOk result (λ held. IsHeldAfter world.now held) }
-{
-    if world.unregistered_held.as_slice().is_empty() {
-        return Ok(None);
-    }
-    let rows = world.registry.rows();
-    let periods = world.open_periods.as_slice();
-    let held = unregistered_held_between(alloc, rows, periods, world)?;
-    Ok(Some(held))
-}
-
+// Adds the bare entry of a step.
 fn add_bare(alloc: Global, journal: &mut Journal<Step>, step: Box<Step>) -> Result<(), OutOfMemory>
     requires shuts { shuts_nothing step.value ≡ true }
     requires room { HasRoomLeft journal.old step.value }

@@ -1,0 +1,17 @@
+use Rattle.std.proofs.Common.{◌∙◌, ap, subst, sym}
+use Rattle.journal_core.specs.Rooms.{JournalRows}
+use Rattle.scr_state.specs.Keeps.{Keeps}
+use Rattle.scr_world.specs.Steps.{history_of}
+use Rattle.scr_world.specs.TurnLines.{turn_lines}
+use Rattle.scr_world.specs.declared.step.Step.{Step}
+use Rattle.scr_core.proofs.platform_core.Core.new.Goals as goal
+
+pub invariant_of-result : goal.invariant_of-result
+invariant_of-result c = (
+  record {
+    its_limit = ap (λ (j : JournalRows Step). j.limit) c.new-journal.ensures;
+    state = subst (λ (j : JournalRows Step). Keeps j c.in_ok-state.state) (sym c.new-journal.ensures) (c.in_ok-state.ensures c.args.limits.journal);
+    told = c.new-lines.ensures.items ∙ sym (ap (λ (j : JournalRows Step). turn_lines (history_of j.entries)) c.new-journal.ensures);
+  },
+  c.requires.within,
+)

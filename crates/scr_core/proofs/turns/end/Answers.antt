@@ -1,0 +1,17 @@
+use Rattle.std.proofs.Common.{◌∙◌, List, ap, arith, subst, sym}
+use Rattle.scr_core.proofs.Rooms.{room_for_none}
+use Rattle.scr_readers.proofs.CountedTurns.{counted_legal}
+use Rattle.scr_readers.specs.Turns.{AreCounted}
+use Rattle.scr_world.specs.Room.{has_room, needed_by}
+use Rattle.scr_world.specs.Steps.{history_of}
+use Rattle.scr_world.specs.declared.lines.TurnLine.{TurnLine}
+use Rattle.scr_world.specs.declared.step.Step.{Step}
+use Rattle.scr_core.proofs.turns.end.Goals as goal
+
+pub grow_by_end-requires-clause-room : goal.grow_by_end-requires-clause-room
+grow_by_end-requires-clause-room c =
+    let left = c.room-room.ensures in
+    ap (λ (x : Step). has_room c.args.journal.now.limit c.args.state.now.world (needed_by x)) c.in_ok-step.ensures ∙ room_for_none c.args.journal.now c.args.state.now c.requires.keeps.state (omega (arith, left))
+
+pub end_turn-requires : goal.end_turn-requires
+end_turn-requires c = subst (λ (lines : List TurnLine). AreCounted 1 lines) (sym c.requires.keeps.told) (counted_legal c.args.journal.now.limit (history_of c.args.journal.now.entries) c.requires.keeps.state.legal)

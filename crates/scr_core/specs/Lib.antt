@@ -1,0 +1,5 @@
+pub mod Cores
+pub mod Keeping
+pub mod Turns
+pub mod Steps
+pub mod Beginnings

@@ -1,0 +1,85 @@
+//! Gets by token (OSGi Core 8, chapter 5, "Getting Services"; tokens are our own).
+ghost use Rattle.scr_state.specs.Keeps.{Keeps};
+ghost use Rattle.scr_world.specs.Calls.{EndsUse, Gets, has_token};
+ghost use Rattle.scr_world.specs.declared.marks.Token.{Token};
+ghost use Rattle.std.specs.List.{list_any};
+ghost use Rattle.std.specs.Prelude.{◌≡◌, ◌==◌, IfOk, OnErr};
+
+use crate::room::has_room;
+use crate::steps::boxed;
+use crate::use_note::UseNote;
+use journal_core::Journal;
+use prop_map::OutOfMemory;
+use scr_serving::refusal_of_get;
+use scr_state::State;
+use scr_still::grow_still;
+use scr_turns::turn_draft;
+use scr_world::{CoreFault, Step, Token, World};
+use std::alloc::Global;
+
+/// Gets a service for a bundle by a token.
+pub(crate) fn get(
+    alloc: Global,
+    journal: &mut Journal<Step>,
+    state: &mut State,
+    bundle: u64,
+    service: u64,
+) -> Result<UseNote, CoreFault>
+    requires keeps { Keeps journal.old state.old }
+    ensures keeps { Keeps journal.new state.new }
+    ensures limit { journal.new.limit ≡ journal.old.limit }
+    ensures answer { Gets journal.old.limit journal.old.entries bundle service result journal.new.entries }
+{
+    if let Some(fault) = refusal_of_get(state, bundle, service) {
+        return Err(fault);
+    }
+    if !has_room(journal, 2) {
+        return Err(CoreFault::JournalFull);
+    }
+    let place = journal.length();
+    let step = boxed(alloc, Step::Got { bundle, service })?;
+    let draft = turn_draft(alloc, state, &step)?;
+    grow_still(alloc, journal, state, step, draft)?;
+    Ok(UseNote::new(Token {
+        place,
+        bundle,
+        service,
+    }))
+}
+
+// Whether a get by token stands.
+fn has_token(world: &World, place: u64) -> bool
+    ensures { result ≡ has_token world.now place }
+{
+    stands(world.tokens.as_slice(), place)
+}
+
+fn stands(tokens: &[Token], place: u64) -> bool
+    ensures { result ≡ list_any (λ (t : Token). t.place == place) tokens.now }
+{
+    tokens.iter().any(|token| token.place == place)
+}
+
+/// Releases a get by token, and answers whether it stood.
+pub(crate) fn release(
+    alloc: Global,
+    journal: &mut Journal<Step>,
+    state: &mut State,
+    note: &Token,
+) -> Result<bool, OutOfMemory>
+    requires keeps { Keeps journal.old state.old }
+    ensures keeps { Keeps journal.new state.new }
+    ensures limit { journal.new.limit ≡ journal.old.limit }
+    ensures ok { IfOk result (λ stood. EndsUse journal.old.limit journal.old.entries note.now stood journal.new.entries) }
+    ensures err { OnErr result (journal.new ≡ journal.old) }
+{
+    if !has_token(&state.world, note.place) {
+        return Ok(false);
+    }
+    // This lets the proof know that what is reserved has room.
+    let _room = journal.room();
+    let step = boxed(alloc, Step::Released { place: note.place })?;
+    let draft = turn_draft(alloc, state, &step)?;
+    grow_still(alloc, journal, state, step, draft)?;
+    Ok(true)
+}
