@@ -1,0 +1,13 @@
+pub mod Words
+pub mod Lists
+pub mod Turns
+pub mod Steps
+pub mod Starts
+pub mod Stops
+pub mod Settlings
+pub mod Desks
+pub mod Taking
+pub mod Holders
+pub mod Draining
+pub mod Results
+pub mod Commanding

@@ -1,0 +1,14 @@
+use Rattle.std.proofs.Common.{ap, ◌∙◌}
+use Rattle.scr_core.specs.Cores.{CoreView}
+use Rattle.wide_hall.specs.Platforms.{has_object}
+use Rattle.wide_hall.proofs.Desks.{desk_alike}
+use Rattle.wide_hall.proofs.Settlings.{posts_alike}
+use Rattle.wide_hall.proofs.core_desk.CoreDeskDesk.post.Goals as goal
+
+pub invariant_of-self : goal.invariant_of-self
+invariant_of-self g c =
+    desk_alike c.self.inside.core c.post_drains.new.core c.self.inside.turns.items c.self.inside.held.items
+    (posts_alike c.self.inside.core c.post_drains.new.core c.post_drains.ensures.step) c.self.invariant
+
+pub returns-clause-objects : goal.returns-clause-objects
+returns-clause-objects g c = λ n. (posts_alike c.self.inside.core c.post_drains.new.core c.post_drains.ensures.step).objects n ∙ ap (λ (p : CoreView). has_object p n) c.self.view_is

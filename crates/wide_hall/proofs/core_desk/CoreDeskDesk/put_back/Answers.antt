@@ -1,0 +1,71 @@
+use Rattle.std.proofs.Common.{◌≡◌, ◌++◌, ◌∷◌, [], ◌&&◌, ◌||◌, false, ap, sym, ◌∙◌, subst}
+use Rattle.std.specs.Prelude.{◌==◌, is_some, not}
+use Rattle.wide_hall.specs.Desks.{is_holder}
+use Rattle.turn_runner.specs.Outcomes.{IsRunOf, has_object_after, is_destroy_of}
+use Rattle.scr_world.specs.declared.step.Step.TheVariants.{End}
+use Rattle.scr_world.specs.Calls.{Grown}
+use Rattle.scr_core.specs.Cores.{CoreView}
+use Rattle.scr_world.specs.Legal.{is_under_way}
+use Rattle.wide_hall.specs.Desks.{IsDesk}
+use Rattle.wide_hall.specs.Platforms.{has_object, running, world}
+use Rattle.wide_hall.proofs.Desks.{desk_back, ended_desk, ended_has, ended_runs_no_more, has_token, running_under_way, same_view}
+use Rattle.wide_hall.proofs.core_desk.CoreDeskDesk.put_back.Goals as goal
+
+pub take_out-turn-requires : goal.take_out-turn-requires
+take_out-turn-requires g c =
+    let is = sym (rw c.in-Ok-Some.field-0-is at c.in-Ok-Some.ensures) in
+    has_token c.self.inside.core c.self.inside.turns.items c.self.inside.held.items c.args.number c.in-Ok-Some.work c.note_legal.ensures is c.self.invariant
+
+pub done-requires : goal.done-requires
+done-requires g c =
+    let is = sym (rw c.in-Ok-Some.field-0-is at c.in-Ok-Some.ensures) in
+    ap (is_under_way (world c.self.inside.core)) c.take_out-turn.ensures.turn ∙ running_under_way c.self.inside.core c.args.number c.in-Ok-Some.work c.note_legal.ensures is
+
+pub invariant_of-self-in-Ok : goal.invariant_of-self-in-Ok
+invariant_of-self-in-Ok g c =
+    let before = c.self.inside.core in
+    let after = c.done.new.self in
+    let work = c.in-Ok-Some.work in
+    let outcome = c.args.ran.outcome in
+    let is = sym (rw c.in-Ok-Some.field-0-is at c.in-Ok-Some.ensures) in
+    let grown = subst (λ t. Grown before.limits.journal before.journal (End t outcome) after.journal) c.take_out-turn.ensures.turn c.in-Ok.ensures.ok.0 in
+    let makes = subst (λ o. IsRunOf o outcome (is_some c.args.ran.made)) (ap (λ (p : CoreView). running p c.args.number) (sym c.self.view_is) ∙ is) c.requires in
+    ended_desk before after c.args.number outcome work c.note_legal.ensures is (c.in-Ok.ensures.limits, grown)
+    c.self.inside.turns.items c.take_out-turn.new.turns.items c.self.inside.held.items c.keep.new.held.items (is_some c.args.ran.made) c.is_destroy-is_destroyed.result
+    c.take_out-turn.ensures.others
+    (λ n. c.keep.ensures n ∙ ap (λ xs. (is_holder xs n || (is_some c.args.ran.made && (work.instance == n))) && not (c.is_destroy-is_destroyed.result && (work.instance == n))) c.reserve.ensures.items)
+    makes c.is_destroy-is_destroyed.ensures c.self.invariant
+
+pub returns-in-Ok-clause-ended : goal.returns-in-Ok-clause-ended
+returns-in-Ok-clause-ended g c =
+    let before = c.self.inside.core in
+    let after = c.done.new.self in
+    let is = sym (rw c.in-Ok-Some.field-0-is at c.in-Ok-Some.ensures) in
+    let grown = subst (λ t. Grown before.limits.journal before.journal (End t c.args.ran.outcome) after.journal) c.take_out-turn.ensures.turn c.in-Ok.ensures.ok.0 in
+    ended_runs_no_more before after c.args.number c.args.ran.outcome c.in-Ok-Some.work c.note_legal.ensures is (c.in-Ok.ensures.limits, grown)
+
+pub returns-in-Ok-clause-objects : goal.returns-in-Ok-clause-objects
+returns-in-Ok-clause-objects g c = λ n.
+    let before = c.self.inside.core in
+    let after = c.done.new.self in
+    let work = c.in-Ok-Some.work in
+    let outcome = c.args.ran.outcome in
+    let made = is_some c.args.ran.made in
+    let is = sym (rw c.in-Ok-Some.field-0-is at c.in-Ok-Some.ensures) in
+    let grown = subst (λ t. Grown before.limits.journal before.journal (End t outcome) after.journal) c.take_out-turn.ensures.turn c.in-Ok.ensures.ok.0 in
+    let makes = subst (λ o. IsRunOf o outcome made) (ap (λ (p : CoreView). running p c.args.number) (sym c.self.view_is) ∙ is) c.requires in
+    subst (λ (p : CoreView). is_destroy_of (running p c.args.number) n ≡ false → has_object after n ≡ has_object_after (running p c.args.number) made (has_object p) n) c.self.view_is
+    (λ stays.
+    ended_has before after c.args.number outcome work c.note_legal.ensures is (c.in-Ok.ensures.limits, grown) made n makes (ap (λ o. is_destroy_of o n) (sym is) ∙ stays)
+    ∙ ap (λ o. has_object_after o made (has_object before) n) (sym is))
+
+pub invariant_of-self-in-Err-done : goal.invariant_of-self-in-Err-done
+invariant_of-self-in-Err-done g c =
+    let rest = c.take_out-turn.new.turns.items in
+    let number = c.args.number in
+    let same = same_view c.done.new.self c.self.inside.core c.in-Err-done.ensures.limits c.in-Err-done.ensures.err in
+    let turns = c.push_reserved.ensures.items ∙ ap (λ t. rest ++ t ∷ []) (c.in-Err-done.ensures.back ∙ c.take_out-turn.ensures.turn) in
+    subst (λ (p : CoreView). IsDesk {O = g.row.O.Denot} p c.push_reserved.new.self.items c.reserve.new.self.items) (sym same)
+    (subst (λ xs. IsDesk {O = g.row.O.Denot} c.self.inside.core xs c.reserve.new.self.items) (sym turns)
+    (subst (λ xs. IsDesk {O = g.row.O.Denot} c.self.inside.core (rest ++ number ∷ []) xs) (sym c.reserve.ensures.items)
+    (desk_back c.self.inside.core c.self.inside.turns.items rest c.self.inside.held.items number c.take_out-turn.ensures.others c.self.invariant)))

@@ -1,0 +1,11 @@
+use Rattle.std.proofs.Common.{refl, subst, inr, Ok}
+use Rattle.std.proofs.lemmas.Result.{err_from_is_err_and}
+use Rattle.scr_core.specs.Cores.{CoreView}
+use Rattle.wide_hall.specs.Platforms.{CoreTakes}
+use Rattle.wide_hall.proofs.platform.Platform.command.Goals as goal
+
+pub returns-in_err-post : goal.returns-in_err-post
+returns-in_err-post g c =
+    let p = err_from_is_err_and c.from_residual-in_err-post.result c.from_residual-in_err-post.ensures.1 in
+    let taken = subst (λ (p : CoreView). CoreTakes p c.args.command (Ok c.in_ok-accepted.accepted) c.command.new.self) c.self.view_is c.in_ok-accepted.ensures in
+    rw (p.1, p.2) (inr (c.in_ok-accepted.accepted.reply, (c.in_ok-accepted.accepted, c.command.new.self, refl, taken, c.post.ensures.step)))

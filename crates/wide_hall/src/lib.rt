@@ -1,0 +1,17 @@
+//! The platform of one thread: the core, the component code that its turns tell, and the objects of the instances.
+//!
+//! A [`Platform`] takes commands, runs the turns that are due, and posts the drains of gates that are shut: nobody is ever
+//! inside of one, since one thread makes one call at a time.
+#![tactic(auto)]
+
+mod core_desk;
+mod drains;
+mod finish_fault;
+mod held;
+mod notes;
+mod platform;
+mod tokens;
+
+pub use finish_fault::FinishFault;
+pub use notes::{note_rest, note_turns_end};
+pub use platform::Platform;

@@ -1,0 +1,21 @@
+//! What holds once a settling is over. Our own; what is right is OSGi Compendium 8, chapter 112.
+ghost use Rattle.kind_trait.specs.Meanings.{Told};
+ghost use Rattle.wide_hall.specs.Platforms.{Settles, none_under_way, world};
+ghost use Rattle.prop_map.specs.declared.properties.Property.{Property};
+ghost use Rattle.scr_core.specs.Cores.{CoreView};
+ghost use Rattle.scr_world.specs.Legal.{IsLegal};
+ghost use Rattle.scr_world.specs.Quiet.{IsQuiet, IsRight};
+ghost use Rattle.scr_world.specs.Steps.{history_of};
+ghost use Rattle.std.specs.Prelude.{◌≡◌, ℕ, Bool, List, Ok, true};
+
+/// For contracts alone: a settling that is over ends each turn that it begins, so where no turn was under way before, none is
+/// afterwards.
+pub fn note_turns_end()
+    ensures { (refuses : List ℕ → List Property → Told → Bool) → (turns count : ℕ) → (before after : CoreView) → IsLegal before.limits.journal (history_of before.journal) → none_under_way before ≡ true → Settles refuses turns before (Ok count) after → none_under_way after ≡ true }
+{}
+
+/// For contracts alone: once a settling is over and no turn was under way before it, the journal is quiet and right.
+pub fn note_rest()
+    ensures quiet { (refuses : List ℕ → List Property → Told → Bool) → (turns count : ℕ) → (before after : CoreView) → IsLegal before.limits.journal (history_of before.journal) → none_under_way before ≡ true → Settles refuses turns before (Ok count) after → IsQuiet (world after) }
+    ensures right { (refuses : List ℕ → List Property → Told → Bool) → (turns count : ℕ) → (before after : CoreView) → IsLegal before.limits.journal (history_of before.journal) → none_under_way before ≡ true → Settles refuses turns before (Ok count) after → IsRight (world after) }
+{}

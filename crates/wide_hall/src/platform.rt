@@ -1,0 +1,127 @@
+//! The platform.
+ghost use Rattle.std.specs.Prelude.{◌≡◌, [], IfOk, IfErr};
+ghost use Rattle.scr_world.specs.declared.reply.CoreFault.TheVariants.{OutOfMemory};
+ghost use Rattle.scr_core.specs.Cores.{AreWithinGreatest};
+ghost use Rattle.scr_world.specs.Legal.{IsLegal};
+ghost use Rattle.scr_world.specs.Steps.{history_of};
+ghost use Rattle.wide_hall.specs.Platforms.{BeginsTurn, FinishesTurn, Settles, TakesCommand};
+
+use crate::FinishFault;
+use crate::core_desk::CoreDesk;
+use callback_orders::Outcome;
+use kind_trait::Kinds;
+use scr_core::{Command, Core, CoreFault, Limits, Reply};
+use std::alloc::Global;
+use std::marker::Model;
+use turn_runner::{Desk, DeskFault, SettleFault, run_shared, settle};
+
+/// A platform of one thread. Contracts see its limits and the entries of its journal, the oldest first.
+///
+/// Beside the core it keeps the component code and the objects that this made, one for each instance whose Create is done.
+#[derive(Drop)]
+pub struct Platform<K: Kinds> {
+    kinds: K,
+    desk: CoreDesk<K::Object>,
+}
+
+impl<K: Kinds> Model for Platform<K> {
+    ghost use Rattle.scr_core.specs.Cores.{CoreView};
+    ghost use Rattle.std.specs.Coded.{codes};
+    ghost use Rattle.ldap_filter.specs.TreeCodes.{tree_code};
+
+    ghost Value = { CoreView };
+
+    ghost coded = { Prim.hlevel (codes, tree_code) };
+
+    ghost view = { λ p. p.desk };
+}
+
+impl<K: Kinds + Drop> Platform<K> {
+    /// A platform with an empty journal over this component code. The limits have to be at most 4,194,304 entries and 1,000,000
+    /// turns.
+    ///
+    /// # Errors
+    /// Only want of memory.
+    pub fn new(alloc: Global, kinds: K, limits: Limits) -> Result<Platform<K>, CoreFault>
+        requires within { AreWithinGreatest limits }
+        ensures ok { IfOk result (λ platform. platform ≡ record { limits = limits; journal = [] }) }
+        ensures err { IfErr result (λ fault. fault ≡ OutOfMemory) }
+    {
+        Ok(Platform {
+            kinds,
+            desk: CoreDesk::new(alloc, limits)?,
+        })
+    }
+
+    /// Takes a command, answers as the core does, and posts the drains of the gates that are shut.
+    ///
+    /// # Errors
+    /// Those of [`scr_core::Core::command`]. A refused command leaves all as it was, but for want of memory, which may also leave the
+    /// command's entry and some of the drains.
+    pub fn command(&mut self, alloc: Global, command: Command) -> Result<Reply, CoreFault>
+        ensures { TakesCommand self.old command result self.new }
+    {
+        let accepted = self.desk.command(alloc, command)?;
+        self.desk.post(alloc)?;
+        Ok(accepted.reply)
+    }
+
+    /// Runs the turns that are due, one after the other, until none is due, and answers how many ran. The drains that are due
+    /// behind a turn are posted before the next one begins.
+    ///
+    /// # Errors
+    /// `Unsettled` exactly where as many turns ran as the limit says and one is still due. `JournalFull` exactly where fewer ran, one
+    /// is due and the journal has no room for it. `OutOfMemory` comes also where a turn's outcome is NoMemory. The turns that ran
+    /// stand.
+    pub fn settle(&mut self, alloc: Global) -> Result<u64, SettleFault>
+        ensures { Settles K.refuses self.old.limits.turns self.old result self.new }
+    {
+        let turns = self.desk.core().limits().turns;
+        settle(alloc, &mut self.desk, &self.kinds, turns)
+    }
+
+    /// Begins the first due turn, and answers its number: `None` exactly where none is due.
+    ///
+    /// # Errors
+    /// `JournalFull` exactly where a turn is due and the journal has no room for it; otherwise only want of memory. All is then as it
+    /// was.
+    pub fn begin(&mut self, alloc: Global) -> Result<Option<u64>, CoreFault>
+        ensures { BeginsTurn self.old result self.new }
+    {
+        match self.desk.take(alloc) {
+            Ok(Some(work)) => Ok(Some(work.number)),
+            Ok(None) => Ok(None),
+            Err(DeskFault::JournalFull) => Err(CoreFault::JournalFull),
+            Err(DeskFault::OutOfMemory) => Err(CoreFault::OutOfMemory),
+        }
+    }
+
+    /// Runs a turn that has begun, ends it, posts the drains that are due then, and answers the outcome.
+    ///
+    /// # Errors
+    /// `NoTurn` exactly where no turn of this number is under way. Otherwise only want of memory, which may leave the turn ended and
+    /// some of the drains posted.
+    pub fn finish(&mut self, alloc: Global, turn: u64) -> Result<Outcome, FinishFault>
+        ensures { FinishesTurn K.refuses self.old turn result self.new }
+    {
+        let Some(work) = self.desk.work(alloc, turn)? else {
+            return Err(FinishFault::NoTurn);
+        };
+        let object = self.desk.object(alloc, work.instance)?;
+        let ran = run_shared(alloc, &self.kinds, object, &work);
+        let outcome = ran.outcome;
+        if self.desk.put_back(alloc, turn, ran).is_err() {
+            return Err(FinishFault::OutOfMemory);
+        }
+        self.desk.post(alloc)?;
+        Ok(outcome)
+    }
+
+    /// The core, whose journal is legal.
+    pub fn core(&self) -> &Core
+        ensures core { result.now ≡ self.now }
+        ensures legal { IsLegal self.now.limits.journal (history_of self.now.journal) }
+    {
+        self.desk.core()
+    }
+}

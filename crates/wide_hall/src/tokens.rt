@@ -1,0 +1,86 @@
+//! What a desk keeps: the tokens of turns, and the objects of instances.
+ghost use Rattle.wide_hall.specs.Desks.{is_holder, tokens_of};
+ghost use Rattle.scr_world.specs.Room.{one_if};
+ghost use Rattle.std.specs.Prelude.{◌≡◌, ◌==◌, ◌<◌, ◌+◌, ◌&&◌, ◌||◌, ℕ, not, is_some, MatchOption, vec_len, vec_capacity, filter, length, slice_index};
+ghost use Rattle.turn_runner.specs.Outcomes.{is_destroy};
+
+use crate::held::Held;
+use callback_orders::Callback;
+use scr_core::Turn;
+use std::sync::Arc;
+
+// The place of a token of this turn, of which there is one.
+fn place_of(turns: &[Turn], number: u64) -> usize
+    requires { 0 < tokens_of turns.now number }
+    ensures within { result < length turns.now }
+    ensures place { slice_index turns.now result ≡ number }
+{
+    for (index, turn) in turns.iter().enumerate() {
+        if turn.number() == number {
+            return index;
+        }
+    }
+    unreachable!()
+}
+
+// Takes a token of this turn out, of which there is one.
+pub(crate) fn take_out(turns: &mut Vec<Turn>, number: u64) -> Turn
+    requires { 0 < tokens_of turns.old.items number }
+    ensures turn { result ≡ number }
+    ensures others { (turn : ℕ) → tokens_of turns.old.items turn ≡ tokens_of turns.new.items turn + one_if (number == turn) }
+    ensures room { vec_len turns.new < vec_capacity turns.new }
+{
+    let place = place_of(turns, number);
+    turns.swap_remove(place)
+}
+
+// What holds the object of an instance.
+pub(crate) fn held_object<O>(held: &[Held<O>], instance: u64) -> Option<&Held<O>>
+    ensures some { is_some result ≡ is_holder held.now instance }
+    ensures own { MatchOption result (Unit {0}) (λ one. one.now.instance ≡ instance) }
+{
+    for one in held {
+        if one.instance == instance {
+            return Some(one);
+        }
+    }
+    None
+}
+
+// Lets the object of an instance go.
+pub(crate) fn let_go<O: Drop>(held: &mut Vec<Held<O>>, instance: u64)
+    ensures { held.new.items ≡ filter (λ one. not (one.instance == instance)) held.old.items }
+{
+    held.retain(|one| one.instance != instance);
+}
+
+pub(crate) fn is_destroy(callback: &Callback) -> bool
+    ensures { result ≡ is_destroy callback.now }
+{
+    matches!(callback, Callback::Destroy)
+}
+
+fn keep_made<O: Drop>(held: &mut Vec<Held<O>>, instance: u64, made: Option<Arc<O>>)
+    requires { vec_len held.old < vec_capacity held.old }
+    ensures { (n : ℕ) → is_holder held.new.items n ≡ (is_holder held.old.items n || (is_some made && (instance == n))) }
+{
+    if let Some(object) = made {
+        held.push_reserved(Held { instance, object });
+    }
+}
+
+// Keeps the object that was made, and lets that of an instance that was destroyed go.
+pub(crate) fn keep<O: Drop>(
+    held: &mut Vec<Held<O>>,
+    instance: u64,
+    made: Option<Arc<O>>,
+    is_destroyed: bool,
+)
+    requires { vec_len held.old < vec_capacity held.old }
+    ensures { (n : ℕ) → is_holder held.new.items n ≡ ((is_holder held.old.items n || (is_some made && (instance == n))) && not (is_destroyed && (instance == n))) }
+{
+    keep_made(held, instance, made);
+    if is_destroyed {
+        let_go(held, instance);
+    }
+}

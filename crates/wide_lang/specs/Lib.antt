@@ -1,0 +1,4 @@
+pub mod ShellLines
+pub mod FaultTexts
+pub mod CoreFaultTexts
+pub mod ReplyTexts

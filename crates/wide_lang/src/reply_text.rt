@@ -1,0 +1,61 @@
+//! The text of a reply.
+ghost use Rattle.std.specs.Prelude.{◌≡◌, IfOk, codes, string_bytes};
+ghost use Rattle.wide_lang.specs.ReplyTexts.{finished_text, reply_text, turn_text};
+
+use crate::ShellReply;
+use crate::refusal_text::refusal_text;
+use crate::row_text::{rows_text, turn_text};
+use callback_orders::Outcome;
+use prop_map::OutOfMemory;
+use scr_world::TurnLine;
+use std::alloc::Global;
+
+/// The text of a reply: one or more lines, each with its end.
+///
+/// # Errors
+/// Only want of memory.
+pub fn write_reply(alloc: Global, reply: &ShellReply) -> Result<Vec<u8>, OutOfMemory>
+    ensures { IfOk result (λ bytes. bytes.items ≡ reply_text reply.now) }
+{
+    Ok(reply_text(alloc, reply)?.into_bytes())
+}
+
+fn reply_text(alloc: Global, reply: &ShellReply) -> Result<String, OutOfMemory>
+    ensures { IfOk result (λ text. string_bytes text ≡ reply_text reply.now) }
+{
+    match reply {
+        ShellReply::Done => String::from_str(alloc, "ok\n"),
+        ShellReply::Bundle(bundle) => format!(in alloc; "ok bundle {bundle}\n"),
+        ShellReply::Service(service) => format!(in alloc; "ok service {service}\n"),
+        ShellReply::Uses(uses) => format!(in alloc; "ok uses {uses}\n"),
+        ShellReply::Listener(listener) => format!(in alloc; "ok listener {listener}\n"),
+        ShellReply::Components(rows) => rows_text(alloc, rows.as_slice()),
+        ShellReply::Held(rows) => rows_text(alloc, rows.as_slice()),
+        ShellReply::Trace(rows) => rows_text(alloc, rows.as_slice()),
+        ShellReply::Turns(count) => format!(in alloc; "ok turns {count}\n"),
+        ShellReply::Begun(line) => begun_text(alloc, line),
+        ShellReply::Idle => String::from_str(alloc, "ok idle\n"),
+        ShellReply::Finished(outcome) => String::from_str(alloc, finished_text(*outcome)),
+        ShellReply::Refused(refusal) => {
+            let refusal = refusal_text(alloc, refusal)?;
+            format!(in alloc; "refused {}\n", refusal.as_str())
+        }
+    }
+}
+
+fn begun_text(alloc: Global, line: &TurnLine) -> Result<String, OutOfMemory>
+    ensures { IfOk result (λ text. string_bytes text ≡ reply_text (ShellReply.Begun line.now)) }
+{
+    let turn = turn_text(alloc, line)?;
+    format!(in alloc; "ok turn {}\n", turn.as_str())
+}
+
+fn finished_text(outcome: Outcome) -> &'static str
+    ensures { result.now ≡ finished_text outcome }
+{
+    match outcome {
+        Outcome::Done => "ok done\n",
+        Outcome::Refused => "ok refused\n",
+        Outcome::NoMemory => "ok no-memory\n",
+    }
+}

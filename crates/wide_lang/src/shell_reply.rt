@@ -1,0 +1,59 @@
+//! What lines are answered.
+
+use crate::LineFault;
+use callback_orders::Outcome;
+use prop_map::List;
+use scr_world::{ComponentLine, CoreFault, HeldLine, TurnLine};
+
+/// Why a line isn't carried out.
+#[derive(Debug, PartialEq, Eq, Drop)]
+pub enum Refusal {
+    /// It is refused before it comes to the core.
+    Line {
+        /// Why.
+        fault: LineFault,
+    },
+    /// The core refuses it.
+    Core {
+        /// Why.
+        fault: CoreFault,
+    },
+    /// It is a line of `script --manual` alone.
+    NotManual,
+    /// No turn of this number is under way.
+    NoTurn {
+        /// The number.
+        turn: u64,
+    },
+}
+
+/// What a line is answered.
+#[derive(Debug, PartialEq, Eq, Drop)]
+pub enum ShellReply {
+    /// It is done.
+    Done,
+    /// The number of a bundle.
+    Bundle(u64),
+    /// The number of a service.
+    Service(u64),
+    /// How often a bundle uses a service now.
+    Uses(u32),
+    /// The number of a listener.
+    Listener(u64),
+    /// The component configurations.
+    Components(List<ComponentLine>),
+    /// What instances hold.
+    Held(List<HeldLine>),
+    /// Turns.
+    Trace(List<TurnLine>),
+    /// How many turns ran.
+    Turns(u64),
+    /// The turn that has begun.
+    Begun(TurnLine),
+    /// No turn is due.
+    Idle,
+    /// How a turn ended.
+    Finished(Outcome),
+    /// It is refused.
+    Refused(Refusal),
+}
