@@ -58,6 +58,13 @@ impl BundleRows {
         }
     }
 
+    /// How many numbers were given.
+    pub(crate) fn numbered(&self) -> u64
+        ensures { result ≡ self.now.numbered }
+    {
+        self.numbered
+    }
+
     /// The number that comes next.
     ///
     /// # Errors

@@ -124,6 +124,13 @@ impl Bundles {
         self.events.after(after)
     }
 
+    /// How many numbers were given so far, also those of bundles that were uninstalled since.
+    pub fn numbered(&self) -> u64
+        ensures { result ≡ self.now.numbered }
+    {
+        self.rows.numbered()
+    }
+
     /// Installs a bundle, or answers the one of its location.
     ///
     /// # Errors

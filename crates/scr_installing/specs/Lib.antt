@@ -2,5 +2,4 @@ pub mod Allowed
 pub mod Described
 pub mod Drafting
 pub mod Idle
-pub mod Numbering
 pub mod Updates

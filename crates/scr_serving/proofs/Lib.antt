@@ -1,3 +1,2 @@
-mod ListenersNumbered
 mod RegisteredServices
 mod Served

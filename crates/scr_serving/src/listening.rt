@@ -1,24 +1,22 @@
 //! A listener of the events of services is added (OSGi Core 8, chapter 5, "Service Listeners").
-ghost use Rattle.journal_core.specs.declared.entry.Entry.{Entry};
 ghost use Rattle.ldap_filter.specs.Trees.{Tree};
 ghost use Rattle.scr_judgements.specs.Judgements.{Judges};
-ghost use Rattle.scr_serving.specs.Listeners.{adds_listener};
 ghost use Rattle.scr_state.specs.Keeps.{Keeps};
 ghost use Rattle.scr_world.specs.Refusals.{refusal, refuse_if};
 ghost use Rattle.scr_world.specs.declared.command.Command.TheVariants.{Listen};
 ghost use Rattle.scr_world.specs.declared.reply.CoreFault.TheVariants.{ListenersFull};
 ghost use Rattle.scr_world.specs.declared.step.Step.{Step};
 ghost use Rattle.scr_world.specs.declared.step.Step.TheVariants.{Command as Commanded};
-ghost use Rattle.std.specs.Prelude.{◌≡◌, ◌+◌, IfOk, count_by, length, nat_le};
+ghost use Rattle.std.specs.Prelude.{◌≡◌, ◌+◌, IfOk, length, nat_le};
 
 use crate::active::refusal_of_inactive;
 use crate::drafts::draft_with;
-use journal_core::{Entry, Journal};
+use journal_core::Journal;
 use ldap_filter::Filter;
 use prop_map::OutOfMemory;
 use scr_judgements::{Judgement, TablesAfter, has_room_for_command};
 use scr_state::State;
-use scr_world::{Command, CoreFault, Reply, Step, World};
+use scr_world::{CoreFault, Reply, Step, World};
 use service_listeners::Listeners;
 use std::alloc::{AllocError, Global};
 
@@ -45,7 +43,7 @@ pub fn judge_listen(
     if !has_room_for_command(journal, state) {
         return Err(CoreFault::JournalFull);
     }
-    let reply = Reply::Listener(next_listener(journal, state)?);
+    let reply = Reply::Listener(next_listener(state)?);
     let draft = draft_with(alloc, state, step, TablesAfter::none())?;
     Ok(Judgement::Changes { reply, draft })
 }
@@ -66,42 +64,13 @@ fn refusal_of_full(listeners: &Listeners) -> Option<CoreFault>
 }
 
 // The number of the next listener.
-fn next_listener(journal: &Journal<Step>, state: &State) -> Result<u64, OutOfMemory>
-    requires { Keeps journal.now state.now }
+fn next_listener(state: &State) -> Result<u64, OutOfMemory>
     ensures { IfOk result (λ number. number ≡ state.now.world.listeners.numbered + 1) }
 {
-    number_behind(listeners_numbered(journal, state))
-}
-
-fn number_behind(numbered: usize) -> Result<u64, OutOfMemory>
-    ensures { IfOk result (λ number. number ≡ numbered + 1) }
-{
-    (numbered as u64).checked_add(1).ok_or(AllocError)
-}
-
-// How many listeners were numbered: each entry that added one has numbered one.
-fn listeners_numbered(journal: &Journal<Step>, state: &State) -> usize
-    requires { Keeps journal.now state.now }
-    ensures { result ≡ state.now.world.listeners.numbered }
-{
-    listeners_added(journal.entries())
-}
-
-fn listeners_added(entries: &[Entry<Step>]) -> usize
-    ensures { result ≡ count_by (λ (entry : Entry Step). adds_listener entry.step) entries.now }
-{
-    let mut added = 0;
-    for entry in entries {
-        if adds_listener(entry) {
-            added += 1;
-        }
-    }
-    added
-}
-
-#[tactic(auto, unfolding(crate::specs::Listeners::adds_listener))]
-fn adds_listener(entry: &Entry<Step>) -> bool
-    ensures { result ≡ adds_listener entry.now.step }
-{
-    matches!(entry.step, Step::Command(Command::Listen { .. }))
+    state
+        .world
+        .listeners
+        .numbered()
+        .checked_add(1)
+        .ok_or(AllocError)
 }

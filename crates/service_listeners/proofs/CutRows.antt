@@ -23,7 +23,7 @@ cut_none : (rows : List Listener) → cut_to rows [] ≡ []
 cut_none [] = refl
 cut_none (l ∷ ls) = refl
 
-first_events : (more events : List ServiceEvent) → take (length events) (events ++ more) ≡ events
+pub first_events : (more events : List ServiceEvent) → take (length events) (events ++ more) ≡ events
 first_events [] [] = refl
 first_events (e ∷ es) [] = refl
 first_events more (e ∷ es) = ap (λ l. e ∷ l) (first_events more es)

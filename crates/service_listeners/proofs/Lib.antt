@@ -1,2 +1,3 @@
 pub mod CutRows
 pub mod ToldRows
+pub mod Untold

@@ -2,3 +2,4 @@ pub mod Listening
 pub mod Numbers
 pub mod Refusals
 pub mod Saves
+pub mod Undoing

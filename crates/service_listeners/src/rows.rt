@@ -1,6 +1,7 @@
 //! The rows of listeners, found by their numbers, and told one after another.
 ghost use Rattle.service_listeners.specs.Listening.{with_changes};
 ghost use Rattle.service_listeners.specs.Numbers.{AreRising, has_number};
+ghost use Rattle.service_listeners.specs.Undoing.{untold};
 ghost use Rattle.service_listeners.specs.declared.listener.Listener.{Listener};
 ghost use Rattle.row_places.specs.RowPlaces.{IsOnlyPlace};
 ghost use Rattle.std.specs.Option.{option_copied};
@@ -44,6 +45,24 @@ pub(crate) fn tell_from(
             Err(fault)
         }
     }
+}
+
+/// Takes back what the listeners from a place on were told last, which was of this change. It takes no memory.
+pub(crate) fn untell_from(
+    rows: &mut [Listener],
+    at: usize,
+    alloc: Global,
+    before: Option<&ServiceRow>,
+    after: Option<&ServiceRow>,
+)
+    requires { at ≤ length rows.old }
+    ensures { rows.new ≡ take at rows.old ++ map (untold (option_copied before.entry, option_copied after.entry)) (drop at rows.old) }
+{
+    if at == rows.len() {
+        return;
+    }
+    untell_one(&mut rows[at], alloc, before, after);
+    untell_from(rows, at + 1, alloc, before, after);
 }
 
 /// Leaves out the listeners of a bundle.

@@ -4,12 +4,13 @@ ghost use Rattle.service_listeners.specs.Listening.{after_changes, after_listen,
 ghost use Rattle.service_listeners.specs.Numbers.{AreNumbered};
 ghost use Rattle.service_listeners.specs.Refusals.{IsRefusedBy, listen_refusal, no_listener};
 ghost use Rattle.service_listeners.specs.Saves.{HaveGrown, cut_to, saved_of};
+ghost use Rattle.service_listeners.specs.Undoing.{without_change};
 ghost use Rattle.service_listeners.specs.declared.listener.Listener.{Listener};
 ghost use Rattle.std.specs.Option.{option_copied, option_map_or};
-ghost use Rattle.std.specs.Prelude.{◌≡◌, ◌≤◌, ◌+◌, ◌↔◌, [], ◌∷◌, drop, length, IfOk, IsTrue, OnErr, OnOk};
+ghost use Rattle.std.specs.Prelude.{◌≡◌, ◌≤◌, ◌+◌, ◌↔◌, [], ◌∷◌, ◌++◌, drop, length, IfOk, IsTrue, None, OnErr, OnOk, Some};
 
 use crate::cutting::{counts_told, cut_rows};
-use crate::rows::{keep_others, place_of, tell_from};
+use crate::rows::{keep_others, place_of, tell_from, untell_from};
 use crate::{ListenFault, Listener, Saved, ServiceEvent};
 use ldap_filter::Filter;
 use prop_map::{List, OutOfMemory};
@@ -73,6 +74,13 @@ impl Listeners {
         ensures { IsTrue result ↔ (64 ≤ length self.now.rows) }
     {
         self.rows.len() >= 64
+    }
+
+    /// How many numbers were given so far, also those of listeners that were removed since.
+    pub fn numbered(&self) -> u64
+        ensures { result ≡ self.now.numbered }
+    {
+        self.numbered
     }
 
     /// Adds a listener of a bundle, under the next number. It was told of nothing yet.
@@ -144,6 +152,29 @@ impl Listeners {
             Ok(()) => Ok(()),
             Err(fault) => Err(fault),
         }
+    }
+
+    /// Takes the listener that came last back, as if it had never come. It takes no memory.
+    pub fn undo_listen(&mut self) -> Option<Listener>
+        ensures taken { (before : ListenerTable) (row : Listener) → self.old ≡ record { rows = before.rows ++ row ∷ []; numbered = before.numbered + 1 } → (self.new ≡ before) × (result ≡ Some row) }
+        ensures empty { self.old.rows ≡ [] → (self.new ≡ self.old) × (result ≡ None) }
+    {
+        let row = self.rows.pop()?;
+        self.numbered = self.numbered.saturating_sub(1);
+        Some(row)
+    }
+
+    /// Takes back what each listener was told last, which was of this change. It takes no memory.
+    pub fn undo_tell(
+        &mut self,
+        alloc: Global,
+        before: Option<&ServiceRow>,
+        after: Option<&ServiceRow>,
+    )
+        ensures untold { self.new ≡ without_change (option_copied before.entry, option_copied after.entry) self.old }
+        ensures undone { (was : ListenerTable) → self.old ≡ after_changes ((option_copied before.entry, option_copied after.entry) ∷ []) was → self.new ≡ was }
+    {
+        untell_from(&mut self.rows, 0, alloc, before, after);
     }
 
     /// The table as it is now, to go back to. It holds how many events each listener was told, and no filter.

@@ -1,5 +1,6 @@
 //! What a listener is told of a change of a service.
 ghost use Rattle.service_listeners.specs.Listening.{events_for, one_event, with_changes};
+ghost use Rattle.service_listeners.specs.Undoing.{untold};
 ghost use Rattle.service_listeners.specs.declared.listener.Listener.{Listener};
 ghost use Rattle.std.specs.Option.{option_copied, option_to_list};
 ghost use Rattle.std.specs.Prelude.{◌≡◌, [], ◌∷◌, if◌then◌else◌, OnErr, OnOk};
@@ -68,7 +69,8 @@ pub(crate) fn untell_one(
     before: Option<&ServiceRow>,
     after: Option<&ServiceRow>,
 )
-    ensures { (was : Listener) → listener.old ≡ with_changes ((option_copied before.entry, option_copied after.entry) ∷ []) was → listener.new ≡ was }
+    ensures was { (was : Listener) → listener.old ≡ with_changes ((option_copied before.entry, option_copied after.entry) ∷ []) was → listener.new ≡ was }
+    ensures untold { listener.new ≡ untold (option_copied before.entry, option_copied after.entry) listener.old }
 {
     if event_for(&listener.filter, before, after).is_some() {
         let mut events = mem::replace(&mut listener.events, List::of(Vec::new(alloc))).items();

@@ -62,6 +62,7 @@ fn a_bundle_is_updated_and_uninstalled(rt: HostRuntime) -> Result<(), Fail> {
     );
     assert!(rt; bundles.uninstall(1).is_ok());
     assert!(rt; are_events(&bundles, 1, &[8, 16]));
+    assert!(rt; bundles.numbered() == 1);
     Ok(())
 }
 

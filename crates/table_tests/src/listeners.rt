@@ -63,6 +63,26 @@ fn listeners_come_and_go(rt: HostRuntime) -> Result<(), Fail> {
     assert!(rt; listeners.unlisten(1).is_ok());
     listeners.remove_listeners_of(1);
     assert!(rt; listeners.rows().is_empty());
+    assert!(rt; listeners.numbered() == 1);
+    Ok(())
+}
+
+#[test]
+fn what_a_listener_was_told_is_taken_back(rt: HostRuntime) -> Result<(), Fail> {
+    let alloc = rt.alloc();
+    let mut listeners = with_one(alloc, "(v=1)")?.ok_or("a listener")?;
+    let one = service(alloc, 1)?;
+    assert!(rt; listeners.tell(alloc, None, Some(&one)).is_ok());
+    listeners.undo_tell(alloc, None, Some(&one));
+    assert!(rt; was_told(&listeners, 1, 0, &[]));
+    Ok(())
+}
+
+#[test]
+fn a_listener_is_taken_back(rt: HostRuntime) -> Result<(), Fail> {
+    let mut listeners = with_one(rt.alloc(), "(v=1)")?.ok_or("a listener")?;
+    assert!(rt; listeners.undo_listen().is_some());
+    assert!(rt; listeners.numbered() == 0);
     Ok(())
 }
 
