@@ -1,0 +1,5 @@
+pub mod Satisfying
+pub mod SeenSame
+pub mod UnseenEntries
+pub mod UnseenRows
+pub mod UnseenStages
