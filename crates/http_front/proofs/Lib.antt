@@ -1,0 +1,3 @@
+pub mod BehindLemmas
+pub mod FlowLemmas
+pub mod ServingLemmas

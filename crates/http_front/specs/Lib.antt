@@ -1,0 +1,5 @@
+pub mod Answers
+pub mod Connections
+pub mod Faults
+pub mod Flows
+pub mod Requests
