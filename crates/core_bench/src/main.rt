@@ -1,4 +1,4 @@
-//! A program for measuring the core by commands that no line says yet: so many services are registered; then one more comes and
+//! A program for measuring the core by its own calls: so many services are registered; then one more comes and
 //! goes so many times; then a PID that nobody asks for gets a configuration so many times, while so many component
 //! configurations stand. It prints what was done; `bench/commands` takes the time.
 //!

@@ -3,8 +3,8 @@
 
 use demonstration_kinds::Demonstration;
 use fault_count::{StdSink, StdSource};
-use first_core::Limits;
 use platform_shell::{Platform, Status, run_script};
+use scr_core::Limits;
 use std::process::ExitCode;
 use std::{env, io};
 

@@ -10,22 +10,25 @@ use Rattle.turn_runner.specs.declared.turn_work.TurnWork.{TurnWork}
 use Rattle.platform_hall.specs.declared.held.Held.{Held}
 use Rattle.platform_hall.specs.Desks.{is_holder}
 use Rattle.turn_runner.specs.Outcomes.{has_object_after, is_destroy as is_destroy_told, is_destroy_of, makes_object, needs_object}
-use Rattle.first_core.specs.declared.command.Limits.{Limits}
-use Rattle.first_core.specs.declared.command.Step.{Step}
-use Rattle.first_core.specs.declared.command.Step.TheVariants.{End}
-use Rattle.first_core.specs.declared.instance.Instance.{Instance}
-use Rattle.first_core.specs.Cores.{CoreView}
-use Rattle.first_core.specs.Instances.{has_turn}
-use Rattle.first_core.specs.Legal.{is_under_way}
-use Rattle.first_core.specs.Room.{one_if}
-use Rattle.first_core.specs.Steps.{history_of}
-use Rattle.first_core.specs.TurnSteps.{last_callback, work_for}
-use Rattle.first_core.proofs.Legality.{sound_legal}
+use Rattle.scr_world.specs.declared.command.Limits.{Limits}
+use Rattle.scr_world.specs.declared.step.Step.{Step}
+use Rattle.scr_world.specs.declared.step.Step.TheVariants.{End}
+use Rattle.scr_world.specs.declared.instance.Instance.{Instance}
+use Rattle.scr_core.specs.Cores.{CoreView}
+use Rattle.scr_world.specs.Instances.{has_turn}
+use Rattle.scr_world.specs.Calls.{world_at}
+use Rattle.scr_world.specs.Legal.{is_under_way}
+use Rattle.scr_world.specs.Lists.{world_of}
+use Rattle.scr_world.specs.Room.{one_if}
+use Rattle.scr_world.specs.Steps.{history_of}
+use Rattle.scr_world.specs.Instances.{last_callback}
+use Rattle.scr_world.specs.TurnSteps.{work_for}
+use Rattle.scr_world.specs.Worlds.{all_instances}
 use Rattle.platform_hall.specs.Desks.{IsDesk, tokens_of}
 use Rattle.platform_hall.specs.Platforms.{Begins, Ends, has_object, running, world}
 use Rattle.platform_hall.proofs.Lists.{none_found}
 use Rattle.platform_hall.proofs.Settlings.{HasLegal, begins_as}
-use Rattle.platform_hall.proofs.Starts.{runs_as, runs_fits, runs_under_way}
+use Rattle.platform_hall.proofs.Starts.{made_for, runs_as, runs_fits, runs_under_way}
 use Rattle.platform_hall.proofs.Steps.{grown_after}
 use Rattle.platform_hall.proofs.Stops.{IsAlike, object_after, stops_it, stops_objects, stops_others}
 use Rattle.platform_hall.proofs.Turns.{turns_legal}
@@ -44,7 +47,26 @@ one_of_two true false apart = refl
 one_of_two false true apart = refl
 one_of_two false false apart = refl
 
+-- nothing is kept beside an empty journal
+and_false : (b : Bool) → ((b && false) || false) ≡ false
+and_false true = refl
+and_false false = refl
+
+none_begun : (n : ℕ) → is_under_way (world_at []) n ≡ false
+unfolding world_of
+none_begun n = and_false (0 == n)
+
+none_made : (n : ℕ) → list_any (made_for n) (world_at []).instances ≡ false
+unfolding world_of
+none_made n = refl
+
 module _ {O : Type 0} where
+  pub empty_desk : (p : CoreView) (turns : List ℕ) (held : List (Held O)) → p.journal ≡ [] → turns ≡ [] → held ≡ [] → IsDesk p turns held
+  empty_desk p turns held journal nothing nobody = record {
+    tokens = λ n. ap (λ ts. tokens_of ts n) nothing ∙ sym (ap one_if (ap (λ j. is_under_way (world_at j) n) journal ∙ none_begun n));
+    objects = λ n. ap (λ (hs : List (Held O)). is_holder hs n) nobody ∙ sym (ap (λ j. list_any (made_for n) (world_at j).instances) journal ∙ none_made n);
+  }
+
   pub desk_alike : (before after : CoreView) (turns : List ℕ) (held : List (Held O)) → IsAlike (world before) (world after) → IsDesk before turns held → IsDesk after turns held
   desk_alike before after turns held alike desk = record {
     tokens = λ n. desk.tokens n ∙ ap one_if (sym (alike.under_way n));
@@ -58,7 +80,7 @@ module _ {O : Type 0} where
         tokens = λ n.
             tokens_more turns work.number n
             ∙ ap (λ k. k + one_if (work.number == n)) (desk.tokens n)
-            ∙ one_of_two (is_under_way (world before) n) (work.number == n) (λ same. ap (λ m. list_any (has_turn m) (world before).instances) (sym (eqb-true work.number n same)) ∙ is.fresh)
+            ∙ one_of_two (is_under_way (world before) n) (work.number == n) (λ same. ap (λ m. list_any (has_turn m) (all_instances (world before))) (sym (eqb-true work.number n same)) ∙ is.fresh)
             ∙ ap one_if (sym (is.under_way n));
         objects = λ n. desk.objects n ∙ sym (is.objects n);
       }
@@ -74,8 +96,7 @@ module _ {O : Type 0} where
 
 pub running_fits : (p : CoreView) (turn : ℕ) (work : TurnWork) → HasLegal p → running p turn ≡ Some work → has_object p work.instance ≡ needs_object work
 running_fits p turn work legal is =
-    let limit = p.limits.journal in
-    runs_fits limit (world p) (sound_legal limit (history_of p.journal) legal) (turns_legal limit (history_of p.journal) legal) turn work (runs_as (world p) turn work is)
+    runs_fits (world p) (turns_legal p.limits.journal (history_of p.journal) legal) turn work (runs_as (world p) turn work is)
 
 pub running_number : (p : CoreView) (turn : ℕ) (work : TurnWork) → running p turn ≡ Some work → work.number ≡ turn
 running_number p turn work is = (runs_as (world p) turn work is).number
@@ -83,38 +104,33 @@ running_number p turn work is = (runs_as (world p) turn work is).number
 -- a token of it is there
 pub has_token : {O : Type 0} (p : CoreView) (turns : List ℕ) (held : List (Held O)) (turn : ℕ) (work : TurnWork) → HasLegal p → running p turn ≡ Some work → IsDesk p turns held → 0 < tokens_of turns turn
 has_token p turns held turn work legal is desk =
-    let limit = p.limits.journal in
-    let there = runs_under_way limit (world p) (sound_legal limit (history_of p.journal) legal) (turns_legal limit (history_of p.journal) legal) turn work (runs_as (world p) turn work is) in
+    let there = runs_under_way (world p) (turns_legal p.limits.journal (history_of p.journal) legal) turn work (runs_as (world p) turn work is) in
     let one : tokens_of turns turn ≡ 1 = desk.tokens turn ∙ ap one_if there in omega arith
 
 pub running_under_way : (p : CoreView) (turn : ℕ) (work : TurnWork) → HasLegal p → running p turn ≡ Some work → is_under_way (world p) turn ≡ true
 running_under_way p turn work legal is =
-    let limit = p.limits.journal in
-    runs_under_way limit (world p) (sound_legal limit (history_of p.journal) legal) (turns_legal limit (history_of p.journal) legal) turn work (runs_as (world p) turn work is)
+    runs_under_way (world p) (turns_legal p.limits.journal (history_of p.journal) legal) turn work (runs_as (world p) turn work is)
 
 -- ---- a turn that has ended
 
 module _ (before after : CoreView) (turn : ℕ) (outcome : Outcome) (work : TurnWork) (legal : HasLegal before) (is : running before turn ≡ Some work) (ends : Ends before turn outcome after) where
   ended_it : is_under_way (world after) turn ≡ false
   ended_it =
-      let limit = before.limits.journal in
-      stops_it limit (world before) (world after) (sound_legal limit (history_of before.journal) legal) (turns_legal limit (history_of before.journal) legal) turn outcome
-      (grown_after limit before.journal after.journal (End turn outcome) ends.1) work (runs_as (world before) turn work is)
+      stops_it (world before) (world after) (turns_legal before.limits.journal (history_of before.journal) legal) turn outcome
+      (grown_after before.limits.journal before.journal after.journal (End turn outcome) ends.1) work (runs_as (world before) turn work is)
 
   ended_others : (n : ℕ) → (turn ≡ n → ⊥) → is_under_way (world after) n ≡ is_under_way (world before) n
   ended_others =
-      let limit = before.limits.journal in
-      stops_others limit (world before) (world after) (sound_legal limit (history_of before.journal) legal) (turns_legal limit (history_of before.journal) legal) turn outcome
-      (grown_after limit before.journal after.journal (End turn outcome) ends.1) work (runs_as (world before) turn work is)
+      stops_others (world before) (world after) (turns_legal before.limits.journal (history_of before.journal) legal) turn outcome
+      (grown_after before.limits.journal before.journal after.journal (End turn outcome) ends.1) work (runs_as (world before) turn work is)
 
   ended_objects : (n : ℕ) → has_object after n ≡ object_after work outcome (has_object before) n
   ended_objects =
-      let limit = before.limits.journal in
-      stops_objects limit (world before) (world after) (sound_legal limit (history_of before.journal) legal) (turns_legal limit (history_of before.journal) legal) turn outcome
-      (grown_after limit before.journal after.journal (End turn outcome) ends.1) work (runs_as (world before) turn work is)
+      stops_objects (world before) (world after) (turns_legal before.limits.journal (history_of before.journal) legal) turn outcome
+      (grown_after before.limits.journal before.journal after.journal (End turn outcome) ends.1) work (runs_as (world before) turn work is)
 
   pub ended_runs_no_more : running after turn ≡ None
-  ended_runs_no_more = ap (option_and_then (λ (i : Instance). option_map (work_for (world after) turn i) (last_callback i.word))) (none_found (has_turn turn) (world after).instances ended_it)
+  ended_runs_no_more = ap (option_and_then (λ (i : Instance). option_map (work_for (world after) turn i) (last_callback i.callbacks))) (none_found (has_turn turn) (all_instances (world after)) ended_it)
 
   pub ended_desk : {O : Type 0} (turns rest : List ℕ) (held kept : List (Held O)) (made destroyed : Bool)
       → ((n : ℕ) → tokens_of turns n ≡ tokens_of rest n + one_if (turn == n))

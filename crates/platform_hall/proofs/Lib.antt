@@ -6,6 +6,7 @@ pub mod Starts
 pub mod Stops
 pub mod Settlings
 pub mod Desks
+pub mod Taking
 pub mod Holders
 pub mod Draining
 pub mod Results

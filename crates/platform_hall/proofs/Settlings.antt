@@ -10,21 +10,21 @@ use Rattle.kind_trait.specs.Meanings.{Told}
 use Rattle.prop_map.specs.declared.properties.Property.{Property}
 use Rattle.turn_runner.specs.declared.turn_work.TurnWork.{TurnWork}
 use Rattle.turn_runner.specs.Turns.{Turn, Turns}
-use Rattle.first_core.specs.declared.command.Limits.{Limits}
-use Rattle.first_core.specs.declared.command.Step.{Step}
-use Rattle.first_core.specs.declared.command.Step.TheVariants.{End, Drained as DrainedStep}
-use Rattle.first_core.specs.declared.instance.Instance.{Instance}
-use Rattle.first_core.specs.Calls.{world_at}
-use Rattle.first_core.specs.Cores.{CoreView}
-use Rattle.first_core.specs.Dues.{due_in}
-use Rattle.first_core.specs.Instances.{has_turn}
-use Rattle.first_core.specs.Legal.{IsLegal}
-use Rattle.first_core.specs.Quiet.{IsQuiet, IsRight, are_plain}
-use Rattle.first_core.specs.Steps.{history_of}
-use Rattle.first_core.specs.Worlds.{World}
-use Rattle.first_core.proofs.Legality.{sound_legal}
-use Rattle.first_core.proofs.ListLemmas.{any_from}
-use Rattle.first_core.proofs.NoStuckState.{quiet_is_right}
+use Rattle.scr_world.specs.declared.command.Limits.{Limits}
+use Rattle.scr_world.specs.declared.step.Step.{Step}
+use Rattle.scr_world.specs.declared.step.Step.TheVariants.{End, Drained as DrainedStep}
+use Rattle.scr_world.specs.declared.instance.Instance.{Instance}
+use Rattle.scr_world.specs.Calls.{world_at}
+use Rattle.scr_core.specs.Cores.{CoreView}
+use Rattle.scr_world.specs.Dues.{due_in}
+use Rattle.scr_world.specs.Instances.{has_turn}
+use Rattle.scr_world.specs.Legal.{IsLegal}
+use Rattle.scr_rest.proofs.RightLaws.{quiet_is_right}
+use Rattle.scr_world.specs.Quiet.{IsQuiet, IsRight}
+use Rattle.scr_world.specs.Steps.{history_of}
+use Rattle.scr_world.specs.declared.world.World.{World}
+use Rattle.component_state.proofs.Apart.{any_from}
+use Rattle.scr_world.specs.Worlds.{all_instances}
 use Rattle.platform_hall.specs.Platforms.{Begins, Drained, Ends, Posts, Settles, has_drain, none_under_way, world}
 use Rattle.platform_hall.proofs.Lists.{any_none}
 use Rattle.platform_hall.proofs.Starts.{IsBegun, runs_as, takes_begun, takes_legal}
@@ -41,10 +41,10 @@ with_limits : (before after : CoreView) → after.limits ≡ before.limits → I
 with_limits before after same legal = subst (λ (l : Limits). IsLegal l.journal (history_of after.journal)) (sym same) legal
 
 pub begins_legal : (before after : CoreView) (work : TurnWork) → HasLegal before → Begins before work after → HasLegal after
-begins_legal before after work legal begins = with_limits before after begins.0 (takes_legal before.limits.journal before.journal after.journal work legal begins.1)
+begins_legal before after work legal begins = with_limits before after begins.0 (takes_legal before.limits.journal before.journal after.journal work legal begins.2)
 
 pub begins_as : (before after : CoreView) (work : TurnWork) → HasLegal before → Begins before work after → IsBegun (world before) work (world after)
-begins_as before after work legal begins = takes_begun before.limits.journal before.journal after.journal work legal begins.1
+begins_as before after work legal begins = takes_begun before.limits.journal before.journal after.journal work legal begins.1 begins.2
 
 pub ends_legal : (before after : CoreView) (turn : ℕ) (outcome : Outcome) → HasLegal before → Ends before turn outcome after → HasLegal after
 ends_legal before after turn outcome legal ends = with_limits before after ends.0 (grown_legal before.limits.journal before.journal after.journal (End turn outcome) legal ends.1)
@@ -69,18 +69,18 @@ posts_alike before after (same, count, posted) = drained_all before.limits.journ
 -- ---- no turn under way
 
 abbrev NoTurns : World → Type 0
-NoTurns w = (n : ℕ) → list_any (has_turn n) w.instances ≡ false
+NoTurns w = (n : ℕ) → list_any (has_turn n) (all_instances w) ≡ false
 
 none_to : (p : CoreView) → none_under_way p ≡ true → NoTurns (world p)
-none_to p none n = any_none (has_turn n) (world p).instances (λ i h its.
-    both_ways (list_any (λ (j : Instance). is_outstanding j.word) (world p).instances) (not-true _ none)
-    (any_from (λ (j : Instance). is_outstanding j.word) (world p).instances i h (and_parts (i.turn == n) (is_outstanding i.word) its).1))
+none_to p none n = any_none (has_turn n) (all_instances (world p)) (λ i h its.
+    both_ways (list_any (λ (j : Instance). is_outstanding j.callbacks) (all_instances (world p))) (not-true _ none)
+    (any_from (λ (j : Instance). is_outstanding j.callbacks) (all_instances (world p)) i h (and_parts (i.turn == n) (is_outstanding i.callbacks) its).1))
 
 none_from : (p : CoreView) → NoTurns (world p) → none_under_way p ≡ true
-none_from p none = not_from_false (list_any (λ (j : Instance). is_outstanding j.word) (world p).instances)
-    (any_none (λ (j : Instance). is_outstanding j.word) (world p).instances (λ i h out.
-    both_ways (list_any (has_turn i.turn) (world p).instances) (none i.turn)
-    (any_from (has_turn i.turn) (world p).instances i h (and_from (i.turn == i.turn) (is_outstanding i.word) (eq-eqb i.turn i.turn refl) out))))
+none_from p none = not_from_false (list_any (λ (j : Instance). is_outstanding j.callbacks) (all_instances (world p)))
+    (any_none (λ (j : Instance). is_outstanding j.callbacks) (all_instances (world p)) (λ i h out.
+    both_ways (list_any (has_turn i.turn) (all_instances (world p))) (none i.turn)
+    (any_from (has_turn i.turn) (all_instances (world p)) i h (and_from (i.turn == i.turn) (is_outstanding i.callbacks) (eq-eqb i.turn i.turn refl) out))))
 
 posts_none : (before after : CoreView) → NoTurns (world before) → Posts before after → NoTurns (world after)
 posts_none before after none posts n = (posts_alike before after posts).under_way n ∙ none n
@@ -90,15 +90,13 @@ ends_none : (before begun ended : CoreView) (work : TurnWork) (outcome : Outcome
 ends_none before begun ended work outcome legal none begins ends n =
     let is_begun = begins_as before begun work legal begins in
     let later = begins_legal before begun work legal begins in
-    let limit = begun.limits.journal in
-    let sound = sound_legal limit (history_of begun.journal) later in
-    let are = turns_legal limit (history_of begun.journal) later in
-    let grew = grown_after limit begun.journal ended.journal (End work.number outcome) ends.1 in
+    let are = turns_legal begun.limits.journal (history_of begun.journal) later in
+    let grew = grown_after begun.limits.journal begun.journal ended.journal (End work.number outcome) ends.1 in
     let runs = runs_as (world begun) work.number work is_begun.running in
     elim (cases_eq work.number n) [
-      | inl same ↦ ap (λ m. list_any (has_turn m) (world ended).instances) (sym same) ∙ stops_it limit (world begun) (world ended) sound are work.number outcome grew work runs
+      | inl same ↦ ap (λ m. list_any (has_turn m) (all_instances (world ended))) (sym same) ∙ stops_it (world begun) (world ended) are work.number outcome grew work runs
       | inr differ ↦
-          stops_others limit (world begun) (world ended) sound are work.number outcome grew work runs n differ
+          stops_others (world begun) (world ended) are work.number outcome grew work runs n differ
           ∙ is_begun.under_way n
           ∙ ap (λ b. b || (work.number == n)) (none n)
           ∙ ne_eqb work.number n differ
@@ -124,7 +122,7 @@ module _ (refuses : List ℕ → List Property → Told → Bool) where
   pub settled_quiet : (turns count : ℕ) (before after : CoreView) → HasLegal before → none_under_way before ≡ true → Settles refuses turns before (Ok count) after → IsQuiet (world after)
   settled_quiet turns count before after legal none settles = record {
     nothing_due = none_due (due_in (world after)) settles.2;
-    ended = not-true (list_any (λ (i : Instance). is_outstanding i.word) (world after).instances) (settled_ends turns count before after legal none settles);
+    ended = not-true (list_any (λ (i : Instance). is_outstanding i.callbacks) (all_instances (world after))) (settled_ends turns count before after legal none settles);
     drained = settles.3;
   }
     where
@@ -132,6 +130,7 @@ module _ (refuses : List ℕ → List Property → Told → Bool) where
       none_due None is = refl
       none_due (Some x) is = cc
 
-  pub settled_right : (turns count : ℕ) (before after : CoreView) → HasLegal before → none_under_way before ≡ true → Settles refuses turns before (Ok count) after → are_plain (world after) ≡ true → IsRight (world after)
-  settled_right turns count before after legal none settles plain =
-      quiet_is_right after.limits.journal (history_of after.journal) (settled_keeps turns count before after legal none settles).0 plain (settled_quiet turns count before after legal none settles)
+  -- what is quiet is right
+  pub settled_right : (turns count : ℕ) (before after : CoreView) → HasLegal before → none_under_way before ≡ true → Settles refuses turns before (Ok count) after → IsRight (world after)
+  settled_right turns count before after legal none settles =
+      quiet_is_right after.limits.journal (history_of after.journal) (settled_keeps turns count before after legal none settles).0 (settled_quiet turns count before after legal none settles)

@@ -1,16 +1,17 @@
 -- What an instance's callbacks say of its object: only the first one is a Create, so it has its object at every callback but that.
-use Rattle.std.proofs.Common.{◌≡◌, ◌<◌, List, [], ◌∷◌, ◌++◌, length, ap, sym, ◌∙◌, refl, Bool, true, false, ◌&&◌, ◌||◌, Option, Some, None, inl, inr, ◌⊎◌, arith}
-use Rattle.std.specs.Prelude.{not, is_none, is_some, if◌then◌else◌}
+use Rattle.std.proofs.Common.{◌≡◌, ◌<◌, List, [], ◌∷◌, ◌++◌, length, ap, sym, ◌∙◌, refl, Bool, true, false, ◌&&◌, Option, Some, None, inl, inr, ◌⊎◌, arith}
+use Rattle.std.specs.Prelude.{not, is_none, if◌then◌else◌}
 use Rattle.std.specs.List.{list_any}
-use Rattle.std.proofs.lemmas.Bool.{and_parts, and_from, or_parts, or_from, not-true}
+use Rattle.std.proofs.lemmas.Bool.{and_parts, and_from, or_parts, or_from}
 use Rattle.callback_orders.specs.declared.callback.Callback.{Callback}
 use Rattle.callback_orders.specs.declared.callback.Callback.TheVariants.{Create, Bind, Updated, Unbind, Activate, Modified, Deactivate, Destroy}
 use Rattle.callback_orders.specs.declared.callback.Outcome.{Outcome}
 use Rattle.callback_orders.specs.declared.callback.Outcome.TheVariants.{Done, Refused, NoMemory}
 use Rattle.callback_orders.specs.declared.word.Called.{Called}
-use Rattle.callback_orders.specs.Sequences.{active, active_by, alternate, begun, created, created_by, done_with, ended, have_ended, is_done, is_outstanding, is_over, is_sequence, leaving, leaving_by, making, making_by, one_at_a_time}
-use Rattle.first_core.specs.Instances.{ends_life, is_create, is_destroy}
-use Rattle.first_core.specs.TurnSteps.{last_callback}
+use Rattle.callback_orders.specs.Grammar.{is_create, is_destroy}
+use Rattle.callback_orders.specs.Lives.{goes_on, is_living}
+use Rattle.callback_orders.specs.Sequences.{active, active_by, alternate, begun, created, created_by, done_with, ended, is_done, is_outstanding, is_over, is_sequence, leaving, leaving_by, making, making_by, one_at_a_time}
+use Rattle.scr_world.specs.Instances.{last_callback}
 use Rattle.platform_hall.specs.Platforms.{is_made}
 
 -- ---- only the first callback is a Create
@@ -152,37 +153,13 @@ pub made_more : (calls : List Called) (callback : Callback) → 0 < length calls
 made_more [] callback some = absurd (omega arith)
 made_more (c ∷ calls) callback some = refl
 
--- what has ended isn't outstanding
-pub none_out : (calls : List Called) → have_ended calls ≡ true → is_outstanding calls ≡ false
-none_out [] ended = refl
-none_out (c ∷ []) ended = go c.outcome (and_parts (is_some c.outcome) true ended).0
-  where
-    go : (o : Option Outcome) → is_some o ≡ true → is_none o ≡ false
-    go None some = cc
-    go (Some x) some = refl
-none_out (c ∷ d ∷ rest) ended = none_out (d ∷ rest) (and_parts (is_some c.outcome) (have_ended (d ∷ rest)) ended).1
-
--- the last callback of those with one more
-pub last_more : (calls : List Called) (callback : Callback) → last_callback (calls ++ begun callback ∷ []) ≡ Some callback
-last_more [] callback = refl
-last_more (c ∷ []) callback = refl
-last_more (c ∷ d ∷ rest) callback = last_more (d ∷ rest) callback
-
-pub out_more : (calls : List Called) (callback : Callback) → is_outstanding (calls ++ begun callback ∷ []) ≡ true
-out_more [] callback = refl
-out_more (c ∷ []) callback = refl
-out_more (c ∷ d ∷ rest) callback = out_more (d ∷ rest) callback
-
 -- ---- the end of a turn
 
 -- an instance lives on, with its object, once its callback has ended
 abbrev pub keeps_object : Callback → Outcome → Bool
 keeps_object callback outcome = if is_create callback then is_done (Some outcome) else not (is_destroy callback)
 
-abbrev pub ends : List Called → Bool
-ends calls = list_any ends_life calls
-
-create_ends : (callback : Callback) (outcome : Outcome) → callback ≡ Create → (not (ends (done_with callback outcome ∷ [])) && is_made (done_with callback outcome ∷ [])) ≡ keeps_object callback outcome
+create_ends : (callback : Callback) (outcome : Outcome) → callback ≡ Create → (is_living (done_with callback outcome ∷ []) && is_made (done_with callback outcome ∷ [])) ≡ keeps_object callback outcome
 create_ends Create Done is = refl
 create_ends Create Refused is = refl
 create_ends Create NoMemory is = refl
@@ -195,48 +172,44 @@ create_ends Deactivate outcome is = cc
 create_ends Destroy outcome is = cc
 
 -- of callbacks other than Create, only a Destroy ends a life with its end
-last_ends : (callback : Callback) (outcome : Outcome) → is_create callback ≡ false → ends_life (done_with callback outcome) ≡ is_destroy callback
-last_ends Create outcome other = cc
-last_ends (Bind r s) outcome other = refl
-last_ends (Updated r s) outcome other = refl
-last_ends (Unbind r s) outcome other = refl
-last_ends Activate outcome other = refl
-last_ends Modified outcome other = refl
-last_ends Deactivate outcome other = refl
-last_ends Destroy outcome other = refl
+last_lives : (callback : Callback) (outcome : Outcome) → is_create callback ≡ false → goes_on callback (Some outcome) ≡ not (is_destroy callback)
+last_lives Create outcome other = cc
+last_lives (Bind r s) outcome other = refl
+last_lives (Updated r s) outcome other = refl
+last_lives (Unbind r s) outcome other = refl
+last_lives Activate outcome other = refl
+last_lives Modified outcome other = refl
+last_lives Deactivate outcome other = refl
+last_lives Destroy outcome other = refl
 
-later_ends : (calls : List Called) (callback : Callback) (outcome : Outcome) → ends calls ≡ false → creates calls ≡ false → last_callback calls ≡ Some callback → ends (ended outcome calls) ≡ is_destroy callback
-later_ends [] callback outcome lives none is = cc
-later_ends (c ∷ []) callback outcome lives none is =
+and_all : (b : Bool) → (b && true) ≡ b
+and_all true = refl
+and_all false = refl
+
+later_lives : (calls : List Called) (callback : Callback) (outcome : Outcome) → is_living calls ≡ true → creates calls ≡ false → last_callback calls ≡ Some callback → is_living (ended outcome calls) ≡ not (is_destroy callback)
+later_lives [] callback outcome lives none is = cc
+later_lives (c ∷ []) callback outcome lives none is =
     let same : c.callback ≡ callback = cc in
-    or_none (ends_life (done_with c.callback outcome))
-    ∙ ap (λ (x : Callback). ends_life (done_with x outcome)) same
-    ∙ last_ends callback outcome (ap is_create (sym same) ∙ (or_parts (is_create c.callback) false none).0)
-  where
-    or_none : (b : Bool) → (b || false) ≡ b
-    or_none true = refl
-    or_none false = refl
-later_ends (c ∷ d ∷ rest) callback outcome lives none is =
-    ap (λ b. b || ends (ended outcome (d ∷ rest))) (or_parts (ends_life c) (ends (d ∷ rest)) lives).0
-    ∙ later_ends (d ∷ rest) callback outcome (or_parts (ends_life c) (ends (d ∷ rest)) lives).1 (or_parts (is_create c.callback) (creates (d ∷ rest)) none).1 is
+    and_all (goes_on c.callback (Some outcome))
+    ∙ ap (λ (x : Callback). goes_on x (Some outcome)) same
+    ∙ last_lives callback outcome (ap is_create (sym same) ∙ (or_parts (is_create c.callback) false none).0)
+later_lives (c ∷ d ∷ rest) callback outcome lives none is =
+    ap (λ b. b && is_living (ended outcome (d ∷ rest))) (and_parts (goes_on c.callback c.outcome) (is_living (d ∷ rest)) lives).0
+    ∙ later_lives (d ∷ rest) callback outcome (and_parts (goes_on c.callback c.outcome) (is_living (d ∷ rest)) lives).1 (or_parts (is_create c.callback) (creates (d ∷ rest)) none).1 is
 
-pub ended_keeps : (calls : List Called) (callback : Callback) (outcome : Outcome) → is_sequence calls ≡ true → not (ends calls) ≡ true → last_callback calls ≡ Some callback
-    → (not (ends (ended outcome calls)) && is_made (ended outcome calls)) ≡ keeps_object callback outcome
+pub ended_keeps : (calls : List Called) (callback : Callback) (outcome : Outcome) → is_sequence calls ≡ true → is_living calls ≡ true → last_callback calls ≡ Some callback
+    → (is_living (ended outcome calls) && is_made (ended outcome calls)) ≡ keeps_object callback outcome
 ended_keeps [] callback outcome order lives is = cc
 ended_keeps (c ∷ []) callback outcome order lives is =
     let same : c.callback ≡ callback = cc in
     create_ends c.callback outcome (first_creates c [] order) ∙ ap (λ (x : Callback). keeps_object x outcome) same
 ended_keeps (c ∷ d ∷ rest) callback outcome order lives is =
     let first = first_done c d rest order in
-    let alive = or_parts (ends_life c) (ends (d ∷ rest)) (not-true (ends (c ∷ d ∷ rest)) lives) in
+    let alive = and_parts (goes_on c.callback c.outcome) (is_living (d ∷ rest)) lives in
     let its = and_from (is_create c.callback) (is_done c.outcome) (ap is_create (first_creates c (d ∷ rest) order)) first.0 in
     let other = last_is_none is_create (d ∷ rest) callback first.1 is in
-    ap (λ b. not (b || ends (ended outcome (d ∷ rest))) && (is_create c.callback && is_done c.outcome)) alive.0
-    ∙ ap (λ b. not b && (is_create c.callback && is_done c.outcome)) (later_ends (d ∷ rest) callback outcome alive.1 first.1 is)
+    ap (λ b. (b && is_living (ended outcome (d ∷ rest))) && (is_create c.callback && is_done c.outcome)) alive.0
+    ∙ ap (λ b. b && (is_create c.callback && is_done c.outcome)) (later_lives (d ∷ rest) callback outcome alive.1 first.1 is)
     ∙ ap (λ b. not (is_destroy callback) && b) its
     ∙ and_all (not (is_destroy callback))
     ∙ sym (ap (λ b. if b then is_done (Some outcome) else not (is_destroy callback)) other)
-  where
-    and_all : (b : Bool) → (b && true) ≡ b
-    and_all true = refl
-    and_all false = refl

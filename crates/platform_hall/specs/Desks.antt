@@ -2,9 +2,9 @@
 use Rattle.std.specs.Prelude.{◌≡◌, ℕ, ◌==◌, List, Bool, count_by}
 use Rattle.std.specs.List.{list_any}
 use Rattle.platform_hall.specs.declared.held.Held.{Held}
-use Rattle.first_core.specs.Cores.{CoreView}
-use Rattle.first_core.specs.Legal.{is_under_way}
-use Rattle.first_core.specs.Room.{one_if}
+use Rattle.scr_core.specs.Cores.{CoreView}
+use Rattle.scr_world.specs.Legal.{is_under_way}
+use Rattle.scr_world.specs.Room.{one_if}
 use Rattle.platform_hall.specs.Platforms.{has_object, world}
 
 -- how many tokens are of this turn

@@ -1,31 +1,32 @@
 -- What the calls of a platform do: the platform before and after, as contracts see it. Our own; callbacks and their outcomes are OSGi
 -- Compendium 8, chapter 112, component life cycle.
-use Rattle.std.specs.Prelude.{◌≡◌, ℕ, zero, suc, ◌==◌, ◌&&◌, List, [], ◌∷◌, Bool, true, false, not, Option, Some, None, is_some, Result, Ok, Err, ◌⊎◌}
+use Rattle.std.specs.Prelude.{◌≡◌, ℕ, zero, suc, ◌+◌, ◌==◌, ◌&&◌, List, [], ◌∷◌, Bool, true, false, not, Option, Some, None, is_some, Result, Ok, Err, ◌⊎◌}
 use Rattle.std.specs.List.{list_any}
 use Rattle.std.specs.Option.{option_map_or}
 use Rattle.callback_orders.specs.declared.callback.Outcome.{Outcome}
 use Rattle.callback_orders.specs.declared.word.Called.{Called}
+use Rattle.callback_orders.specs.Grammar.{is_create}
 use Rattle.callback_orders.specs.Sequences.{is_done, is_outstanding}
 use Rattle.journal_core.specs.declared.entry.Entry.{Entry}
 use Rattle.journal_core.specs.declared.entry.GateKey.{GateKey}
 use Rattle.kind_trait.specs.Meanings.{Told}
 use Rattle.prop_map.specs.declared.properties.Property.{Property}
-use Rattle.first_core.specs.declared.command.Accepted.{Accepted}
-use Rattle.first_core.specs.declared.command.Command.{Command}
-use Rattle.first_core.specs.declared.command.CoreFault.{CoreFault}
-use Rattle.first_core.specs.declared.command.CoreFault.TheVariants.{JournalFull, OutOfMemory}
-use Rattle.first_core.specs.declared.command.Reply.{Reply}
-use Rattle.first_core.specs.declared.command.Step.{Step}
-use Rattle.first_core.specs.declared.command.Step.TheVariants.{End}
-use Rattle.first_core.specs.declared.instance.Instance.{Instance}
-use Rattle.first_core.specs.Calls.{Commands, Drains, Grown, Takes, world_at}
-use Rattle.first_core.specs.Cores.{CoreView}
-use Rattle.first_core.specs.Dues.{due_in, next_begin}
-use Rattle.first_core.specs.Instances.{is_create}
-use Rattle.first_core.specs.Legal.{awaits_drain}
-use Rattle.first_core.specs.Room.{has_room as has_room_for, needed_by}
-use Rattle.first_core.specs.TurnSteps.{work_under_way}
-use Rattle.first_core.specs.Worlds.{World}
+use Rattle.scr_world.specs.declared.reply.Accepted.{Accepted}
+use Rattle.scr_world.specs.declared.command.Command.{Command}
+use Rattle.scr_world.specs.declared.reply.CoreFault.{CoreFault}
+use Rattle.scr_world.specs.declared.reply.CoreFault.TheVariants.{JournalFull, OutOfMemory}
+use Rattle.scr_world.specs.declared.reply.Reply.{Reply}
+use Rattle.scr_world.specs.declared.step.Step.{Step}
+use Rattle.scr_world.specs.declared.step.Step.TheVariants.{End}
+use Rattle.scr_world.specs.declared.instance.Instance.{Instance}
+use Rattle.scr_world.specs.Calls.{Commands, Drains, Grown, Takes, world_at}
+use Rattle.scr_core.specs.Cores.{CoreView}
+use Rattle.scr_world.specs.Dues.{due_in, next_begin}
+use Rattle.scr_world.specs.Legal.{awaits_drain}
+use Rattle.scr_world.specs.Room.{has_room as has_room_for, needed_by}
+use Rattle.scr_world.specs.TurnSteps.{work_under_way}
+use Rattle.scr_world.specs.declared.world.World.{World}
+use Rattle.scr_world.specs.Worlds.{all_instances}
 use Rattle.turn_runner.specs.declared.settle_fault.SettleFault.{SettleFault}
 use Rattle.turn_runner.specs.declared.turn_work.TurnWork.{TurnWork}
 use Rattle.turn_runner.specs.Outcomes.{IsOutcome, is_refused}
@@ -58,13 +59,13 @@ abbrev pub is_made : List Called → Bool
 is_made [] = false
 is_made (c ∷ calls) = is_create c.callback && is_done c.outcome
 
--- a living instance has its object from the end of its Create on
+-- a living instance has its object from the end of its Create on; that of the whiteboard has none
 abbrev pub has_object : CoreView → ℕ → Bool
-has_object p instance = list_any (λ (i : Instance). (i.number == instance) && is_made i.word) (world p).instances
+has_object p instance = list_any (λ (i : Instance). (i.number == instance) && is_made i.callbacks) (world p).instances
 
--- the first due turn begins: the journal has grown by its beginning
+-- the first due turn begins, with the next number: the journal has grown by its beginning
 abbrev pub Begins : CoreView → TurnWork → CoreView → Type 0
-Begins before work after = (after.limits ≡ before.limits) × Takes before.limits.journal before.journal work after.journal
+Begins before work after = (after.limits ≡ before.limits) × (work.number ≡ (world before).turns_begun + 1) × Takes before.limits.journal before.journal work after.journal
 
 -- the turn of a number ends: the journal has grown by its end
 abbrev pub Ends : CoreView → ℕ → Outcome → CoreView → Type 0
@@ -119,6 +120,6 @@ FinishesTurn refuses before turn (Ok outcome) after = Finishes refuses before tu
 FinishesTurn refuses before turn (Err NoTurn) after = (running before turn ≡ None) × (after ≡ before)
 FinishesTurn refuses before turn (Err NoMemory) after = (after ≡ before) ⊎ ((outcome : Outcome) × Finishes refuses before turn outcome after)
 
--- no turn is under way
+-- no turn is under way, of the whiteboard's instance neither
 abbrev pub none_under_way : CoreView → Bool
-none_under_way p = not (list_any (λ (i : Instance). is_outstanding i.word) (world p).instances)
+none_under_way p = not (list_any (λ (i : Instance). is_outstanding i.callbacks) (all_instances (world p)))

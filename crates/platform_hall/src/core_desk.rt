@@ -1,16 +1,17 @@
 //! The desk of a platform: turns come from its core and go back to it.
 ghost use Rattle.platform_hall.specs.Platforms.{Begins, CoreTakes, Ends, Posts, has_drain, has_due, has_object, has_room, running, world};
-ghost use Rattle.first_core.specs.declared.command.CoreFault.TheVariants.{OutOfMemory as NoMemory};
-ghost use Rattle.first_core.specs.Legal.{IsLegal};
-ghost use Rattle.first_core.specs.Steps.{history_of};
+ghost use Rattle.scr_world.specs.declared.reply.CoreFault.TheVariants.{OutOfMemory as NoMemory};
+ghost use Rattle.scr_core.specs.Cores.{AreWithinGreatest};
+ghost use Rattle.scr_world.specs.Legal.{IsLegal};
+ghost use Rattle.scr_world.specs.Steps.{history_of};
 ghost use Rattle.std.specs.Prelude.{◌≡◌, ℕ, [], Some, None, false, is_some, IfOk, IfErr, OnErr, OnOk};
 ghost use Rattle.turn_runner.specs.Outcomes.{IsRunOf, has_object_after, is_destroy_of, needs_object};
 
 use crate::drains::post_drains;
 use crate::held::Held;
 use crate::tokens::{held_object, is_destroy, keep, take_out};
-use first_core::{Accepted, Command, Core, CoreFault, Limits, Taken, Turn};
 use prop_map::OutOfMemory;
+use scr_core::{Accepted, Command, Core, CoreFault, Limits, Taken, Turn};
 use std::alloc::{AllocError, Global};
 use std::marker::Model;
 use std::sync::Arc;
@@ -26,9 +27,13 @@ pub(crate) struct CoreDesk<O> {
 
 impl<O> Model for CoreDesk<O> {
     ghost use Rattle.platform_hall.specs.Desks.{IsDesk};
-    ghost use Rattle.first_core.specs.Cores.{CoreView};
+    ghost use Rattle.scr_core.specs.Cores.{CoreView};
+    ghost use Rattle.std.specs.Coded.{codes};
+    ghost use Rattle.ldap_filter.specs.TreeCodes.{tree_code};
 
     ghost Value = { CoreView };
+
+    ghost coded = { Prim.hlevel (codes, tree_code) };
 
     ghost view = { λ d. d.core };
 
@@ -37,6 +42,7 @@ impl<O> Model for CoreDesk<O> {
 
 impl<O: Drop> CoreDesk<O> {
     pub(crate) fn new(alloc: Global, limits: Limits) -> Result<CoreDesk<O>, CoreFault>
+        requires within { AreWithinGreatest limits }
         ensures ok { IfOk result (λ desk. desk ≡ record { limits = limits; journal = [] }) }
         ensures err { IfErr result (λ fault. fault ≡ NoMemory) }
     {

@@ -2,8 +2,8 @@
 ghost use Rattle.platform_hall.specs.Platforms.{Posts, has_drain};
 ghost use Rattle.std.specs.Prelude.{◌≡◌, false, OnOk};
 
-use first_core::Core;
 use prop_map::OutOfMemory;
+use scr_core::Core;
 use std::alloc::Global;
 
 // Posts the drains that are awaited.

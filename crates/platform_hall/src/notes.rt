@@ -2,10 +2,10 @@
 ghost use Rattle.kind_trait.specs.Meanings.{Told};
 ghost use Rattle.platform_hall.specs.Platforms.{Settles, none_under_way, world};
 ghost use Rattle.prop_map.specs.declared.properties.Property.{Property};
-ghost use Rattle.first_core.specs.Cores.{CoreView};
-ghost use Rattle.first_core.specs.Legal.{IsLegal};
-ghost use Rattle.first_core.specs.Quiet.{IsQuiet, IsRight, are_plain};
-ghost use Rattle.first_core.specs.Steps.{history_of};
+ghost use Rattle.scr_core.specs.Cores.{CoreView};
+ghost use Rattle.scr_world.specs.Legal.{IsLegal};
+ghost use Rattle.scr_world.specs.Quiet.{IsQuiet, IsRight};
+ghost use Rattle.scr_world.specs.Steps.{history_of};
 ghost use Rattle.std.specs.Prelude.{◌≡◌, ℕ, Bool, List, Ok, true};
 
 /// For contracts alone: a settling that is over ends each turn that it begins, so where no turn was under way before, none is
@@ -14,9 +14,8 @@ pub fn note_turns_end()
     ensures { (refuses : List ℕ → List Property → Told → Bool) → (turns count : ℕ) → (before after : CoreView) → IsLegal before.limits.journal (history_of before.journal) → none_under_way before ≡ true → Settles refuses turns before (Ok count) after → none_under_way after ≡ true }
 {}
 
-/// For contracts alone: once a settling is over and no turn was under way before it, the journal is quiet, and where each
-/// description is plain it is right.
+/// For contracts alone: once a settling is over and no turn was under way before it, the journal is quiet and right.
 pub fn note_rest()
     ensures quiet { (refuses : List ℕ → List Property → Told → Bool) → (turns count : ℕ) → (before after : CoreView) → IsLegal before.limits.journal (history_of before.journal) → none_under_way before ≡ true → Settles refuses turns before (Ok count) after → IsQuiet (world after) }
-    ensures right { (refuses : List ℕ → List Property → Told → Bool) → (turns count : ℕ) → (before after : CoreView) → IsLegal before.limits.journal (history_of before.journal) → none_under_way before ≡ true → Settles refuses turns before (Ok count) after → are_plain (world after) ≡ true → IsRight (world after) }
+    ensures right { (refuses : List ℕ → List Property → Told → Bool) → (turns count : ℕ) → (before after : CoreView) → IsLegal before.limits.journal (history_of before.journal) → none_under_way before ≡ true → Settles refuses turns before (Ok count) after → IsRight (world after) }
 {}

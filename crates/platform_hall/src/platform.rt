@@ -1,15 +1,16 @@
 //! The platform.
 ghost use Rattle.std.specs.Prelude.{◌≡◌, [], IfOk, IfErr};
-ghost use Rattle.first_core.specs.declared.command.CoreFault.TheVariants.{OutOfMemory};
-ghost use Rattle.first_core.specs.Legal.{IsLegal};
-ghost use Rattle.first_core.specs.Steps.{history_of};
+ghost use Rattle.scr_world.specs.declared.reply.CoreFault.TheVariants.{OutOfMemory};
+ghost use Rattle.scr_core.specs.Cores.{AreWithinGreatest};
+ghost use Rattle.scr_world.specs.Legal.{IsLegal};
+ghost use Rattle.scr_world.specs.Steps.{history_of};
 ghost use Rattle.platform_hall.specs.Platforms.{BeginsTurn, FinishesTurn, Settles, TakesCommand};
 
 use crate::FinishFault;
 use crate::core_desk::CoreDesk;
 use callback_orders::Outcome;
-use first_core::{Command, Core, CoreFault, Limits, Reply};
 use kind_trait::Kinds;
+use scr_core::{Command, Core, CoreFault, Limits, Reply};
 use std::alloc::Global;
 use std::marker::Model;
 use turn_runner::{Desk, DeskFault, SettleFault, run_shared, settle};
@@ -24,19 +25,25 @@ pub struct Platform<K: Kinds> {
 }
 
 impl<K: Kinds> Model for Platform<K> {
-    ghost use Rattle.first_core.specs.Cores.{CoreView};
+    ghost use Rattle.scr_core.specs.Cores.{CoreView};
+    ghost use Rattle.std.specs.Coded.{codes};
+    ghost use Rattle.ldap_filter.specs.TreeCodes.{tree_code};
 
     ghost Value = { CoreView };
+
+    ghost coded = { Prim.hlevel (codes, tree_code) };
 
     ghost view = { λ p. p.desk };
 }
 
 impl<K: Kinds + Drop> Platform<K> {
-    /// A platform with an empty journal over this component code.
+    /// A platform with an empty journal over this component code. The limits have to be at most 4,194,304 entries and 1,000,000
+    /// turns.
     ///
     /// # Errors
     /// Only want of memory.
     pub fn new(alloc: Global, kinds: K, limits: Limits) -> Result<Platform<K>, CoreFault>
+        requires within { AreWithinGreatest limits }
         ensures ok { IfOk result (λ platform. platform ≡ record { limits = limits; journal = [] }) }
         ensures err { IfErr result (λ fault. fault ≡ OutOfMemory) }
     {
@@ -49,7 +56,7 @@ impl<K: Kinds + Drop> Platform<K> {
     /// Takes a command, answers as the core does, and posts the drains of the gates that are shut.
     ///
     /// # Errors
-    /// Those of [`first_core::Core::command`]. A refused command leaves all as it was, but for want of memory, which may also leave the
+    /// Those of [`scr_core::Core::command`]. A refused command leaves all as it was, but for want of memory, which may also leave the
     /// command's entry and some of the drains.
     pub fn command(&mut self, alloc: Global, command: Command) -> Result<Reply, CoreFault>
         ensures { TakesCommand self.old command result self.new }

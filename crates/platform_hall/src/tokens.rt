@@ -1,12 +1,12 @@
 //! What a desk keeps: the tokens of turns, and the objects of instances.
 ghost use Rattle.platform_hall.specs.Desks.{is_holder, tokens_of};
-ghost use Rattle.first_core.specs.Room.{one_if};
+ghost use Rattle.scr_world.specs.Room.{one_if};
 ghost use Rattle.std.specs.Prelude.{◌≡◌, ◌==◌, ◌<◌, ◌+◌, ◌&&◌, ◌||◌, ℕ, not, is_some, MatchOption, vec_len, vec_capacity, filter, length, slice_index};
 ghost use Rattle.turn_runner.specs.Outcomes.{is_destroy};
 
 use crate::held::Held;
 use callback_orders::Callback;
-use first_core::Turn;
+use scr_core::Turn;
 use std::sync::Arc;
 
 // The place of a token of this turn, of which there is one.

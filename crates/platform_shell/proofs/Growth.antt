@@ -9,31 +9,33 @@ use Rattle.callback_orders.specs.declared.callback.Outcome.{Outcome}
 use Rattle.journal_core.specs.declared.entry.Entry.{Entry}
 use Rattle.kind_trait.specs.Meanings.{Told}
 use Rattle.prop_map.specs.declared.properties.Property.{Property}
-use Rattle.first_core.specs.declared.command.Command.{Command}
-use Rattle.first_core.specs.declared.command.CoreFault.{CoreFault}
-use Rattle.first_core.specs.declared.command.CoreFault.TheVariants.{NoBundle, NoComponent, Stopping, Cycle, BundlesFull, ComponentsFull, JournalFull as InCore, OutOfMemory as NoMemory}
-use Rattle.first_core.specs.declared.command.Limits.{Limits}
-use Rattle.first_core.specs.declared.command.Reply.{Reply}
-use Rattle.first_core.specs.declared.command.Step.{Step}
-use Rattle.first_core.specs.declared.command.Step.TheVariants.{Command as Stepped, Begin, End, Drained as DrainStep}
-use Rattle.first_core.specs.Calls.{Grown, GrownIf}
-use Rattle.first_core.specs.Cores.{CoreView}
-use Rattle.first_core.specs.Legal.{IsLegal}
-use Rattle.first_core.specs.Replies.{answer, changes, has_effect, refusal, refuse_if, reply}
-use Rattle.first_core.specs.Room.{has_room}
-use Rattle.first_core.specs.Steps.{history_of}
-use Rattle.first_core.specs.TurnSteps.{work_of}
-use Rattle.first_core.specs.Worlds.{World}
+use Rattle.scr_world.specs.declared.command.Command.{Command}
+use Rattle.scr_world.specs.declared.reply.CoreFault.{CoreFault}
+use Rattle.scr_world.specs.declared.reply.CoreFault.TheVariants.{JournalFull as InCore, OutOfMemory as NoMemory}
+use Rattle.scr_world.specs.declared.command.Limits.{Limits}
+use Rattle.scr_world.specs.declared.reply.Reply.{Reply}
+use Rattle.scr_world.specs.declared.step.Step.{Step}
+use Rattle.scr_world.specs.declared.step.Step.TheVariants.{Command as Stepped, Begin, End, Drained as DrainStep, Got, Released}
+use Rattle.scr_world.specs.Calls.{Grown, GrownIf}
+use Rattle.scr_core.specs.Cores.{CoreView}
+use Rattle.scr_world.specs.Legal.{IsLegal}
+use Rattle.scr_world.specs.Refusals.{refusal, refuse_if}
+use Rattle.scr_world.specs.Replies.{answer, changes, has_effect, reply}
+use Rattle.scr_world.specs.Room.{has_room}
+use Rattle.scr_world.specs.Steps.{history_of}
+use Rattle.scr_world.specs.declared.world.World.{World}
 use Rattle.turn_runner.specs.declared.settle_fault.SettleFault.{SettleFault}
 use Rattle.turn_runner.specs.declared.settle_fault.SettleFault.TheVariants.{Unsettled, JournalFull, OutOfMemory}
 use Rattle.turn_runner.specs.declared.turn_work.TurnWork.{TurnWork}
 use Rattle.turn_runner.specs.Turns.{Ends as EndsTurn, IsCutOff, Settles as SettlesBy, Turns}
 use Rattle.platform_hall.specs.Platforms.{Accepts, Begins, Drained, Ends, Posts, Settles, TakesCommand, has_drain, world}
+use Rattle.platform_hall.proofs.Turns.{begins_next, is_begin}
 use Rattle.platform_shell.specs.Asks.{changed}
 use Rattle.platform_shell.specs.Runs.{Grew, command_in, commands_in}
+use Rattle.platform_shell.proofs.Refusals.{refused_keeps}
 
 -- a history grows at its front
-pub history_more : (journal : List (Entry Step)) (entry : Entry Step) → history_of (journal ++ entry ∷ []) ≡ entry ∷ history_of journal
+history_more : (journal : List (Entry Step)) (entry : Entry Step) → history_of (journal ++ entry ∷ []) ≡ entry ∷ history_of journal
 history_more journal entry = reverse-append journal (entry ∷ [])
 
 -- nothing happened
@@ -128,25 +130,21 @@ grew_refused before after command fault same is still =
 -- a command that is answered
 pub grew_takes : (before after : CoreView) (command : Command) (said : Result Reply CoreFault) → TakesCommand before command said after → (said ≡ Err NoMemory → ⊥) → Grew before after (changed before command)
 grew_takes before after command (Ok said) (accepts, none) told = grew_accepts before after command said accepts
-grew_takes before after command (Err (NoBundle bundle)) (same, (is, still)) told = grew_refused before after command (NoBundle bundle) same is still
-grew_takes before after command (Err (NoComponent name)) (same, (is, still)) told = grew_refused before after command (NoComponent name) same is still
-grew_takes before after command (Err (Stopping instance)) (same, (is, still)) told = grew_refused before after command (Stopping instance) same is still
-grew_takes before after command (Err (Cycle path)) (same, ((is, tells), still)) told = grew_refused before after command (Cycle []) same is still
-grew_takes before after command (Err BundlesFull) (same, (is, still)) told = grew_refused before after command BundlesFull same is still
-grew_takes before after command (Err ComponentsFull) (same, (is, still)) told = grew_refused before after command ComponentsFull same is still
-grew_takes before after command (Err InCore) (same, (is, still)) told = grew_refused before after command InCore same is still
-grew_takes before after command (Err NoMemory) ran told = absurd (told refl)
+grew_takes before after command (Err fault) takes told =
+    let refused = refused_keeps before after command fault (λ is. told (ap (λ (f : CoreFault). Err f) is)) takes in grew_refused before after command refused.0 refused.1 refused.2 refused.3
 
 -- a step that begins a turn is no command
-no_command : (w : World) (step : Step) (work : TurnWork) → work_of w step ≡ Some work → command_in step ≡ []
-no_command w (Stepped command) work is = absurd cc
-no_command w (Begin turn instance configuration consumer callback chosen) work is = refl
-no_command w (End turn outcome) work is = refl
-no_command w (DrainStep instance) work is = refl
+no_command : (step : Step) → is_begin step ≡ true → command_in step ≡ []
+no_command (Stepped command) is = absurd cc
+no_command (Begin turn instance configuration consumer callback chosen) is = refl
+no_command (End turn outcome) is = refl
+no_command (DrainStep instance) is = refl
+no_command (Got bundle service) is = refl
+no_command (Released place) is = refl
 
 -- the beginning of a turn
 pub grew_begins : (before after : CoreView) (work : TurnWork) → Begins before work after → Grew before after []
-grew_begins before after work (same, (step, next, is, grown)) = grew_step before after step [] same grown (no_command (world before) step work is)
+grew_begins before after work (same, number, (step, next, is, grown)) = grew_step before after step [] same grown (no_command step (begins_next (world before) step next))
 
 -- its end
 pub grew_ends : (before after : CoreView) (turn : ℕ) (outcome : Outcome) → Ends before turn outcome after → Grew before after []

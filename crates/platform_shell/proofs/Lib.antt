@@ -5,8 +5,6 @@ pub mod Growth
 pub mod LineGrowth
 pub mod Refusals
 pub mod Resting
-pub mod PlainDocuments
-pub mod Plain
 pub mod Progress
 pub mod Reached
 pub mod EndingLemmas

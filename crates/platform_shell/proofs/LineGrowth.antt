@@ -6,17 +6,17 @@ use Rattle.callback_orders.specs.declared.callback.Outcome.{Outcome}
 use Rattle.callback_orders.specs.declared.callback.Outcome.TheVariants.{NoMemory as Wanting}
 use Rattle.kind_trait.specs.Meanings.{Told}
 use Rattle.prop_map.specs.declared.properties.Property.{Property}
-use Rattle.first_core.specs.declared.command.Command.{Command}
-use Rattle.first_core.specs.declared.command.CoreFault.{CoreFault}
-use Rattle.first_core.specs.declared.command.CoreFault.TheVariants.{OutOfMemory as NoMemory}
-use Rattle.first_core.specs.declared.command.Reply.{Reply}
-use Rattle.first_core.specs.Cores.{CoreView}
+use Rattle.scr_world.specs.declared.command.Command.{Command}
+use Rattle.scr_world.specs.declared.reply.CoreFault.{CoreFault}
+use Rattle.scr_world.specs.declared.reply.CoreFault.TheVariants.{OutOfMemory as NoMemory}
+use Rattle.scr_world.specs.declared.reply.Reply.{Reply}
+use Rattle.scr_core.specs.Cores.{CoreView}
 use Rattle.turn_runner.specs.declared.settle_fault.SettleFault.{SettleFault}
 use Rattle.turn_runner.specs.declared.settle_fault.SettleFault.TheVariants.{Unsettled as StillDue, JournalFull as NoRoom, OutOfMemory}
 use Rattle.platform_hall.specs.declared.finish_fault.FinishFault.{FinishFault}
 use Rattle.platform_hall.specs.declared.finish_fault.FinishFault.TheVariants.{NoTurn as NoSuchTurn, OutOfMemory as NoMemoryLeft}
 use Rattle.platform_hall.specs.Platforms.{BeginsTurn, Finishes, FinishesTurn}
-use Rattle.shell_lang.specs.declared.shell_line.ShellLine.TheVariants.{Silent, Quit, Command as Commanded, Components, Held, Trace, Settle, Begin, Finish}
+use Rattle.shell_lang.specs.declared.shell_line.ShellLine.TheVariants.{Silent, Quit, Command as Commanded, Bundles, Services, Components, Held, Find, Events, BundleEvents, Trace, Settle, Begin, Finish}
 use Rattle.shell_lang.specs.declared.shell_reply.ShellReply.{ShellReply}
 use Rattle.shell_lang.specs.ShellLines.{Asked, shell_line}
 use Rattle.platform_shell.specs.declared.status.Status.{Status}
@@ -53,8 +53,13 @@ pub grew_asks : (s : Setting) (asked : Asked) (before after : CoreView) (told : 
 grew_asks s (Ok Silent) before after told (none, same) = grew_not before after same
 grew_asks s (Ok Quit) before after told (none, same) = grew_not before after same
 grew_asks s (Ok (Commanded command)) before after told (said, is, (answer, takes, tells, replied)) = grew_takes before after command answer takes (answered answer tells)
+grew_asks s (Ok Bundles) before after told (is, same) = grew_not before after same
+grew_asks s (Ok Services) before after told (is, same) = grew_not before after same
 grew_asks s (Ok Components) before after told (is, same) = grew_not before after same
 grew_asks s (Ok (Held configuration)) before after told (said, is, (answer, held, tells, replied, same)) = grew_not before after same
+grew_asks s (Ok (Find tree)) before after told (is, same) = grew_not before after same
+grew_asks s (Ok (Events listener number)) before after told (is, same) = grew_not before after same
+grew_asks s (Ok (BundleEvents number)) before after told (is, same) = grew_not before after same
 grew_asks s (Ok (Trace number)) before after told (is, same) = grew_not before after same
 grew_asks s (Ok Settle) before after told (said, is, (count, settles, replied)) = grew_settled s.refuses before.limits.turns before after (Ok count) settles
 grew_asks s (Ok Begin) before after told (said, is, asked) =
@@ -96,8 +101,13 @@ grew_cut_asked : (s : Setting) (asked : Asked) (fault : SettleFault) (before aft
 grew_cut_asked s (Ok Silent) fault before after commands (is, (same, none)) = grew_none before after commands none (grew_not before after same)
 grew_cut_asked s (Ok Quit) fault before after commands (is, (same, none)) = grew_none before after commands none (grew_not before after same)
 grew_cut_asked s (Ok (Commanded command)) fault before after commands cut = grew_cut_command command fault before after commands cut
+grew_cut_asked s (Ok Bundles) fault before after commands (is, (same, none)) = grew_none before after commands none (grew_not before after same)
+grew_cut_asked s (Ok Services) fault before after commands (is, (same, none)) = grew_none before after commands none (grew_not before after same)
 grew_cut_asked s (Ok Components) fault before after commands (is, (same, none)) = grew_none before after commands none (grew_not before after same)
 grew_cut_asked s (Ok (Held configuration)) fault before after commands (is, (same, none)) = grew_none before after commands none (grew_not before after same)
+grew_cut_asked s (Ok (Find tree)) fault before after commands (is, (same, none)) = grew_none before after commands none (grew_not before after same)
+grew_cut_asked s (Ok (Events listener number)) fault before after commands (is, (same, none)) = grew_none before after commands none (grew_not before after same)
+grew_cut_asked s (Ok (BundleEvents number)) fault before after commands (is, (same, none)) = grew_none before after commands none (grew_not before after same)
 grew_cut_asked s (Ok (Trace number)) fault before after commands (is, (same, none)) = grew_none before after commands none (grew_not before after same)
 grew_cut_asked s (Ok Settle) fault before after commands (cut, none) = grew_none before after commands none (grew_settled s.refuses before.limits.turns before after (Err fault) cut)
 grew_cut_asked s (Ok Begin) fault before after commands (manual, cut, none) = grew_none before after commands none (grew_cut_begin fault before after cut)

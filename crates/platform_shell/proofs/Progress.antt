@@ -6,12 +6,11 @@ use Rattle.std.specs.declared.option.Option.{Option}
 use Rattle.std.specs.Io.KnownBytes.{Appends}
 use Rattle.std.proofs.KnownBytes.{Appends-trans, Appends-nil}
 use Rattle.fault_count.specs.Steps.{next_count}
-use Rattle.first_core.specs.declared.command.Command.{Command}
-use Rattle.first_core.specs.Cores.{CoreView}
-use Rattle.first_core.specs.Quiet.{are_plain}
+use Rattle.scr_world.specs.declared.command.Command.{Command}
+use Rattle.scr_core.specs.Cores.{CoreView}
 use Rattle.turn_runner.specs.declared.settle_fault.SettleFault.{SettleFault}
 use Rattle.turn_runner.specs.declared.settle_fault.SettleFault.TheVariants.{Unsettled as StillDue, JournalFull as NoRoom, OutOfMemory}
-use Rattle.platform_hall.specs.Platforms.{none_under_way, world}
+use Rattle.platform_hall.specs.Platforms.{none_under_way}
 use Rattle.shell_lang.specs.declared.shell_reply.ShellReply.{ShellReply}
 use Rattle.shell_lang.specs.ReplyTexts.{reply_text}
 use Rattle.shell_lang.specs.ShellLines.{shell_line, is_quit}
@@ -26,8 +25,7 @@ use Rattle.platform_shell.specs.Reading.{Tells, NextLine}
 use Rattle.platform_shell.specs.Runs.{HasRun, HasRunOver, Ran, RunsLine, Stops, as_list, ending, script_lines, texts}
 use Rattle.platform_shell.specs.Statuses.{IsEnding, status_of}
 use Rattle.platform_shell.proofs.Growth.{grew_trans}
-use Rattle.platform_shell.proofs.LineGrowth.{grew_carried, grew_ran, grew_stops}
-use Rattle.platform_shell.proofs.Plain.{plain_asked, plain_grew}
+use Rattle.platform_shell.proofs.LineGrowth.{grew_ran, grew_stops}
 use Rattle.platform_shell.proofs.ReadingLemmas.{some_told}
 use Rattle.platform_shell.proofs.Resting.{quiet_still}
 
@@ -37,7 +35,7 @@ GoesOn left left' pending lines number =
     (more : List ℕ) → Tells left' more → (bytes : List ℕ) × Tells left bytes
     × (script_lines (lines_of bytes) ≡ lines ++ script_lines (lines_of (pending ++ more))) × (ending 1 (lines_of bytes) ≡ ending number (lines_of (pending ++ more)))
 
--- so far: these lines ran, all their text is written, and whatever comes stands behind them; no turn is under way and all is plain, where that was so
+-- so far: these lines ran, all their text is written, and whatever comes stands behind them; no turn is under way, where that was so
 pub record Progress (s : Setting) (left left' : Option (List ℕ)) (pending : List ℕ) (before after : CoreView) (written written' : Option (List ℕ)) (number : ℕ) : Type 0 where
   pub lines : List (List ℕ)
   pub commands : List Command
@@ -46,7 +44,6 @@ pub record Progress (s : Setting) (left left' : Option (List ℕ)) (pending : Li
   pub wrote : Appends written written' (texts replies)
   pub reads : GoesOn left left' pending lines number
   pub still : s.is_manual ≡ false → none_under_way before ≡ true → none_under_way after ≡ true
-  pub plain : are_plain (world before) ≡ true → are_plain (world after) ≡ true
 
 -- one line more
 pub Ran_snoc : (s : Setting) (first : CoreView) (lines : List (List ℕ)) (line : List ℕ) (before between after : CoreView) (commands : List Command) (replies : List ShellReply) (told : Option ShellReply)
@@ -84,7 +81,6 @@ progress_start s left written before = record {
   wrote = Appends-nil written;
   reads = λ more told. (more, told, refl, refl);
   still = λ auto none. none;
-  plain = λ plain. plain;
 }
 
 short_line : (line : Line) → line.size ≤ longest_line → is_too_long line ≡ false
@@ -116,14 +112,10 @@ goes_on left left' left'' pending pending' lines number line so_far (size, short
     let step = script_line number (lines_of (pending ++ here.0)) (lines_of (pending' ++ more)) (record { text = line; size = size }) here.2 short other in
     (all.0, all.1, all.2 ∙ ap (λ w. lines ++ w) step.0 ∙ sym (append_assoc lines (line ∷ []) (script_lines (lines_of (pending' ++ more)))), all.3 ∙ step.1)
 
--- what running a line leaves: the platform stays plain, and is at rest in a run that began with another one
+-- the line runs in a run that began with another platform
 pub line_of_run : {s : Setting} {left left' : Option (List ℕ)} {pending : List ℕ} {first now : CoreView} {written written' : Option (List ℕ)} {number : ℕ} → Progress s left left' pending first now written written' number
-    → (line : List ℕ) (told : Option ShellReply) (after : CoreView) → RunsAsked s (shell_line line) now (Ok told) after → (are_plain (world now) ≡ true → are_plain (world after) ≡ true) × RunsLine s first (shell_line line) now told after
-line_of_run {s} {left} {left'} {pending} {first} {now} {written} {written'} {number} so_far line told after (between, asks, rests, comes) =
-    let plain : are_plain (world now) ≡ true → are_plain (world after) ≡ true = plain_grew now after (commands_of now (shell_line line)) (grew_carried s (shell_line line) now between after told asks rests) (plain_asked now line) in (
-      plain,
-      (between, asks, rests, λ auto none. (let good = comes auto (so_far.still auto none) in (good.0, λ at_first. good.1 (plain (so_far.plain at_first))))),
-    )
+    → (line : List ℕ) (told : Option ShellReply) (after : CoreView) → RunsAsked s (shell_line line) now (Ok told) after → RunsLine s first (shell_line line) now told after
+line_of_run {s} {left} {left'} {pending} {first} {now} {written} {written'} {number} so_far line told after (between, asks, rests, comes) = (between, asks, rests, λ auto none. comes auto (so_far.still auto none))
 
 -- a line ran, and its reply is written
 unfoldable pub progress_line : {s : Setting} {left left' : Option (List ℕ)} {pending : List ℕ} {first now : CoreView} {written written' : Option (List ℕ)} {number : ℕ} → Progress s left left' pending first now written written' number
@@ -131,17 +123,15 @@ unfoldable pub progress_line : {s : Setting} {left left' : Option (List ℕ)} {p
     → NextLine left' left'' pending pending' (OfLine line) → is_quit (shell_line line) ≡ false → RunsAsked s (shell_line line) now (Ok told) after
     → Appends written' written'' (texts (as_list told)) → Progress s left left'' pending' first after written written'' (next_count number)
 progress_line {s} {left} {left'} {pending} {first} {now} {written} {written'} {number} so_far left'' pending' after written'' line told next other runs wrote =
-    let run = line_of_run so_far line told after runs in
     let P : List ℕ → Type 0 = λ w. Appends written written'' w in
     record {
       lines = so_far.lines ++ line ∷ [];
       commands = so_far.commands ++ commands_of now (shell_line line);
       replies = so_far.replies ++ as_list told;
-      ran = Ran_snoc s first so_far.lines line first now after so_far.commands so_far.replies told so_far.ran run.1;
+      ran = Ran_snoc s first so_far.lines line first now after so_far.commands so_far.replies told so_far.ran (line_of_run so_far line told after runs);
       wrote = subst P (sym (flat_map-append reply_text so_far.replies (as_list told))) (Appends-trans written written' written'' (texts so_far.replies) (texts (as_list told)) so_far.wrote wrote);
       reads = goes_on left left' left'' pending pending' so_far.lines number line so_far.reads next other;
       still = λ auto none. quiet_still after (runs.3 auto (so_far.still auto none)).0;
-      plain = λ plain. run.0 (so_far.plain plain);
     }
 
 -- how a run has gone, from its parts
@@ -209,7 +199,7 @@ run_writes_front {s} {left} {left'} {pending} {first} {now} {written} {written'}
     let run = line_of_run so_far line (Some reply) after runs in
     let same : text ≡ reply_text reply = is ∙ append-nil (reply_text reply) in
     run_stops_in_line so_far left'' pending' after written'' line WriteFault (commands_of now (shell_line line)) (take count text) (λ e. e)
-    (λ others. (reply, count, (run.1, refl), omega (arith, below, ap length same), ap (take count) same)) next other wrote
+    (λ others. (reply, count, (run, refl), omega (arith, below, ap length same), ap (take count) same)) next other wrote
 
 -- a line ran, and memory is wanting for its reply's text
 pub run_lacks_memory : {s : Setting} {left left' : Option (List ℕ)} {pending : List ℕ} {first now : CoreView} {written written' : Option (List ℕ)} {number : ℕ} → Progress s left left' pending first now written written' number
@@ -219,7 +209,7 @@ pub run_lacks_memory : {s : Setting} {left left' : Option (List ℕ)} {pending :
 run_lacks_memory {s} {left} {left'} {pending} {first} {now} {written} {written'} {number} so_far left'' pending' after line None next other runs some = absurd cc
 run_lacks_memory {s} {left} {left'} {pending} {first} {now} {written} {written'} {number} so_far left'' pending' after line (Some reply) next other runs some =
     let run = line_of_run so_far line (Some reply) after runs in
-    run_stops_in_line so_far left'' pending' after written' line NoMemory (commands_of now (shell_line line)) [] (λ e. e) (λ others. (inr (inr (reply, (run.1, refl))), refl)) next other (Appends-nil written')
+    run_stops_in_line so_far left'' pending' after written' line NoMemory (commands_of now (shell_line line)) [] (λ e. e) (λ others. (inr (inr (reply, (run, refl))), refl)) next other (Appends-nil written')
 
 no_ending : (fault : SettleFault) → IsEnding (status_of fault) → ⊥
 no_ending StillDue ends = ends

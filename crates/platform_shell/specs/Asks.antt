@@ -4,26 +4,28 @@ use Rattle.callback_orders.specs.declared.callback.Outcome.{Outcome}
 use Rattle.callback_orders.specs.declared.callback.Outcome.TheVariants.{Done as IsDone, Refused as IsRefused, NoMemory}
 use Rattle.kind_trait.specs.Meanings.{Told}
 use Rattle.prop_map.specs.declared.properties.Property.{Property}
-use Rattle.first_core.specs.declared.command.Command.{Command}
-use Rattle.first_core.specs.declared.command.CoreFault.{CoreFault}
-use Rattle.first_core.specs.declared.command.CoreFault.TheVariants.{JournalFull, OutOfMemory}
-use Rattle.first_core.specs.declared.command.Reply.{Reply}
-use Rattle.first_core.specs.declared.command.Reply.TheVariants.{Done as InCore, Bundle as OfBundle}
-use Rattle.first_core.specs.declared.held_rows.HeldLine.{HeldLine}
-use Rattle.first_core.specs.Cores.{CoreView}
-use Rattle.first_core.specs.HeldRows.{TellsHeld}
-use Rattle.first_core.specs.Readers.{component_lines}
-use Rattle.first_core.specs.Replies.{changes}
-use Rattle.first_core.specs.Steps.{history_of}
-use Rattle.first_core.specs.TurnLines.{line_for, turns_above}
+use Rattle.scr_world.specs.declared.command.Command.{Command}
+use Rattle.scr_world.specs.declared.reply.CoreFault.{CoreFault}
+use Rattle.scr_world.specs.declared.reply.CoreFault.TheVariants.{NoListener, JournalFull, OutOfMemory}
+use Rattle.scr_world.specs.declared.reply.Reply.{Reply}
+use Rattle.scr_world.specs.declared.reply.Reply.TheVariants.{Done as InCore, Bundle as OfBundle, Service as OfService, Uses as OfUses, Listener as OfListener}
+use Rattle.scr_world.specs.declared.lines.HeldLine.{HeldLine}
+use Rattle.scr_world.specs.declared.lines.TurnLine.{TurnLine}
+use Rattle.scr_core.specs.Cores.{CoreView}
+use Rattle.scr_readers.specs.Events.{events_told, has_listener}
+use Rattle.scr_world.specs.declared.world.World.{World}
+use Rattle.scr_world.specs.Readers.{TellsHeld, bundle_events_after, bundle_lines, component_lines, found, service_lines}
+use Rattle.scr_world.specs.Replies.{changes}
+use Rattle.scr_world.specs.Steps.{history_of}
+use Rattle.scr_world.specs.TurnLines.{turns_above}
 use Rattle.turn_runner.specs.declared.turn_work.TurnWork.{TurnWork}
 use Rattle.platform_hall.specs.declared.finish_fault.FinishFault.{FinishFault}
 use Rattle.platform_hall.specs.declared.finish_fault.FinishFault.TheVariants.{NoTurn as NoSuchTurn, OutOfMemory as NoMemoryLeft}
 use Rattle.platform_hall.specs.Platforms.{BeginsTurn, FinishesTurn, Settles, TakesCommand, running, world}
-use Rattle.shell_lang.specs.declared.shell_line.ShellLine.TheVariants.{Silent, Quit, Command as Commanded, Components as AskComponents, Held as AskHeld, Trace as AskTrace, Settle, Begin, Finish}
+use Rattle.shell_lang.specs.declared.shell_line.ShellLine.TheVariants.{Silent, Quit, Command as Commanded, Bundles as AskBundles, Services as AskServices, Components as AskComponents, Held as AskHeld, Find as AskFind, Events as AskEvents, BundleEvents as AskBundleEvents, Trace as AskTrace, Settle, Begin, Finish}
 use Rattle.shell_lang.specs.declared.shell_reply.Refusal.TheVariants.{Line as InLine, Core as OfCore, NotManual, NoTurn}
 use Rattle.shell_lang.specs.declared.shell_reply.ShellReply.{ShellReply}
-use Rattle.shell_lang.specs.declared.shell_reply.ShellReply.TheVariants.{Done, Bundle, Components, Held, Trace, Turns, Begun, Idle, Finished, Refused}
+use Rattle.shell_lang.specs.declared.shell_reply.ShellReply.TheVariants.{Done, Bundle, Service, Uses, Listener, Bundles, Services, Components, Held, Found, Events, BundleEvents, Trace, Turns, Begun, Idle, Finished, Refused}
 use Rattle.shell_lang.specs.ShellLines.{Asked}
 
 -- how a run goes: whether turns run where a line asks for it alone, and which callbacks the component code refuses
@@ -52,6 +54,9 @@ IsAnswer answer = IfErr answer (λ fault. is_told fault ≡ true)
 abbrev pub command_reply : Result Reply CoreFault → ShellReply
 command_reply (Ok InCore) = Done
 command_reply (Ok (OfBundle bundle)) = Bundle bundle
+command_reply (Ok (OfService service)) = Service service
+command_reply (Ok (OfUses uses)) = Uses uses
+command_reply (Ok (OfListener listener)) = Listener listener
 command_reply (Err fault) = Refused (OfCore fault)
 
 abbrev pub held_reply : Result (List HeldLine) CoreFault → ShellReply
@@ -67,9 +72,17 @@ abbrev pub AsksHeld : ℕ → CoreView → ShellReply → CoreView → Type 0
 AsksHeld configuration before reply after =
     (answer : Result (List HeldLine) CoreFault) × TellsHeld (world before) configuration answer × IsAnswer answer × (reply ≡ held_reply answer) × (after ≡ before)
 
+-- what a listener was told behind the first so many events, where there is one
+abbrev pub events_reply : World → ℕ → ℕ → ShellReply
+events_reply w listener before = if has_listener w listener then Events before (events_told w listener before) else Refused (OfCore (NoListener listener))
+
 -- the turns that are due run, and their number is told
 abbrev pub AsksSettle : (List ℕ → List Property → Told → Bool) → CoreView → ShellReply → CoreView → Type 0
 AsksSettle refuses before reply after = (count : ℕ) × Settles refuses before.limits.turns before (Ok count) after × (reply ≡ Turns count)
+
+-- the line of a turn that begins with this work
+abbrev pub line_for : TurnWork → TurnLine
+line_for work = record { turn = work.number; callback = work.callback; instance = work.instance; name = work.name; outcome = None }
 
 -- the turn of this number, which is under way now, is told
 abbrev pub TellsBegun : CoreView → Option ℕ → ShellReply → Type 0
@@ -114,8 +127,13 @@ abbrev pub Asks : Setting → Asked → CoreView → Option ShellReply → CoreV
 Asks s (Ok Silent) before told after = IsStill before told after
 Asks s (Ok Quit) before told after = IsStill before told after
 Asks s (Ok (Commanded command)) before told after = Does (AsksCommand command) before told after
+Asks s (Ok AskBundles) before told after = Says (Bundles (bundle_lines (world before))) before told after
+Asks s (Ok AskServices) before told after = Says (Services (service_lines (world before))) before told after
 Asks s (Ok AskComponents) before told after = Says (Components (component_lines (world before))) before told after
 Asks s (Ok (AskHeld configuration)) before told after = Does (AsksHeld configuration) before told after
+Asks s (Ok (AskFind tree)) before told after = Says (Found (found (world before) tree)) before told after
+Asks s (Ok (AskEvents listener number)) before told after = Says (events_reply (world before) listener number) before told after
+Asks s (Ok (AskBundleEvents number)) before told after = Says (BundleEvents number (bundle_events_after number (world before))) before told after
 Asks s (Ok (AskTrace number)) before told after = Says (Trace (turns_above number (history_of before.journal))) before told after
 Asks s (Ok Settle) before told after = Does (AsksSettle s.refuses) before told after
 Asks s (Ok Begin) before told after = Does (Manually s.is_manual AsksBegin) before told after

@@ -2,14 +2,12 @@
 use Rattle.std.specs.Prelude.{◌≡◌, ℕ, List, Option, Result, Ok, Err, true, false, Bool}
 use Rattle.kind_trait.specs.Meanings.{Told}
 use Rattle.prop_map.specs.declared.properties.Property.{Property}
-use Rattle.first_core.specs.declared.command.Command.{Command}
-use Rattle.first_core.specs.declared.command.CoreFault.{CoreFault}
-use Rattle.first_core.specs.declared.command.CoreFault.TheVariants.{JournalFull as InCore, OutOfMemory as NoMemory}
-use Rattle.first_core.specs.Cores.{CoreView}
+use Rattle.scr_world.specs.declared.command.Command.{Command}
+use Rattle.scr_world.specs.declared.reply.CoreFault.{CoreFault}
+use Rattle.scr_world.specs.declared.reply.CoreFault.TheVariants.{JournalFull as InCore, OutOfMemory as NoMemory}
+use Rattle.scr_core.specs.Cores.{CoreView}
 use Rattle.turn_runner.specs.declared.settle_fault.SettleFault.{SettleFault}
 use Rattle.turn_runner.specs.declared.settle_fault.SettleFault.TheVariants.{Unsettled, JournalFull, OutOfMemory}
-use Rattle.first_core.specs.Quiet.{IsQuiet, IsRight, are_plain}
-use Rattle.platform_hall.specs.Platforms.{none_under_way, world}
 use Rattle.shell_lang.specs.declared.shell_reply.Refusal.TheVariants.{Core as OfCore}
 use Rattle.shell_lang.specs.declared.shell_reply.ShellReply.{ShellReply}
 use Rattle.shell_lang.specs.declared.shell_reply.ShellReply.TheVariants.{Refused}
@@ -18,7 +16,7 @@ use Rattle.platform_shell.specs.declared.line_ask.AskStep.{AskStep}
 use Rattle.platform_shell.specs.declared.line_ask.AskStep.TheVariants.{Asked as IsAsked, Quit as ToQuit, NoMemory as NoMemoryLeft}
 use Rattle.platform_shell.specs.Asks.{Asks, AsksBegin, AsksCommand, AsksFinish, AsksHeld, Manually, Setting, is_told}
 use Rattle.platform_shell.specs.Cuts.{Cuts, CutsAsked, CutsBegin, CutsCommand, CutsFinish, CutsSettle}
-use Rattle.platform_shell.specs.Rests.{Rests}
+use Rattle.platform_shell.specs.Rests.{IsAtRest, Rests}
 
 -- what a line asks
 abbrev pub CarriesOut : Setting → Asked → CoreView → Result (Option ShellReply) SettleFault → CoreView → Type 0
@@ -36,6 +34,11 @@ TellsRefusal fault (Err JournalFull) = fault ≡ InCore
 TellsRefusal fault (Err OutOfMemory) = fault ≡ NoMemory
 TellsRefusal fault (Err Unsettled) = ⊥
 
+-- what the platform tells by its journal alone
+abbrev pub CarriesReading : ShellReply → Result ShellReply SettleFault → Type 0
+CarriesReading reply (Ok told) = told ≡ reply
+CarriesReading reply (Err fault) = fault ≡ OutOfMemory
+
 abbrev pub CarriesHeld : ℕ → CoreView → Result ShellReply SettleFault → Type 0
 CarriesHeld configuration before (Ok reply) = AsksHeld configuration before reply before
 CarriesHeld configuration before (Err fault) = fault ≡ OutOfMemory
@@ -48,18 +51,14 @@ abbrev pub CarriesFinish : Bool → (List ℕ → List Property → Told → Boo
 CarriesFinish manual refuses turn before (Ok reply) after = Manually manual (AsksFinish refuses turn) before reply after
 CarriesFinish manual refuses turn before (Err fault) after = (manual ≡ true) × CutsFinish refuses turn fault before after
 
--- where turns run behind each line, and none is under way, the platform comes to be quiet, and right where it is plain
-abbrev pub ComesToRest : Setting → CoreView → CoreView → Type 0
-ComesToRest s before after = s.is_manual ≡ false → none_under_way before ≡ true → IsQuiet (world after) × (are_plain (world after) ≡ true → IsRight (world after))
-
--- the turns that are due run, but in `script --manual`, or their settling is cut off
+-- the turns that are due run, but in `script --manual`, and the platform is at rest; or their settling is cut off
 abbrev pub RestsOr : Setting → CoreView → Result (Unit {0}) SettleFault → CoreView → Type 0
-RestsOr s between (Ok _) after = Rests s between after × ComesToRest s between after
+RestsOr s between (Ok _) after = Rests s between after × IsAtRest s between after
 RestsOr s between (Err fault) after = (s.is_manual ≡ false) × CutsSettle s.refuses fault between after
 
 -- what a line answers and does
 abbrev pub RunsAsked : Setting → Asked → CoreView → Result (Option ShellReply) SettleFault → CoreView → Type 0
-RunsAsked s asked before (Ok told) after = (between : CoreView) × Asks s asked before told between × Rests s between after × ComesToRest s before after
+RunsAsked s asked before (Ok told) after = (between : CoreView) × Asks s asked before told between × Rests s between after × IsAtRest s before after
 RunsAsked s asked before (Err fault) after = (commands : List Command) × Cuts s asked fault before after commands
 
 -- what a line asks; want of memory is free

@@ -1,7 +1,7 @@
 -- A platform at rest behind a line. Our own form.
 use Rattle.std.specs.Prelude.{◌≡◌, ℕ, Bool, true, false, Ok}
-use Rattle.first_core.specs.Cores.{CoreView}
-use Rattle.first_core.specs.Quiet.{IsQuiet, IsRight, are_plain}
+use Rattle.scr_core.specs.Cores.{CoreView}
+use Rattle.scr_world.specs.Quiet.{IsQuiet, IsRight}
 use Rattle.platform_hall.specs.Platforms.{Settles, none_under_way, world}
 use Rattle.platform_shell.specs.Asks.{Setting}
 
@@ -13,6 +13,6 @@ RestsBy false s between after = (count : ℕ) × Settles s.refuses between.limit
 abbrev pub Rests : Setting → CoreView → CoreView → Type 0
 Rests s between after = RestsBy s.is_manual s between after
 
--- where turns run behind each line, and none was under way when the run began, the platform is quiet, and right where it was plain then
+-- where turns run behind each line, and none was under way before, the platform is quiet and right
 abbrev pub IsAtRest : Setting → CoreView → CoreView → Type 0
-IsAtRest s first after = s.is_manual ≡ false → none_under_way first ≡ true → IsQuiet (world after) × (are_plain (world first) ≡ true → IsRight (world after))
+IsAtRest s before after = s.is_manual ≡ false → none_under_way before ≡ true → IsQuiet (world after) × IsRight (world after)

@@ -5,12 +5,12 @@ use Rattle.std.specs.Option.{option_map_or}
 use Rattle.std.specs.Io.KnownBytes.{Appends, Consumes}
 use Rattle.fault_count.specs.Steps.{next_count}
 use Rattle.journal_core.specs.declared.entry.Entry.{Entry}
-use Rattle.first_core.specs.declared.command.Command.{Command}
-use Rattle.first_core.specs.declared.command.Step.{Step}
-use Rattle.first_core.specs.declared.command.Step.TheVariants.{Command as Stepped}
-use Rattle.first_core.specs.Cores.{CoreView}
-use Rattle.first_core.specs.Legal.{IsLegal}
-use Rattle.first_core.specs.Steps.{history_of}
+use Rattle.scr_world.specs.declared.command.Command.{Command}
+use Rattle.scr_world.specs.declared.step.Step.{Step}
+use Rattle.scr_world.specs.declared.step.Step.TheVariants.{Command as Stepped}
+use Rattle.scr_core.specs.Cores.{CoreView}
+use Rattle.scr_world.specs.Legal.{IsLegal}
+use Rattle.scr_world.specs.Steps.{history_of}
 use Rattle.turn_runner.specs.declared.settle_fault.SettleFault.{SettleFault}
 use Rattle.turn_runner.specs.declared.settle_fault.SettleFault.TheVariants.{Unsettled as StillDue, JournalFull as NoRoom, OutOfMemory}
 use Rattle.shell_lang.specs.declared.shell_reply.ShellReply.{ShellReply}

@@ -1,12 +1,13 @@
 //! What a line asks, carried out.
 ghost use Rattle.std.specs.Prelude.{◌≡◌};
-ghost use Rattle.first_core.specs.TurnLines.{line_for};
-ghost use Rattle.platform_shell.specs.Carries.{CarriesBegin, CarriesCommand, CarriesFinish, CarriesHeld, CarriesOut, TellsRefusal};
+ghost use Rattle.platform_shell.specs.Asks.{line_for};
+ghost use Rattle.platform_shell.specs.Carries.{CarriesBegin, CarriesCommand, CarriesFinish, CarriesOut, TellsRefusal};
 
+use crate::readings::{bundle_events, bundles, components, events, found, held, services, trace};
 use callback_orders::Outcome;
-use first_core::{Command, CoreFault, Reply, TurnLine};
 use kind_trait::Kinds;
 use platform_hall::{FinishFault, Platform};
+use scr_world::{Command, CoreFault, Reply, TurnLine};
 use shell_lang::{LineFault, Refusal, ShellLine, ShellReply};
 use std::alloc::Global;
 use turn_runner::{SettleFault, TurnWork};
@@ -24,15 +25,16 @@ pub(crate) fn carry_out<K: Kinds + Drop>(
         Err(fault) => Ok(Some(ShellReply::Refused(Refusal::Line { fault }))),
         Ok(ShellLine::Silent | ShellLine::Quit) => Ok(None),
         Ok(ShellLine::Command(command)) => Ok(Some(run_command(alloc, platform, command)?)),
-        Ok(ShellLine::Components) => {
-            let rows = platform.core().component_rows(alloc)?;
-            Ok(Some(ShellReply::Components(rows)))
-        }
+        Ok(ShellLine::Bundles) => Ok(Some(bundles(alloc, platform)?)),
+        Ok(ShellLine::Services) => Ok(Some(services(alloc, platform)?)),
+        Ok(ShellLine::Components) => Ok(Some(components(alloc, platform)?)),
         Ok(ShellLine::Held { configuration }) => Ok(Some(held(alloc, platform, configuration)?)),
-        Ok(ShellLine::Trace { after }) => {
-            let turns = platform.core().trace(alloc, after)?;
-            Ok(Some(ShellReply::Trace(turns)))
+        Ok(ShellLine::Find { filter }) => Ok(Some(found(alloc, platform, &filter)?)),
+        Ok(ShellLine::Events { listener, after }) => {
+            Ok(Some(events(alloc, platform, listener, after)?))
         }
+        Ok(ShellLine::BundleEvents { after }) => Ok(Some(bundle_events(alloc, platform, after)?)),
+        Ok(ShellLine::Trace { after }) => Ok(Some(trace(alloc, platform, after)?)),
         Ok(ShellLine::Settle) => Ok(Some(ShellReply::Turns(platform.settle(alloc)?))),
         Ok(ShellLine::Begin) => Ok(Some(begin(alloc, manual, platform)?)),
         Ok(ShellLine::Finish { turn }) => Ok(Some(finish(alloc, manual, platform, turn)?)),
@@ -49,31 +51,21 @@ fn run_command<K: Kinds + Drop>(
     match platform.command(alloc, command) {
         Ok(Reply::Done) => Ok(ShellReply::Done),
         Ok(Reply::Bundle(bundle)) => Ok(ShellReply::Bundle(bundle)),
+        Ok(Reply::Service(service)) => Ok(ShellReply::Service(service)),
+        Ok(Reply::Uses(uses)) => Ok(ShellReply::Uses(uses)),
+        Ok(Reply::Listener(listener)) => Ok(ShellReply::Listener(listener)),
         Err(fault) => refused(fault),
     }
 }
 
 // A full journal and want of memory end the run; any other refusal is told.
-fn refused(fault: CoreFault) -> Result<ShellReply, SettleFault>
+pub(crate) fn refused(fault: CoreFault) -> Result<ShellReply, SettleFault>
     ensures { TellsRefusal fault result }
 {
     match fault {
         CoreFault::JournalFull => Err(SettleFault::JournalFull),
         CoreFault::OutOfMemory => Err(SettleFault::OutOfMemory),
         fault => Ok(ShellReply::Refused(Refusal::Core { fault })),
-    }
-}
-
-fn held<K: Kinds + Drop>(
-    alloc: Global,
-    platform: &Platform<K>,
-    configuration: u64,
-) -> Result<ShellReply, SettleFault>
-    ensures { CarriesHeld configuration platform.now result }
-{
-    match platform.core().held_rows(alloc, configuration) {
-        Ok(rows) => Ok(ShellReply::Held(rows)),
-        Err(fault) => refused(fault),
     }
 }
 

@@ -7,6 +7,7 @@ mod asked;
 mod line_ask;
 mod line_input;
 mod line_run;
+mod readings;
 mod reply_output;
 mod script_run;
 mod status;

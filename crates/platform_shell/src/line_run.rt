@@ -2,9 +2,8 @@
 ghost use Rattle.platform_shell.specs.Carries.{RestsOr, RunsAsked};
 
 use crate::asked::carry_out;
-use first_core::note_no_stuck_state;
 use kind_trait::Kinds;
-use platform_hall::{Platform, note_turns_end};
+use platform_hall::{Platform, note_rest, note_turns_end};
 use shell_lang::{LineFault, ShellLine, ShellReply};
 use std::alloc::Global;
 use turn_runner::SettleFault;
@@ -38,14 +37,10 @@ fn rest<K: Kinds + Drop>(
     if manual {
         return Ok(());
     }
-    note_turns_end();
-    note_no_stuck_state();
+    note_rest();
     platform.core();
     match platform.settle(alloc) {
-        Ok(_) => {
-            platform.core();
-            Ok(())
-        }
+        Ok(_) => Ok(()),
         Err(fault) => Err(fault),
     }
 }

@@ -2,8 +2,8 @@
 ghost use Rattle.std.specs.Prelude.{◌≡◌, Ok, MatchResult, map, ⊤};
 ghost use Rattle.std.specs.Io.KnownBytes.{Keeps};
 ghost use Rattle.fault_count.specs.Steps.{Rose};
-ghost use Rattle.first_core.specs.Legal.{IsLegal};
-ghost use Rattle.first_core.specs.Steps.{history_of};
+ghost use Rattle.scr_world.specs.Legal.{IsLegal};
+ghost use Rattle.scr_world.specs.Steps.{history_of};
 ghost use Rattle.platform_shell.specs.Runs.{EndsScript, FaultsAt, HasRunOver};
 ghost use Rattle.platform_shell.specs.Statuses.{HasCause, form_of, read_faults_after, write_faults_after};
 
@@ -21,8 +21,8 @@ use std::alloc::Global;
 ///
 /// The words `script` and `script --manual` are the forms; other words end the run before anything is read. The lines are run up to
 /// `quit`, to a line that is too long or to the end of the input. In `script` the platform is settled behind each line, also one without
-/// a reply, and then its reply is written: a platform that was quiet at the start is quiet whenever a reply is written, and right as long as
-/// only plain documents were installed. In `script --manual` turns run where a line asks for it alone.
+/// a reply, and then its reply is written: where no turn was under way at the start, the platform is quiet and right whenever a reply is
+/// written. In `script --manual` turns run where a line asks for it alone.
 ///
 /// A line ends the run with `JournalFull` where its command, its turn or a turn of its settling finds no room in the journal, with `Unsettled`
 /// where the settling ran as many turns as the limit says and one is still due, with `NoMemory`, and with `WriteFault` where the sink fails

@@ -1,11 +1,9 @@
-//! Tests of the rules: the order of callbacks, component code, turns, and the first core. Component code and a desk for
-//! tests stand here too.
+//! Tests of the rules: the order of callbacks, component code, turns, and component configurations. Component code and a
+//! desk for tests stand here too.
 #![tactic(auto)]
 
 #[cfg(test)]
 mod callbacks;
-#[cfg(test)]
-mod cores;
 #[cfg(test)]
 mod demonstrations;
 #[cfg(test)]

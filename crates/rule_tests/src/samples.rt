@@ -1,9 +1,7 @@
 //! Values for tests.
 
-use bundle_doc::BundleDoc;
 use component_dto::{ConfigurationPolicy, Description, Reference, Scope};
 use kind_trait::Site;
-use osgi_version::Version;
 use prop_map::{Cardinality, List, Policy, PolicyOption, Properties, Str, Value};
 use std::alloc::{AllocError, Global};
 
@@ -70,23 +68,5 @@ pub(crate) fn described(
         configuration_policy: ConfigurationPolicy::Optional,
         configuration_pids: List::of(Vec::new(alloc)),
         implicit: false,
-    })
-}
-
-// A bundle of one component.
-pub(crate) fn document(
-    alloc: Global,
-    location: &str,
-    description: Description,
-) -> Result<BundleDoc, AllocError> {
-    let mut descriptions = Vec::new(alloc);
-    descriptions.push(description)?;
-    Ok(BundleDoc {
-        location: text(alloc, location)?,
-        name: text(alloc, location)?,
-        version: Version::empty(alloc),
-        manifest: None,
-        activator: None,
-        descriptions: List::of(descriptions),
     })
 }

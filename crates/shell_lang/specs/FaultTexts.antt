@@ -30,6 +30,10 @@ prop_fault_fields (MixedList key) = spaced key
 prop_fault_fields (SameKey key) = spaced key
 prop_fault_fields NoPropertyMemory = []
 
+-- a fault of properties alone
+abbrev pub prop_fault_text : PropFault → List ℕ
+prop_fault_text fault = prop_fault_name fault ++ prop_fault_fields fault
+
 -- a property's fault is told in place of the description's
 abbrev pub description_fault_name : DescriptionFault → List ℕ
 description_fault_name (NoField field) = codes "MissingField"

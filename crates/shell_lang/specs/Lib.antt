@@ -1,3 +1,14 @@
+pub mod Words
+pub mod LineFaults
+pub mod Built
+pub mod FilterTexts
+pub mod Arguments
+pub mod Interfaces
 pub mod ShellLines
+pub mod JoinedTexts
 pub mod FaultTexts
+pub mod CoreFaultTexts
+pub mod RefusalTexts
+pub mod TurnTexts
+pub mod RowTexts
 pub mod ReplyTexts

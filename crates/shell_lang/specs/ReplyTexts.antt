@@ -1,109 +1,26 @@
 -- The text of a reply. Our own form.
-use Rattle.std.specs.Prelude.{ℕ, List, [], ◌∷◌, ◌++◌, flat_map, codes, length, Option, Some, None}
+use Rattle.std.specs.Prelude.{ℕ, List, ◌++◌, codes}
 use Rattle.std.specs.Fmt.{decimal}
-use Rattle.callback_orders.specs.declared.callback.Callback.{Callback}
-use Rattle.callback_orders.specs.declared.callback.Callback.TheVariants.{Create, Bind, Updated, Unbind, Activate, Modified, Deactivate, Destroy}
-use Rattle.callback_orders.specs.declared.callback.Outcome.{Outcome}
-use Rattle.callback_orders.specs.declared.callback.Outcome.TheVariants.{Done as IsDone, Refused as IsRefused, NoMemory}
-use Rattle.first_core.specs.declared.component_rows.ComponentLine.{ComponentLine}
-use Rattle.first_core.specs.declared.held_rows.HeldLine.{HeldLine}
-use Rattle.first_core.specs.declared.turn_lines.TurnLine.{TurnLine}
-use Rattle.first_core.specs.declared.command.CoreFault.{CoreFault}
-use Rattle.first_core.specs.declared.command.CoreFault.TheVariants.{NoBundle, NoComponent, Stopping, Cycle, BundlesFull, ComponentsFull, JournalFull, OutOfMemory}
-use Rattle.shell_lang.specs.FaultTexts.{document_fault_text, spaced}
-use Rattle.shell_lang.specs.declared.shell_line.LineFault.{LineFault}
-use Rattle.shell_lang.specs.declared.shell_line.LineFault.TheVariants.{NotBuilt, Document, OutOfMemory as NoMemoryLeft}
-use Rattle.shell_lang.specs.declared.shell_reply.Refusal.{Refusal}
-use Rattle.shell_lang.specs.declared.shell_reply.Refusal.TheVariants.{Line, Core, NotManual, NoTurn}
+use Rattle.shell_lang.specs.RefusalTexts.{refusal_text}
+use Rattle.shell_lang.specs.RowTexts.{bundle_event_text, bundle_text, component_text, held_text, number_text, placed_rows_text, registered_text, rows_text, service_event_text}
+use Rattle.shell_lang.specs.TurnTexts.{finished_text, trace_text, turn_text}
 use Rattle.shell_lang.specs.declared.shell_reply.ShellReply.{ShellReply}
-use Rattle.shell_lang.specs.declared.shell_reply.ShellReply.TheVariants.{Done, Bundle, Components, Held, Trace, Turns, Begun, Idle, Finished, Refused}
-
--- a component configuration's number, name and state
-abbrev pub component_text : ComponentLine → List ℕ
-component_text row = decimal row.configuration ++ codes " " ++ row.name ++ codes " " ++ decimal row.state ++ codes "\n"
-
--- an instance's number, a reference and a service that it holds for it
-abbrev pub held_text : HeldLine → List ℕ
-held_text row = decimal row.instance ++ codes " " ++ row.reference ++ codes " " ++ decimal row.service ++ codes "\n"
-
-abbrev pub callback_word : Callback → List ℕ
-callback_word Create = codes "create"
-callback_word (Bind reference service) = codes "bind"
-callback_word (Updated reference service) = codes "updated"
-callback_word (Unbind reference service) = codes "unbind"
-callback_word Activate = codes "activate"
-callback_word Modified = codes "modified"
-callback_word Deactivate = codes "deactivate"
-callback_word Destroy = codes "destroy"
-
-abbrev pub service_text : List ℕ → ℕ → List ℕ
-service_text reference service = spaced reference ++ spaced (decimal service)
-
--- the reference and the service of a callback that has them
-abbrev pub bound_text : Callback → List ℕ
-bound_text (Bind reference service) = service_text reference service
-bound_text (Updated reference service) = service_text reference service
-bound_text (Unbind reference service) = service_text reference service
-bound_text _ = []
-
--- a turn's number, its callback, the instance and its name, and what is bound
-abbrev pub turn_text : TurnLine → List ℕ
-turn_text line = decimal line.turn ++ codes " " ++ callback_word line.callback ++ codes " " ++ decimal line.instance ++ codes " " ++ line.name ++ bound_text line.callback
-
--- how a turn ended, where it isn't done
-abbrev pub outcome_text : Option Outcome → List ℕ
-outcome_text None = codes " outstanding"
-outcome_text (Some IsDone) = []
-outcome_text (Some IsRefused) = codes " refused"
-outcome_text (Some NoMemory) = codes " no-memory"
-
-abbrev pub trace_text : TurnLine → List ℕ
-trace_text line = turn_text line ++ outcome_text line.outcome ++ codes "\n"
-
--- the number of rows, and a line for each
-abbrev pub rows_text : {T : Type 0} → (T → List ℕ) → List T → List ℕ
-rows_text text rows = codes "ok " ++ decimal (length rows) ++ codes "\n" ++ flat_map text rows
-
--- how the turn that a line finishes ended
-abbrev pub finished_text : Outcome → List ℕ
-finished_text IsDone = codes "ok done\n"
-finished_text IsRefused = codes "ok refused\n"
-finished_text NoMemory = codes "ok no-memory\n"
-
--- the name of a refusal of a line with its fields
-abbrev pub line_fault_text : LineFault → List ℕ
-line_fault_text NotBuilt = codes "NotBuilt"
-line_fault_text (Document fault) = document_fault_text fault
-line_fault_text NoMemoryLeft = codes "OutOfMemory"
-
--- the names of a path, with ` > ` between them
-abbrev pub path_text : List (List ℕ) → List ℕ
-path_text [] = []
-path_text (name ∷ names) = name ++ flat_map (λ next. codes " > " ++ next) names
-
--- the name of a refusal of the core with its fields
-abbrev pub core_fault_text : CoreFault → List ℕ
-core_fault_text (NoBundle bundle) = codes "NoBundle " ++ decimal bundle
-core_fault_text (NoComponent name) = codes "NoComponent " ++ name
-core_fault_text (Stopping instance) = codes "Stopping " ++ decimal instance
-core_fault_text (Cycle path) = codes "Cycle " ++ path_text path
-core_fault_text BundlesFull = codes "BundlesFull"
-core_fault_text ComponentsFull = codes "ComponentsFull"
-core_fault_text JournalFull = codes "JournalFull"
-core_fault_text OutOfMemory = codes "OutOfMemory"
-
-abbrev pub refusal_text : Refusal → List ℕ
-refusal_text (Line fault) = line_fault_text fault
-refusal_text (Core fault) = core_fault_text fault
-refusal_text NotManual = codes "NotManual"
-refusal_text (NoTurn turn) = codes "NoTurn " ++ decimal turn
+use Rattle.shell_lang.specs.declared.shell_reply.ShellReply.TheVariants.{Done, Bundle, Service, Uses, Listener, Bundles, Services, Components, Held, Found, Events, BundleEvents, Trace, Turns, Begun, Idle, Finished, Refused}
 
 -- the text of a reply
 abbrev pub reply_text : ShellReply → List ℕ
 reply_text Done = codes "ok\n"
 reply_text (Bundle bundle) = codes "ok bundle " ++ decimal bundle ++ codes "\n"
+reply_text (Service service) = codes "ok service " ++ decimal service ++ codes "\n"
+reply_text (Uses uses) = codes "ok uses " ++ decimal uses ++ codes "\n"
+reply_text (Listener listener) = codes "ok listener " ++ decimal listener ++ codes "\n"
+reply_text (Bundles rows) = rows_text bundle_text rows
+reply_text (Services rows) = rows_text registered_text rows
 reply_text (Components rows) = rows_text component_text rows
 reply_text (Held rows) = rows_text held_text rows
+reply_text (Found numbers) = rows_text number_text numbers
+reply_text (Events before events) = placed_rows_text service_event_text before events
+reply_text (BundleEvents before events) = placed_rows_text bundle_event_text before events
 reply_text (Trace rows) = rows_text trace_text rows
 reply_text (Turns count) = codes "ok turns " ++ decimal count ++ codes "\n"
 reply_text (Begun line) = codes "ok turn " ++ turn_text line ++ codes "\n"

@@ -1,17 +1,18 @@
 -- What a line asks. Our own form.
-use Rattle.std.specs.Prelude.{◌≡◌, ℕ, ◌+◌, ◌==◌, List, [], ◌∷◌, take, drop, position, codes, Bool, true, false, Result, Ok, Err, if◌then◌else◌}
-use Rattle.std.specs.Option.{option_map_or}
+use Rattle.std.specs.Prelude.{ℕ, ◌==◌, List, [], ◌∷◌, codes, Bool, true, false, Option, Result, Ok, Err, if◌then◌else◌}
+use Rattle.std.specs.List.{list_any}
 use Rattle.std.specs.Str.{bytes_eq, is_utf8}
-use Rattle.fault_count.specs.DecimalText.{decimal_of}
-use Rattle.bundle_doc.specs.declared.document.BundleDoc.{BundleDoc}
-use Rattle.bundle_doc.specs.declared.fault.DocFault.{DocFault}
-use Rattle.bundle_doc.specs.Built.{is_built}
-use Rattle.bundle_doc.specs.Documents.{bundle_of}
-use Rattle.first_core.specs.declared.command.Command.TheVariants.{Install, Start, Stop}
-use Rattle.shell_lang.specs.declared.shell_line.LineFault.{LineFault}
-use Rattle.shell_lang.specs.declared.shell_line.LineFault.TheVariants.{NotBuilt, Document, OutOfMemory}
+use Rattle.component_dto.specs.Fields.{after}
+use Rattle.scr_world.specs.declared.command.Command.{Command}
+use Rattle.scr_world.specs.declared.command.Command.TheVariants.{Install, Update, Start, Stop, Uninstall, Enable, Disable, Register, Unregister, SetProperties, Get, Unget, Listen, Unlisten}
+use Rattle.shell_lang.specs.declared.line_fault.LineFault.{LineFault}
+use Rattle.shell_lang.specs.declared.line_fault.LineFault.TheVariants.{NotBuilt, UnknownCommand}
 use Rattle.shell_lang.specs.declared.shell_line.ShellLine.{ShellLine}
-use Rattle.shell_lang.specs.declared.shell_line.ShellLine.TheVariants.{Silent, Quit, Command as Commanded, Components, Held, Trace, Settle, Begin, Finish}
+use Rattle.shell_lang.specs.declared.shell_line.ShellLine.TheVariants.{Silent, Quit, Command as Commanded, Bundles, Services, Components, Held, Find, Events, BundleEvents, Trace, Settle, Begin, Finish}
+use Rattle.shell_lang.specs.Arguments.{document_argument, filter_argument, properties_argument}
+use Rattle.shell_lang.specs.Interfaces.{interfaces_at}
+use Rattle.shell_lang.specs.LineFaults.{Reads, fitting}
+use Rattle.shell_lang.specs.Words.{behind_word, first_word, nothing_at, number_and_text, number_and_word, number_at, only_number, text_at, two_numbers, two_numbers_and_text, word_at}
 
 -- what a line asks, or why it asks nothing that it can have
 abbrev pub Asked : Type 0
@@ -22,51 +23,107 @@ abbrev pub is_silent : List ℕ → Bool
 is_silent [] = true
 is_silent (b ∷ bs) = b == 35
 
-abbrev pub is_blank : ℕ → Bool
-is_blank b = b == 32
+-- a line of its word alone
+abbrev pub alone : ShellLine → Option (List ℕ) → Asked
+alone line rest = fitting (nothing_at 1 rest) (λ _. Ok line)
 
--- what a line of one word asks
-abbrev pub bare_line : List ℕ → Asked
-bare_line word =
-    if bytes_eq word (codes "quit") then Ok Quit
-    else (if bytes_eq word (codes "components") then Ok Components
-    else (if bytes_eq word (codes "settle") then Ok Settle
-    else (if bytes_eq word (codes "begin") then Ok Begin else Err NotBuilt)))
+-- a line of a number
+abbrev pub numbered : (ℕ → ShellLine) → Option (List ℕ) → Asked
+numbered line rest = fitting (only_number rest) (λ number. Ok (line number))
 
--- what an install asks whose document means this
-abbrev pub installing : Result BundleDoc DocFault → Asked
-installing (Ok doc) = if is_built doc then Ok (Commanded (Install doc)) else Err NotBuilt
-installing (Err fault) = Err (Document fault)
+-- a line of two numbers
+abbrev pub paired : (ℕ → ℕ → ShellLine) → Option (List ℕ) → Asked
+paired line rest = fitting (two_numbers rest) (λ words. Ok (line words.0 words.1))
 
-abbrev pub install_line : List ℕ → Asked
-install_line rest = installing (bundle_of rest)
+-- a line of a bundle and a name
+abbrev pub named : (ℕ → List ℕ → Command) → Option (List ℕ) → Asked
+named command rest = fitting (number_and_word rest) (λ words. Ok (Commanded (command words.0 words.1)))
 
--- what a line asks whose one argument is a number
-abbrev pub numbered_line : (ℕ → ShellLine) → List ℕ → Asked
-numbered_line asked rest = option_map_or (λ number. Ok (asked number)) (decimal_of rest) (Err NotBuilt)
+abbrev pub installing : Option (List ℕ) → Asked
+installing rest = fitting (text_at 1 rest) (λ text. after (document_argument text) (λ doc. Ok (Commanded (Install doc))))
 
--- what a line asks by its first word and what follows the blank behind it
-abbrev pub worded_line : List ℕ → List ℕ → Asked
+abbrev pub updating : Option (List ℕ) → Asked
+updating rest = fitting (number_and_text rest) (λ words. after (document_argument words.1) (λ doc. Ok (Commanded (Update words.0 doc))))
+
+abbrev pub finding : Option (List ℕ) → Asked
+finding rest = fitting (text_at 1 rest) (λ text. after (filter_argument text) (λ tree. Ok (Find tree)))
+
+-- the properties stand behind the interfaces
+abbrev pub registering : Option (List ℕ) → Asked
+registering rest =
+    fitting (number_at 1 rest) (λ bundle. fitting (word_at 2 bundle.1) (λ word. fitting (interfaces_at 2 word.0) (λ interfaces. fitting (text_at 3 word.1) (λ text.
+    after (properties_argument text) (λ properties. Ok (Commanded (Register bundle.0 interfaces properties)))))))
+
+abbrev pub setting : Option (List ℕ) → Asked
+setting rest = fitting (two_numbers_and_text rest) (λ words. after (properties_argument words.2) (λ properties. Ok (Commanded (SetProperties words.0 words.1 properties))))
+
+abbrev pub listening : Option (List ℕ) → Asked
+listening rest = fitting (number_and_text rest) (λ words. after (filter_argument words.1) (λ tree. Ok (Commanded (Listen words.0 tree))))
+
+-- the words with which lines of the milestones to come begin
+abbrev pub later_words : List (List ℕ)
+later_words = codes "config" ∷ codes "factory" ∷ codes "unconfig" ∷ codes "report" ∷ codes "routes" ∷ codes "call" ∷ codes "http" ∷ []
+
+-- why a line is refused that begins with no word of those that are built
+abbrev pub other_fault : List ℕ → LineFault
+other_fault word = if list_any (λ later. bytes_eq word later) later_words then NotBuilt else UnknownCommand
+
+-- what a line asks by its first word and what follows it, where the word is one of these: with a document, properties or a filter
+abbrev pub carrying_line : List ℕ → Option (List ℕ) → Asked
+carrying_line word rest =
+    if bytes_eq word (codes "install") then installing rest
+    else (if bytes_eq word (codes "update") then updating rest
+    else (if bytes_eq word (codes "register") then registering rest
+    else (if bytes_eq word (codes "set") then setting rest
+    else (if bytes_eq word (codes "listen") then listening rest
+    else (if bytes_eq word (codes "find") then finding rest else Err (other_fault word))))))
+
+-- with a bundle and a name
+abbrev pub named_line : List ℕ → Option (List ℕ) → Asked
+named_line word rest =
+    if bytes_eq word (codes "enable") then named (λ bundle name. Enable bundle name) rest
+    else (if bytes_eq word (codes "disable") then named (λ bundle name. Disable bundle name) rest else carrying_line word rest)
+
+-- with a bundle and a service, or a listener and a number of events
+abbrev pub paired_line : List ℕ → Option (List ℕ) → Asked
+paired_line word rest =
+    if bytes_eq word (codes "unregister") then paired (λ bundle service. Commanded (Unregister bundle service)) rest
+    else (if bytes_eq word (codes "get") then paired (λ bundle service. Commanded (Get bundle service)) rest
+    else (if bytes_eq word (codes "unget") then paired (λ bundle service. Commanded (Unget bundle service)) rest
+    else (if bytes_eq word (codes "events") then paired (λ listener above. Events listener above) rest else named_line word rest)))
+
+-- with a number that is told
+abbrev pub reading_line : List ℕ → Option (List ℕ) → Asked
+reading_line word rest =
+    if bytes_eq word (codes "held") then numbered (λ configuration. Held configuration) rest
+    else (if bytes_eq word (codes "trace") then numbered (λ above. Trace above) rest
+    else (if bytes_eq word (codes "bundle-events") then numbered (λ above. BundleEvents above) rest
+    else (if bytes_eq word (codes "finish") then numbered (λ turn. Finish turn) rest else paired_line word rest)))
+
+-- with a bundle or a listener
+abbrev pub bundle_line : List ℕ → Option (List ℕ) → Asked
+bundle_line word rest =
+    if bytes_eq word (codes "start") then numbered (λ bundle. Commanded (Start bundle)) rest
+    else (if bytes_eq word (codes "stop") then numbered (λ bundle. Commanded (Stop bundle)) rest
+    else (if bytes_eq word (codes "uninstall") then numbered (λ bundle. Commanded (Uninstall bundle)) rest
+    else (if bytes_eq word (codes "unlisten") then numbered (λ listener. Commanded (Unlisten listener)) rest else reading_line word rest)))
+
+-- alone
+abbrev pub worded_line : List ℕ → Option (List ℕ) → Asked
 worded_line word rest =
-    if bytes_eq word (codes "install") then install_line rest
-    else (if bytes_eq word (codes "start") then numbered_line (λ bundle. Commanded (Start bundle)) rest
-    else (if bytes_eq word (codes "stop") then numbered_line (λ bundle. Commanded (Stop bundle)) rest
-    else (if bytes_eq word (codes "held") then numbered_line (λ configuration. Held configuration) rest
-    else (if bytes_eq word (codes "trace") then numbered_line (λ after. Trace after) rest
-    else (if bytes_eq word (codes "finish") then numbered_line (λ turn. Finish turn) rest else Err NotBuilt)))))
+    if bytes_eq word (codes "quit") then alone Quit rest
+    else (if bytes_eq word (codes "bundles") then alone Bundles rest
+    else (if bytes_eq word (codes "services") then alone Services rest
+    else (if bytes_eq word (codes "components") then alone Components rest
+    else (if bytes_eq word (codes "settle") then alone Settle rest
+    else (if bytes_eq word (codes "begin") then alone Begin rest else bundle_line word rest)))))
 
 abbrev pub text_line : List ℕ → Asked
-text_line line = option_map_or (λ at. worded_line (take at line) (drop (at + 1) line)) (position is_blank line) (bare_line line)
+text_line line = worded_line (first_word line) (behind_word line)
 
 -- what a line asks
 abbrev pub shell_line : List ℕ → Asked
-shell_line line = if is_silent line then Ok Silent else (if is_utf8 line then text_line line else Err NotBuilt)
-
--- the answer is what is asked; want of memory is free
-abbrev pub Reads : Asked → Asked → Type 0
-Reads meaning (Ok asked) = meaning ≡ Ok asked
-Reads meaning (Err OutOfMemory) = Unit {0}
-Reads meaning (Err fault) = meaning ≡ Err fault
+shell_line line = if is_silent line then Ok Silent else (if is_utf8 line then text_line line else Err UnknownCommand)
 
 abbrev pub ReadsLine : List ℕ → Asked → Type 0
 ReadsLine line answer = Reads (shell_line line) answer

@@ -1,7 +1,7 @@
 //! The texts of the faults of a document.
 ghost use Rattle.std.specs.Prelude.{◌≡◌, IfOk, string_bytes};
 ghost use Rattle.std.specs.Fmt.{decimal};
-ghost use Rattle.shell_lang.specs.FaultTexts.{description_fault_fields, description_fault_name, document_fault_entry, document_fault_fields, document_fault_name, document_fault_text, header_fault_fields, header_fault_name, prop_fault_fields, prop_fault_name, spaced};
+ghost use Rattle.shell_lang.specs.FaultTexts.{description_fault_fields, description_fault_name, document_fault_entry, document_fault_fields, document_fault_name, document_fault_text, header_fault_fields, header_fault_name, prop_fault_fields, prop_fault_name, prop_fault_text, spaced};
 
 use bundle_doc::DocFault;
 use bundle_headers::HeaderFault;
@@ -132,6 +132,15 @@ fn description_fault_fields(alloc: Global, fault: &DescriptionFault) -> Result<S
     }
 }
 
+// The text of a fault of properties alone: its name and its fields.
+pub(crate) fn prop_fault_text(alloc: Global, fault: &PropFault) -> Result<String, OutOfMemory>
+    ensures { IfOk result (λ text. string_bytes text ≡ prop_fault_text fault.now) }
+{
+    let mut text = String::from_str(alloc, prop_fault_name(fault))?;
+    text.push_str(prop_fault_fields(alloc, fault)?.as_str())?;
+    Ok(text)
+}
+
 fn prop_fault_name(fault: &PropFault) -> &'static str
     ensures { result.now ≡ prop_fault_name fault.now }
 {
@@ -157,7 +166,7 @@ fn prop_fault_fields(alloc: Global, fault: &PropFault) -> Result<String, OutOfMe
     }
 }
 
-fn spaced(alloc: Global, word: &str) -> Result<String, OutOfMemory>
+pub(crate) fn spaced(alloc: Global, word: &str) -> Result<String, OutOfMemory>
     ensures { IfOk result (λ text. string_bytes text ≡ spaced word.now) }
 {
     format!(in alloc; " {word}")

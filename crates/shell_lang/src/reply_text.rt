@@ -1,13 +1,14 @@
 //! The text of a reply.
 ghost use Rattle.std.specs.Prelude.{◌≡◌, IfOk, codes, string_bytes};
-ghost use Rattle.shell_lang.specs.ReplyTexts.{finished_text, reply_text, turn_text};
+ghost use Rattle.shell_lang.specs.ReplyTexts.{reply_text};
+ghost use Rattle.shell_lang.specs.TurnTexts.{finished_text};
 
 use crate::ShellReply;
 use crate::refusal_text::refusal_text;
-use crate::row_text::{rows_text, turn_text};
-use callback_orders::Outcome;
-use first_core::TurnLine;
+use crate::row_text::{placed_rows_text, rows_text};
+use crate::turn_text::{finished_text, turn_text};
 use prop_map::OutOfMemory;
+use scr_world::TurnLine;
 use std::alloc::Global;
 
 /// The text of a reply: one or more lines, each with its end.
@@ -26,8 +27,20 @@ fn reply_text(alloc: Global, reply: &ShellReply) -> Result<String, OutOfMemory>
     match reply {
         ShellReply::Done => String::from_str(alloc, "ok\n"),
         ShellReply::Bundle(bundle) => format!(in alloc; "ok bundle {bundle}\n"),
+        ShellReply::Service(service) => format!(in alloc; "ok service {service}\n"),
+        ShellReply::Uses(uses) => format!(in alloc; "ok uses {uses}\n"),
+        ShellReply::Listener(listener) => format!(in alloc; "ok listener {listener}\n"),
+        ShellReply::Bundles(rows) => rows_text(alloc, rows.as_slice()),
+        ShellReply::Services(rows) => rows_text(alloc, rows.as_slice()),
         ShellReply::Components(rows) => rows_text(alloc, rows.as_slice()),
         ShellReply::Held(rows) => rows_text(alloc, rows.as_slice()),
+        ShellReply::Found(numbers) => rows_text(alloc, numbers.as_slice()),
+        ShellReply::Events { before, events } => {
+            placed_rows_text(alloc, *before, events.as_slice())
+        }
+        ShellReply::BundleEvents { before, events } => {
+            placed_rows_text(alloc, *before, events.as_slice())
+        }
         ShellReply::Trace(rows) => rows_text(alloc, rows.as_slice()),
         ShellReply::Turns(count) => format!(in alloc; "ok turns {count}\n"),
         ShellReply::Begun(line) => begun_text(alloc, line),
@@ -45,14 +58,4 @@ fn begun_text(alloc: Global, line: &TurnLine) -> Result<String, OutOfMemory>
 {
     let turn = turn_text(alloc, line)?;
     format!(in alloc; "ok turn {}\n", turn.as_str())
-}
-
-fn finished_text(outcome: Outcome) -> &'static str
-    ensures { result.now ≡ finished_text outcome }
-{
-    match outcome {
-        Outcome::Done => "ok done\n",
-        Outcome::Refused => "ok refused\n",
-        Outcome::NoMemory => "ok no-memory\n",
-    }
 }

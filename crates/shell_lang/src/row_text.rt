@@ -1,11 +1,14 @@
 //! The rows that a reply tells, each on a line of its own.
 ghost use Rattle.std.specs.Prelude.{◌≡◌, IfOk, codes, string_bytes};
-ghost use Rattle.shell_lang.specs.ReplyTexts.{bound_text, callback_word, component_text, held_text, outcome_text, rows_text, service_text, trace_text, turn_text};
+ghost use Rattle.shell_lang.specs.RowTexts.{bundle_event_text, bundle_text, component_text, held_text, number_text, placed_rows_text, registered_text, rows_text, service_event_text, versioned_text};
 
-use callback_orders::{Callback, Outcome};
-use first_core::{ComponentLine, HeldLine, TurnLine};
+use crate::joined_text::joined;
+use bundle_life::BundleEvent;
 use prop_map::OutOfMemory;
-use std::alloc::Global;
+use scr_world::{BundleLine, ComponentLine, HeldLine};
+use service_listeners::ServiceEvent;
+use service_registry::{ServiceRow, ranking};
+use std::alloc::{AllocError, Global};
 
 // What is told on a line of its own.
 pub(crate) trait Row {
@@ -16,6 +19,45 @@ pub(crate) trait Row {
     // The line, with its end.
     fn text(&self, alloc: Global) -> Result<String, OutOfMemory>
         ensures { IfOk result (λ text. string_bytes text ≡ row_text self.now) };
+}
+
+impl Row for BundleLine {
+    ghost row_text = { bundle_text };
+
+    fn text(&self, alloc: Global) -> Result<String, OutOfMemory> {
+        let version = self.version.text(alloc)?;
+        versioned_text(alloc, self, version.as_str())
+    }
+}
+
+impl Row for ServiceEvent {
+    ghost row_text = { service_event_text };
+
+    fn text(&self, alloc: Global) -> Result<String, OutOfMemory> {
+        let value = self.value;
+        let service = self.service;
+        format!(in alloc; "{value} {service}\n")
+    }
+}
+
+// A bundle's line with this text of its version.
+fn versioned_text(alloc: Global, row: &BundleLine, version: &str) -> Result<String, OutOfMemory>
+    ensures { IfOk result (λ text. string_bytes text ≡ versioned_text row.now version.now) }
+{
+    let bundle = row.bundle;
+    let state = row.state;
+    let name = row.name.as_str();
+    format!(in alloc; "{bundle} {state} {name} {version}\n")
+}
+
+impl Row for BundleEvent {
+    ghost row_text = { bundle_event_text };
+
+    fn text(&self, alloc: Global) -> Result<String, OutOfMemory> {
+        let value = self.value;
+        let bundle = self.bundle;
+        format!(in alloc; "{value} {bundle}\n")
+    }
 }
 
 impl Row for ComponentLine {
@@ -40,14 +82,24 @@ impl Row for HeldLine {
     }
 }
 
-impl Row for TurnLine {
-    ghost row_text = { trace_text };
+impl Row for ServiceRow {
+    ghost row_text = { registered_text };
 
     fn text(&self, alloc: Global) -> Result<String, OutOfMemory> {
-        let mut text = turn_text(alloc, self)?;
-        text.push_str(outcome_text(self.outcome))?;
-        text.push_str("\n")?;
-        Ok(text)
+        let service = self.id;
+        let bundle = self.bundle;
+        let interfaces = joined(alloc, ",", self.interfaces.as_slice())?;
+        let ranking = ranking(&self.properties);
+        format!(in alloc; "{service} {bundle} {} {ranking}\n", interfaces.as_str())
+    }
+}
+
+impl Row for u64 {
+    ghost row_text = { number_text };
+
+    fn text(&self, alloc: Global) -> Result<String, OutOfMemory> {
+        let number = *self;
+        format!(in alloc; "{number}\n")
     }
 }
 
@@ -62,59 +114,21 @@ pub(crate) fn rows_text<R: Row>(alloc: Global, rows: &[R]) -> Result<String, Out
     Ok(text)
 }
 
-// A turn without its outcome.
-pub(crate) fn turn_text(alloc: Global, line: &TurnLine) -> Result<String, OutOfMemory>
-    ensures { IfOk result (λ text. string_bytes text ≡ turn_text line.now) }
+// The number of rows behind so many others, and a line for each with its position. A position that is no number of 64 bits
+// counts as want of memory.
+pub(crate) fn placed_rows_text<R: Row>(
+    alloc: Global,
+    before: u64,
+    rows: &[R],
+) -> Result<String, OutOfMemory>
+    ensures { IfOk result (λ text. string_bytes text ≡ placed_rows_text R.row_text before rows.now) }
 {
-    let turn = line.turn;
-    let word = callback_word(&line.callback);
-    let instance = line.instance;
-    let name = line.name.as_str();
-    let bound = bound_text(alloc, &line.callback)?;
-    format!(in alloc; "{turn} {word} {instance} {name}{}", bound.as_str())
-}
-
-fn callback_word(callback: &Callback) -> &'static str
-    ensures { result.now ≡ callback_word callback.now }
-{
-    match callback {
-        Callback::Create => "create",
-        Callback::Bind { .. } => "bind",
-        Callback::Updated { .. } => "updated",
-        Callback::Unbind { .. } => "unbind",
-        Callback::Activate => "activate",
-        Callback::Modified => "modified",
-        Callback::Deactivate => "deactivate",
-        Callback::Destroy => "destroy",
+    let mut text = format!(in alloc; "ok {}\n", rows.len())?;
+    let mut position = before;
+    for row in rows {
+        position = position.checked_add(1).ok_or(AllocError)?;
+        text.push_str(format!(in alloc; "{position} ")?.as_str())?;
+        text.push_str(row.text(alloc)?.as_str())?;
     }
-}
-
-fn bound_text(alloc: Global, callback: &Callback) -> Result<String, OutOfMemory>
-    ensures { IfOk result (λ text. string_bytes text ≡ bound_text callback.now) }
-{
-    match callback {
-        Callback::Bind { reference, service }
-        | Callback::Updated { reference, service }
-        | Callback::Unbind { reference, service } => {
-            service_text(alloc, reference.as_str(), *service)
-        }
-        _ => Ok(String::new(alloc)),
-    }
-}
-
-fn service_text(alloc: Global, reference: &str, service: u64) -> Result<String, OutOfMemory>
-    ensures { IfOk result (λ text. string_bytes text ≡ service_text reference.now service) }
-{
-    format!(in alloc; " {reference} {service}")
-}
-
-fn outcome_text(outcome: Option<Outcome>) -> &'static str
-    ensures { result.now ≡ outcome_text outcome }
-{
-    match outcome {
-        None => " outstanding",
-        Some(Outcome::Done) => "",
-        Some(Outcome::Refused) => " refused",
-        Some(Outcome::NoMemory) => " no-memory",
-    }
+    Ok(text)
 }

@@ -1,9 +1,12 @@
 //! What lines are answered.
 
 use crate::LineFault;
+use bundle_life::BundleEvent;
 use callback_orders::Outcome;
-use first_core::{ComponentLine, CoreFault, HeldLine, TurnLine};
 use prop_map::List;
+use scr_world::{BundleLine, ComponentLine, CoreFault, HeldLine, TurnLine};
+use service_listeners::ServiceEvent;
+use service_registry::ServiceRow;
 
 /// Why a line isn't carried out.
 #[derive(Debug, PartialEq, Eq, Drop)]
@@ -34,10 +37,36 @@ pub enum ShellReply {
     Done,
     /// The number of a bundle.
     Bundle(u64),
+    /// The number of a service.
+    Service(u64),
+    /// How often a bundle uses a service now.
+    Uses(u32),
+    /// The number of a listener.
+    Listener(u64),
+    /// The bundles.
+    Bundles(List<BundleLine>),
+    /// The services.
+    Services(List<ServiceRow>),
     /// The component configurations.
     Components(List<ComponentLine>),
     /// What instances hold.
     Held(List<HeldLine>),
+    /// The numbers of services, the best first.
+    Found(List<u64>),
+    /// What a listener was told.
+    Events {
+        /// How many events come before these.
+        before: u64,
+        /// The events.
+        events: List<ServiceEvent>,
+    },
+    /// What happened to bundles.
+    BundleEvents {
+        /// How many events come before these.
+        before: u64,
+        /// The events.
+        events: List<BundleEvent>,
+    },
     /// Turns.
     Trace(List<TurnLine>),
     /// How many turns ran.

@@ -1,8 +1,8 @@
 //! Platforms for tests.
 
-use first_core::{CoreFault, Limits};
 use kind_trait::Kinds;
 use platform_shell::Platform;
+use scr_core::{Limits, Reply};
 use shell_lang::{ShellLine, read_line};
 use std::alloc::Global;
 
@@ -11,20 +11,33 @@ pub(crate) const LIMITS: Limits = Limits {
     turns: 100,
 };
 
+pub(crate) const PROVIDER: &str =
+    r#"install {"location":"p","components":{"p":{"implementationClass":"D","serviceInterfaces":["P"]}}}"#;
+
+// A consumer of P and its provider are installed and started, in this order.
 pub(crate) const LINES: [&str; 4] = [
-    "install {\"location\":\"c\",\"components\":{\"c\":{\"implementationClass\":\"C\",\"references\":[{\"interfaceName\":\"P\"}]}}}",
-    "install {\"location\":\"p\",\"components\":{\"p\":{\"implementationClass\":\"D\",\"serviceInterfaces\":[\"P\"]}}}",
+    r#"install {"location":"c","components":{"c":{"implementationClass":"C","references":[{"interfaceName":"P"}]}}}"#,
+    PROVIDER,
     "start 1",
     "start 2",
 ];
 
-// A platform on which a consumer of P and its provider are started, in this order.
-pub(crate) fn started<K: Kinds + Drop>(alloc: Global, kinds: K) -> Result<Platform<K>, CoreFault> {
-    let mut platform = Platform::new(alloc, kinds, LIMITS)?;
-    for line in LINES {
-        if let Ok(ShellLine::Command(command)) = read_line(alloc, line.as_bytes()) {
-            platform.command(alloc, command)?;
-        }
+// What the command of a line is answered.
+fn take_line<K: Kinds + Drop>(
+    alloc: Global,
+    platform: &mut Platform<K>,
+    line: &str,
+) -> Option<Reply> {
+    match read_line(alloc, line.as_bytes()) {
+        Ok(ShellLine::Command(command)) => platform.command(alloc, command).ok(),
+        _ => None,
     }
-    Ok(platform)
+}
+
+// Starts the consumer and the provider.
+pub(crate) fn start_both<K: Kinds + Drop>(alloc: Global, platform: &mut Platform<K>) -> Option<()> {
+    for line in LINES {
+        take_line(alloc, platform, line)?;
+    }
+    Some(())
 }

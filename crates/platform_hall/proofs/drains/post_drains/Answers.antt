@@ -1,9 +1,8 @@
 use Rattle.std.proofs.Common.{suc, refl, sym, ◌∙◌, subst}
-use Rattle.first_core.specs.declared.command.Limits.{Limits}
-use Rattle.first_core.specs.Calls.{Drains}
+use Rattle.scr_world.specs.declared.command.Limits.{Limits}
+use Rattle.scr_world.specs.Calls.{Drains}
 use Rattle.platform_hall.specs.Platforms.{world}
-use Rattle.first_core.proofs.Draining.{next_awaits}
-use Rattle.platform_hall.proofs.Draining.{none_awaits, room_falls}
+use Rattle.platform_hall.proofs.Draining.{next_awaits, none_awaits, room_falls}
 use Rattle.platform_hall.proofs.drains.post_drains.Goals as goal
 
 pub loop-key-init : goal.loop-key-init

@@ -8,4 +8,4 @@ invariant-loop-key l = Posts l.fn.core l.core
 
 -- the room that is left
 abbrev pub decreases-loop-key : goal.decreases-loop-key
-decreases-loop-key l = l.core.limits.journal - (world l.core).length_is
+decreases-loop-key l = l.core.limits.journal - (world l.core).entries

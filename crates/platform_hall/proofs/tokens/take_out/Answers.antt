@@ -2,7 +2,7 @@ use Rattle.std.proofs.Common.{◌≡◌, ◌<◌, ℕ, ◌+◌, List, ap, sym, �
 use Rattle.std.specs.Prelude.{◌==◌, slice_index, slice_index_or}
 use Rattle.std.proofs.lemmas.Grind.{get_or_default_zero}
 use Rattle.std.proofs.lemmas.List.Sums.{sum_by-swap_remove}
-use Rattle.first_core.specs.Room.{one_if}
+use Rattle.scr_world.specs.Room.{one_if}
 use Rattle.platform_hall.specs.Desks.{tokens_of}
 use Rattle.platform_hall.proofs.tokens.take_out.Goals as goal
 

@@ -1,6 +1,6 @@
 use Rattle.std.proofs.Common.{◌≡◌, ◌++◌, drop, flat_map}
 use Rattle.std.specs.String.{string_bytes}
-use Rattle.shell_lang.specs.ReplyTexts.{rows_text}
+use Rattle.shell_lang.specs.RowTexts.{rows_text}
 use Rattle.shell_lang.proofs.row_text.rows_text.Given as goal
 
 -- the text so far and that of the rows that are left

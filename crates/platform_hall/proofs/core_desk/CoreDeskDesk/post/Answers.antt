@@ -1,5 +1,5 @@
 use Rattle.std.proofs.Common.{ap, ◌∙◌}
-use Rattle.first_core.specs.Cores.{CoreView}
+use Rattle.scr_core.specs.Cores.{CoreView}
 use Rattle.platform_hall.specs.Platforms.{has_object}
 use Rattle.platform_hall.proofs.Desks.{desk_alike}
 use Rattle.platform_hall.proofs.Settlings.{posts_alike}

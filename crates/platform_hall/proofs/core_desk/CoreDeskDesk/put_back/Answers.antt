@@ -2,10 +2,10 @@ use Rattle.std.proofs.Common.{◌≡◌, ◌++◌, ◌∷◌, [], ◌&&◌, ◌|
 use Rattle.std.specs.Prelude.{◌==◌, is_some, not}
 use Rattle.platform_hall.specs.Desks.{is_holder}
 use Rattle.turn_runner.specs.Outcomes.{IsRunOf, has_object_after, is_destroy_of}
-use Rattle.first_core.specs.declared.command.Step.TheVariants.{End}
-use Rattle.first_core.specs.Calls.{Grown}
-use Rattle.first_core.specs.Cores.{CoreView}
-use Rattle.first_core.specs.Legal.{is_under_way}
+use Rattle.scr_world.specs.declared.step.Step.TheVariants.{End}
+use Rattle.scr_world.specs.Calls.{Grown}
+use Rattle.scr_core.specs.Cores.{CoreView}
+use Rattle.scr_world.specs.Legal.{is_under_way}
 use Rattle.platform_hall.specs.Desks.{IsDesk}
 use Rattle.platform_hall.specs.Platforms.{has_object, running, world}
 use Rattle.platform_hall.proofs.Desks.{desk_back, ended_desk, ended_has, ended_runs_no_more, has_token, running_under_way, same_view}

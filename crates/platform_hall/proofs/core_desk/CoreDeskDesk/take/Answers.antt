@@ -1,9 +1,10 @@
-use Rattle.std.proofs.Common.{◌++◌, ◌∷◌, [], ap, sym, ◌∙◌, subst}
-use Rattle.first_core.specs.Cores.{CoreView}
+use Rattle.std.proofs.Common.{◌≡◌, ◌++◌, ◌∷◌, [], ap, sym, ◌∙◌, subst, true, false}
+use Rattle.scr_core.specs.Cores.{CoreView}
 use Rattle.platform_hall.specs.Desks.{IsDesk}
-use Rattle.platform_hall.specs.Platforms.{has_object}
+use Rattle.platform_hall.specs.Platforms.{Begins, has_due, has_object, has_room}
 use Rattle.platform_hall.proofs.Desks.{desk_begun, running_fits}
 use Rattle.platform_hall.proofs.Settlings.{begins_as, begins_legal}
+use Rattle.platform_hall.proofs.Taking.{full_step, idle_step, taken_step}
 use Rattle.platform_hall.proofs.core_desk.CoreDeskDesk.take.Goals as goal
 
 pub invariant_of-self-in-Ok-Turn : goal.invariant_of-self-in-Ok-Turn
@@ -12,22 +13,40 @@ invariant_of-self-in-Ok-Turn g c =
     let turns = c.self.inside.turns.items in
     let grew = c.push_reserved.ensures.items ∙ ap (λ xs. xs ++ c.in-Ok-Turn.token ∷ []) c.reserve.ensures.items ∙ ap (λ t. turns ++ t ∷ []) took.0 in
     subst (λ xs. IsDesk {O = g.row.O.Denot} c.take_turn.new.self xs c.self.inside.held.items) (sym grew)
-    (desk_begun c.self.inside.core c.take_turn.new.self turns c.self.inside.held.items c.in-Ok-Turn.work c.note_legal.ensures (c.in-Ok-Turn.ensures.limits, took.1) c.self.invariant)
+    (desk_begun c.self.inside.core c.take_turn.new.self turns c.self.inside.held.items c.in-Ok-Turn.work c.note_legal.ensures (c.in-Ok-Turn.ensures.limits, took.1, took.2) c.self.invariant)
 
 pub returns-in-Ok-Turn-clause-running : goal.returns-in-Ok-Turn-clause-running
 returns-in-Ok-Turn-clause-running g c =
     let took = rw c.in-Ok-Turn.field-0-is at c.in-Ok-Turn.ensures.answer in
-    (begins_as c.self.inside.core c.take_turn.new.self c.in-Ok-Turn.work c.note_legal.ensures (c.in-Ok-Turn.ensures.limits, took.1)).running
+    (begins_as c.self.inside.core c.take_turn.new.self c.in-Ok-Turn.work c.note_legal.ensures (c.in-Ok-Turn.ensures.limits, took.1, took.2)).running
 
 pub returns-in-Ok-Turn-clause-fits : goal.returns-in-Ok-Turn-clause-fits
 returns-in-Ok-Turn-clause-fits g c =
     let took = rw c.in-Ok-Turn.field-0-is at c.in-Ok-Turn.ensures.answer in
     running_fits c.take_turn.new.self c.in-Ok-Turn.work.number c.in-Ok-Turn.work
-    (begins_legal c.self.inside.core c.take_turn.new.self c.in-Ok-Turn.work c.note_legal.ensures (c.in-Ok-Turn.ensures.limits, took.1))
-    (begins_as c.self.inside.core c.take_turn.new.self c.in-Ok-Turn.work c.note_legal.ensures (c.in-Ok-Turn.ensures.limits, took.1)).running
+    (begins_legal c.self.inside.core c.take_turn.new.self c.in-Ok-Turn.work c.note_legal.ensures (c.in-Ok-Turn.ensures.limits, took.1, took.2))
+    (begins_as c.self.inside.core c.take_turn.new.self c.in-Ok-Turn.work c.note_legal.ensures (c.in-Ok-Turn.ensures.limits, took.1, took.2)).running
 
 pub returns-in-Ok-Turn-clause-objects : goal.returns-in-Ok-Turn-clause-objects
 returns-in-Ok-Turn-clause-objects g c = λ n.
     let took = rw c.in-Ok-Turn.field-0-is at c.in-Ok-Turn.ensures.answer in
-    (begins_as c.self.inside.core c.take_turn.new.self c.in-Ok-Turn.work c.note_legal.ensures (c.in-Ok-Turn.ensures.limits, took.1)).objects n
+    (begins_as c.self.inside.core c.take_turn.new.self c.in-Ok-Turn.work c.note_legal.ensures (c.in-Ok-Turn.ensures.limits, took.1, took.2)).objects n
     ∙ ap (λ (p : CoreView). has_object p n) c.self.view_is
+
+pub returns-in-Ok-Turn-clause-step : goal.returns-in-Ok-Turn-clause-step
+returns-in-Ok-Turn-clause-step g c =
+    let took = rw c.in-Ok-Turn.field-0-is at c.in-Ok-Turn.ensures.answer in
+    subst (λ (p : CoreView). (has_due p ≡ true) × (has_room p ≡ true) × Begins p c.in-Ok-Turn.work c.take_turn.new.self) c.self.view_is
+    (taken_step c.self.inside.core c.take_turn.new.self c.in-Ok-Turn.work (c.in-Ok-Turn.ensures.limits, took.1, took.2))
+
+pub returns-in-Ok-Idle-clause-step : goal.returns-in-Ok-Idle-clause-step
+returns-in-Ok-Idle-clause-step g c =
+    let idle = rw c.in-Ok-Idle.field-0-is at c.in-Ok-Idle.ensures.answer in
+    subst (λ (p : CoreView). (has_due p ≡ false) × (c.take_turn.new.self ≡ p)) c.self.view_is
+    (idle_step c.self.inside.core c.take_turn.new.self c.in-Ok-Idle.ensures.limits idle)
+
+pub returns-in-Err-JournalFull-clause-step : goal.returns-in-Err-JournalFull-clause-step
+returns-in-Err-JournalFull-clause-step g c =
+    let full = rw c.in-Err-JournalFull.field-0-is at c.in-Err-JournalFull.ensures.answer in
+    subst (λ (p : CoreView). (has_due p ≡ true) × (has_room p ≡ false) × (c.take_turn.new.self ≡ p)) c.self.view_is
+    (full_step c.self.inside.core c.take_turn.new.self c.in-Err-JournalFull.ensures.limits full)

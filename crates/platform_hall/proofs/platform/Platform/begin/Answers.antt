@@ -1,6 +1,6 @@
 use Rattle.std.proofs.Common.{refl, subst, Ok, Err, None}
-use Rattle.first_core.specs.declared.command.CoreFault.TheVariants.{JournalFull, OutOfMemory}
-use Rattle.first_core.specs.Cores.{CoreView}
+use Rattle.scr_world.specs.declared.reply.CoreFault.TheVariants.{JournalFull, OutOfMemory}
+use Rattle.scr_core.specs.Cores.{CoreView}
 use Rattle.platform_hall.specs.Platforms.{Begins, BeginsTurn}
 use Rattle.platform_hall.proofs.platform.Platform.begin.Goals as goal
 use Rattle.platform_hall.proofs.platform.Platform.begin.Goals.{in-Ok-Some, in-Ok-None, in-Err-JournalFull, in-Err-OutOfMemory}

@@ -1,6 +1,6 @@
 use Rattle.std.proofs.Common.{sym, ◌∙◌, subst, inr}
 use Rattle.std.proofs.lemmas.Result.{err_from_is_err_and}
-use Rattle.first_core.specs.Cores.{CoreView}
+use Rattle.scr_core.specs.Cores.{CoreView}
 use Rattle.platform_hall.specs.Platforms.{Finishes}
 use Rattle.platform_hall.proofs.Results.{when_ok}
 use Rattle.platform_hall.proofs.platform.Platform.finish.Goals as goal

@@ -1,0 +1,2 @@
+mod UnderWay
+mod Draining

@@ -1,5 +1,0 @@
-use Rattle.std.proofs.Common.{◌≡◌, take}
-use Rattle.first_pass.proofs.pass_steps.copied.Given as goal
-
-abbrev pub invariant-loop-period : goal.invariant-loop-period
-invariant-loop-period l = l.copies.items ≡ take l.period-index l.periods

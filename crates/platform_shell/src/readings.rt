@@ -1,0 +1,118 @@
+//! What lines ask that look at the platform alone.
+ghost use Rattle.platform_shell.specs.Asks.{events_reply};
+ghost use Rattle.platform_shell.specs.Carries.{CarriesHeld, CarriesReading};
+ghost use Rattle.platform_hall.specs.Platforms.{world};
+ghost use Rattle.scr_world.specs.Readers.{bundle_events_after, bundle_lines, component_lines, found, service_lines};
+ghost use Rattle.scr_world.specs.Steps.{history_of};
+ghost use Rattle.scr_world.specs.TurnLines.{turns_above};
+
+use crate::asked::refused;
+use kind_trait::Kinds;
+use ldap_filter::Filter;
+use platform_hall::Platform;
+use prop_map::List;
+use shell_lang::ShellReply;
+use std::alloc::Global;
+use turn_runner::SettleFault;
+
+// The bundles and their states.
+pub(crate) fn bundles<K: Kinds + Drop>(
+    alloc: Global,
+    platform: &Platform<K>,
+) -> Result<ShellReply, SettleFault>
+    ensures { CarriesReading (ShellReply.Bundles (bundle_lines (world platform.now))) result }
+{
+    let rows = platform.core().bundle_rows(alloc)?;
+    Ok(ShellReply::Bundles(rows))
+}
+
+// The services.
+pub(crate) fn services<K: Kinds + Drop>(
+    alloc: Global,
+    platform: &Platform<K>,
+) -> Result<ShellReply, SettleFault>
+    ensures { CarriesReading (ShellReply.Services (service_lines (world platform.now))) result }
+{
+    let rows = platform.core().service_rows(alloc)?;
+    Ok(ShellReply::Services(rows))
+}
+
+// The component configurations and their states.
+pub(crate) fn components<K: Kinds + Drop>(
+    alloc: Global,
+    platform: &Platform<K>,
+) -> Result<ShellReply, SettleFault>
+    ensures { CarriesReading (ShellReply.Components (component_lines (world platform.now))) result }
+{
+    let rows = platform.core().component_rows(alloc)?;
+    Ok(ShellReply::Components(rows))
+}
+
+// What the instances of a component configuration hold.
+pub(crate) fn held<K: Kinds + Drop>(
+    alloc: Global,
+    platform: &Platform<K>,
+    configuration: u64,
+) -> Result<ShellReply, SettleFault>
+    ensures { CarriesHeld configuration platform.now result }
+{
+    match platform.core().held_rows(alloc, configuration) {
+        Ok(rows) => Ok(ShellReply::Held(rows)),
+        Err(fault) => refused(fault),
+    }
+}
+
+// The services that a filter matches.
+pub(crate) fn found<K: Kinds + Drop>(
+    alloc: Global,
+    platform: &Platform<K>,
+    filter: &Filter,
+) -> Result<ShellReply, SettleFault>
+    ensures { CarriesReading (ShellReply.Found (found (world platform.now) filter.now)) result }
+{
+    let numbers = platform.core().find(alloc, filter)?;
+    Ok(ShellReply::Found(List::of(numbers)))
+}
+
+// What a listener was told.
+pub(crate) fn events<K: Kinds + Drop>(
+    alloc: Global,
+    platform: &Platform<K>,
+    listener: u64,
+    before: u64,
+) -> Result<ShellReply, SettleFault>
+    ensures { CarriesReading (events_reply (world platform.now) listener before) result }
+{
+    match platform.core().events(listener, before) {
+        Ok(events) => {
+            let events = List::of(Vec::from_slice(alloc, events)?);
+            Ok(ShellReply::Events { before, events })
+        }
+        Err(fault) => refused(fault),
+    }
+}
+
+// What happened to bundles.
+pub(crate) fn bundle_events<K: Kinds + Drop>(
+    alloc: Global,
+    platform: &Platform<K>,
+    before: u64,
+) -> Result<ShellReply, SettleFault>
+    ensures { CarriesReading (ShellReply.BundleEvents before (bundle_events_after before (world platform.now))) result }
+{
+    let events = Vec::from_slice(alloc, platform.core().bundle_events(before))?;
+    let events = List::of(events);
+    Ok(ShellReply::BundleEvents { before, events })
+}
+
+// The turns with a number above this one.
+pub(crate) fn trace<K: Kinds + Drop>(
+    alloc: Global,
+    platform: &Platform<K>,
+    after: u64,
+) -> Result<ShellReply, SettleFault>
+    ensures { CarriesReading (ShellReply.Trace (turns_above after (history_of platform.now.journal))) result }
+{
+    let turns = platform.core().trace(alloc, after)?;
+    Ok(ShellReply::Trace(turns))
+}

@@ -1,2 +1,0 @@
-pub mod Platforms
-pub mod Desks

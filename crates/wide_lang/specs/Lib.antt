@@ -1,4 +1,0 @@
-pub mod ShellLines
-pub mod FaultTexts
-pub mod CoreFaultTexts
-pub mod ReplyTexts
