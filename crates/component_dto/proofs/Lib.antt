@@ -1,3 +1,4 @@
 pub mod EachRead
+pub mod OnceLemmas
 pub mod Places
 pub mod TextListLemmas

@@ -10,10 +10,10 @@ use Rattle.std.proofs.lemmas.Map.Views.{any-filter_same}
 use Rattle.std.proofs.lemmas.List.{map-append, take_more}
 use Rattle.component_dto.specs.TextLists.{has_text, each_once, repeated_behind}
 
-same_text : (a b : List ℕ) → bytes_eq a b ≡ true → a ≡ b
+pub same_text : (a b : List ℕ) → bytes_eq a b ≡ true → a ≡ b
 same_text a b e = (bytes_eq-Decides a b).0 e
 
-text_itself : (a : List ℕ) → bytes_eq a a ≡ true
+pub text_itself : (a : List ℕ) → bytes_eq a a ≡ true
 text_itself a = (bytes_eq-Decides a a).1 refl
 
 -- what differs from x is found where it was, and x is not found

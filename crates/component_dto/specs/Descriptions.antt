@@ -1,6 +1,6 @@
 -- A description as JSON data: ComponentDescriptionDTO of OSGi Compendium 8, chapter 112. The defaults are those of its
 -- attributes and elements in section 112.4; that of the name is our own.
-use Rattle.std.specs.Prelude.{ℕ, true, false, List, [], ◌∷◌, map, codes, if◌then◌else◌, Result, Ok, Err}
+use Rattle.std.specs.Prelude.{ℕ, true, List, [], ◌∷◌, map, codes, if◌then◌else◌, Result, Ok, Err}
 use Rattle.std.specs.Option.{is_some, unwrap_or}
 use Rattle.std.specs.Str.{bytes_eq}
 use Rattle.serde_json.specs.Data.{Data}
@@ -20,7 +20,7 @@ use Rattle.component_dto.specs.declared.given_fields.LifeFields.{LifeFields}
 use Rattle.component_dto.specs.declared.references.ReferenceFields.{ReferenceFields}
 use Rattle.component_dto.specs.Fields.{after, flag_at, given, if_given, needed_text_at, or_empty, text_at, texts_at, word_at}
 use Rattle.component_dto.specs.References.{references_at}
-use Rattle.component_dto.specs.Rules.{is_immediate, rules}
+use Rattle.component_dto.specs.Rules.{is_immediate, is_implicit, rules}
 use Rattle.component_dto.specs.TextLists.{each_once}
 use Rattle.component_dto.specs.Words.{configuration_policy_of, scope_of}
 
@@ -53,6 +53,15 @@ life_fields d =
     after (texts_at (codes "configurationPid") d) (λ pids.
     Ok (record { modified = modified; configuration_policy = policy; configuration_pids = pids }))))))
 
+-- `$` stands for the name
+abbrev pub pid_of : List ℕ → List ℕ → List ℕ
+pid_of name pid = if bytes_eq pid (codes "$") then name else pid
+
+-- the PIDs of a component of this name, each once, by default the name
+abbrev pub pids_of : List ℕ → List (List ℕ) → List (List ℕ)
+pids_of name [] = name ∷ []
+pids_of name (pid ∷ pids) = each_once (map (pid_of name) (pid ∷ pids))
+
 -- the fields of a description in order, or the first that is at fault
 abbrev pub given_fields : Data → Result GivenFields DescriptionFault
 given_fields d =
@@ -78,20 +87,11 @@ given_fields d =
       references = references;
       modified = life.modified;
       configuration_policy = unwrap_or life.configuration_policy Optional;
-      configuration_pids = life.configuration_pids;
+      configuration_pids = pids_of (unwrap_or name class) life.configuration_pids;
     })))))))))))
 
 abbrev pub of_object : Data → Result (Unit {0}) DescriptionFault
 of_object d = if is_some (as_object d) then Ok tt else Err (WrongType (codes "component"))
-
--- `$` stands for the name
-abbrev pub pid_of : List ℕ → List ℕ → List ℕ
-pid_of name pid = if bytes_eq pid (codes "$") then name else pid
-
--- the PIDs of a component of this name, by default the name
-abbrev pub pids_of : List ℕ → List (List ℕ) → List (List ℕ)
-pids_of name [] = name ∷ []
-pids_of name (pid ∷ pids) = map (pid_of name) (pid ∷ pids)
 
 abbrev pub references_of : GivenFields → List Reference
 references_of f = map (λ (r : ReferenceFields). r.reference) f.references
@@ -109,8 +109,8 @@ described f = record {
   references = references_of f;
   modified = f.modified;
   configuration_policy = f.configuration_policy;
-  configuration_pids = pids_of f.name f.configuration_pids;
-  implicit = false;
+  configuration_pids = f.configuration_pids;
+  implicit = is_implicit f.references;
 }
 
 -- the description that a value is, or what is wrong with it first: that it is no object, a field, a rule

@@ -1,6 +1,7 @@
 -- The rules on a description's fields that say how they go together. Our own words.
-use Rattle.std.specs.Prelude.{ℕ, ◌==◌, ◌&&◌, nat_lt, List, [], ◌∷◌, length, map, Bool, true, false, not, Option, Some, None, option_map, if◌then◌else◌, Result, Ok, Err}
+use Rattle.std.specs.Prelude.{ℕ, ◌==◌, ◌&&◌, nat_lt, List, [], ◌∷◌, length, map, codes, Bool, true, false, not, Option, Some, None, option_map, if◌then◌else◌, Result, Ok, Err}
 use Rattle.std.specs.Option.{is_some, unwrap_or}
+use Rattle.std.specs.Str.{bytes_eq}
 use Rattle.component_dto.specs.declared.description.Scope.{Scope}
 use Rattle.component_dto.specs.declared.description.Scope.TheVariants.{Singleton, Bundle, Prototype}
 use Rattle.component_dto.specs.declared.fault.DescriptionFault.{DescriptionFault}
@@ -36,6 +37,14 @@ first_for_use (r ∷ rs) = if is_for_use r.scope then Some r.reference.name else
 abbrev pub names_of : List ReferenceFields → List (List ℕ)
 names_of rs = map (λ (r : ReferenceFields). r.reference.name) rs
 
+abbrev pub is_condition : List ℕ → Bool
+is_condition name = bytes_eq name (codes "osgi.ds.satisfying.condition")
+
+-- the satisfying condition is a reference of its own accord (Compendium 8, chapter 112, satisfying condition), where none has its name
+abbrev pub is_implicit : List ReferenceFields → Bool
+is_implicit [] = true
+is_implicit (r ∷ rs) = not (is_condition r.reference.name) && is_implicit rs
+
 -- nothing, or what is wrong
 abbrev pub unless : Option DescriptionFault → Result (Unit {0}) DescriptionFault
 unless None = Ok tt
@@ -66,4 +75,4 @@ rules f =
     after (refused (is_immediate f && not (is_single f.scope)) ImmediateScope) (λ _.
     after (refused (is_never_made f) DelayedWithoutService) (λ _.
     after (unless (bad_target_of f.references)) (λ _.
-    refused (nat_lt 1 (length f.configuration_pids)) TooManyPids))))))
+    refused (nat_lt 4 (length f.configuration_pids)) TooManyPids))))))

@@ -95,10 +95,10 @@ pub struct Description {
     pub modified: Option<Str>,
     /// What it needs of its configurations, by default nothing.
     pub configuration_policy: ConfigurationPolicy,
-    /// The PIDs of its configurations, by default its name.
+    /// The PIDs of its configurations, each once, at most four, by default its name.
     pub configuration_pids: List<Str>,
-    /// Whether it has an implicit reference on the satisfying condition. False in each description that is read, until
-    /// satisfying conditions are built.
+    /// Whether the satisfying condition is a reference of it that `references` doesn't hold: in what is read, where none
+    /// of those is named `osgi.ds.satisfying.condition` (OSGi Compendium 8, chapter 112).
     pub implicit: bool,
 }
 

@@ -63,8 +63,8 @@ pub enum DescriptionFault {
         /// The place in the target in bytes, as `Filter::parse` tells it.
         at: usize,
     },
-    /// There is more than one configuration PID.
-    #[error("more than one configuration PID")]
+    /// There are more than four different configuration PIDs.
+    #[error("more than four configuration PIDs")]
     TooManyPids,
     /// There was no memory.
     #[error("out of memory")]

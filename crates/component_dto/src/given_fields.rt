@@ -5,6 +5,7 @@ ghost use Rattle.serde_json.specs.View.{view};
 ghost use Rattle.component_dto.specs.Descriptions.{given_fields, life_fields, properties_at, properties_in};
 ghost use Rattle.component_dto.specs.Faults.{Reads};
 
+use crate::configuration_pids::pids_of;
 use crate::fields::{flag_at, given, needed_text_at, text_at, texts_at, word_at};
 use crate::references::{ReferenceFields, references_at};
 use crate::text_lists::{each_once, spelled};
@@ -47,8 +48,10 @@ pub(crate) fn given_fields(alloc: Global, json: &Value) -> Result<GivenFields, D
     let properties = properties_at(alloc, json, "properties")?;
     let references = references_at(alloc, json, "references")?;
     let life = life_fields(alloc, json)?;
+    let name = text_or(alloc, name, &implementation_class)?;
+    let configuration_pids = pids_of(alloc, &name, life.configuration_pids)?;
     Ok(GivenFields {
-        name: text_or(alloc, name, &implementation_class)?,
+        name,
         factory,
         scope: scope.unwrap_or(Scope::Singleton),
         implementation_class,
@@ -61,7 +64,7 @@ pub(crate) fn given_fields(alloc: Global, json: &Value) -> Result<GivenFields, D
         configuration_policy: life
             .configuration_policy
             .unwrap_or(ConfigurationPolicy::Optional),
-        configuration_pids: life.configuration_pids,
+        configuration_pids,
     })
 }
 

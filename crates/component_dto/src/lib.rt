@@ -1,6 +1,7 @@
 //! Descriptions of components, read from JSON (OSGi Compendium 8, chapter 112: `ComponentDescriptionDTO`, `ReferenceDTO`).
 #![tactic(auto)]
 
+mod configuration_pids;
 mod description;
 mod fault;
 mod fields;

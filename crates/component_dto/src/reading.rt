@@ -1,20 +1,22 @@
 //! A description read from JSON.
-ghost use Rattle.std.specs.Prelude.{◌≡◌, ◌∷◌, [], IfOk, map};
+ghost use Rattle.std.specs.Prelude.{◌≡◌, IfOk, map};
 ghost use Rattle.serde_json.specs.View.{view};
-ghost use Rattle.component_dto.specs.Descriptions.{described, description_of, pid_of, pids_of};
+ghost use Rattle.component_dto.specs.Descriptions.{described, description_of};
 ghost use Rattle.component_dto.specs.Faults.{Reads};
 ghost use Rattle.component_dto.specs.declared.references.ReferenceFields.{ReferenceFields};
 
 use crate::given_fields::{GivenFields, given_fields};
 use crate::references::ReferenceFields;
+use crate::rules::is_implicit;
 use crate::text_lists::spelled;
 use crate::{Description, DescriptionFault, Reference};
-use prop_map::{Copies, List, OutOfMemory, Str};
+use prop_map::{List, OutOfMemory};
 use serde_json::Value;
 use std::alloc::Global;
 
 /// Reads a description from a JSON value. A field that is null counts as missing, and fields that no rule names are passed
-/// over. Repeated interfaces count once, the empty target is none, and `$` among the configuration PIDs stands for the name.
+/// over. Repeated interfaces count once, and the empty target is none. `$` among the configuration PIDs stands for the name,
+/// and then repeated ones count once, at their first place.
 ///
 /// # Errors
 /// The first fault, in this order. `WrongType` of `component` where the value is no object. Those of the fields: name,
@@ -26,8 +28,8 @@ use std::alloc::Global;
 /// `FactoryComponent` where a factory is named; `PrototypeReference` where a reference has another scope than `bundle`;
 /// `SameReference` where a reference has the name of one before it; `ImmediateScope` where it is immediate, be it by
 /// default, and the scope isn't `singleton`; `DelayedWithoutService` where it is given as not immediate and has no
-/// interface; `BadTarget` of the first reference whose target is no filter; `TooManyPids` where there is more than one
-/// configuration PID. `OutOfMemory` may come at any place.
+/// interface; `BadTarget` of the first reference whose target is no filter; `TooManyPids` where there are more than
+/// four different configuration PIDs. `OutOfMemory` may come at any place.
 pub fn read_description(alloc: Global, json: &Value) -> Result<Description, DescriptionFault>
     ensures { Reads result (description_of (view json.now)) }
 {
@@ -47,7 +49,7 @@ impl GivenFields {
         ensures { IfOk result (λ description. description ≡ described self) }
     {
         let immediate = self.is_immediate();
-        let configuration_pids = pids_of(alloc, &self.name, self.configuration_pids.as_slice())?;
+        let implicit = is_implicit(self.references.as_slice());
         Ok(Description {
             name: self.name,
             scope: self.scope,
@@ -59,8 +61,8 @@ impl GivenFields {
             references: references(alloc, self.references)?,
             modified: self.modified,
             configuration_policy: self.configuration_policy,
-            configuration_pids,
-            implicit: false,
+            configuration_pids: self.configuration_pids,
+            implicit,
         })
     }
 }
@@ -73,36 +75,4 @@ fn references(alloc: Global, fields: List<ReferenceFields>) -> Result<List<Refer
         references.push(fields.reference)?;
     }
     Ok(List::of(references))
-}
-
-// The PIDs of a component of this name, which is the default.
-fn pids_of(alloc: Global, name: &Str, given: &[Str]) -> Result<List<Str>, OutOfMemory>
-    ensures { IfOk result (λ pids. pids ≡ pids_of name.now given.now) }
-{
-    if !given.is_empty() {
-        return each_pid(alloc, name, given);
-    }
-    let mut pids = Vec::new(alloc);
-    pids.push(name.copy(alloc)?)?;
-    Ok(List::of(pids))
-}
-
-fn each_pid(alloc: Global, name: &Str, given: &[Str]) -> Result<List<Str>, OutOfMemory>
-    ensures { IfOk result (λ pids. pids ≡ map (pid_of name.now) given.now) }
-{
-    let mut pids = Vec::new(alloc);
-    for pid in given {
-        pids.push(pid_of(alloc, name, pid)?)?;
-    }
-    Ok(List::of(pids))
-}
-
-fn pid_of(alloc: Global, name: &Str, pid: &Str) -> Result<Str, OutOfMemory>
-    ensures { IfOk result (λ found. found ≡ pid_of name.now pid.now) }
-{
-    if pid.as_str() == "$" {
-        name.copy(alloc)
-    } else {
-        pid.copy(alloc)
-    }
 }

@@ -1,7 +1,7 @@
 //! The rules on a description's fields that say how they go together.
 ghost use Rattle.std.specs.Prelude.{◌≡◌, IfOk, map, option_map};
 ghost use Rattle.component_dto.specs.Faults.{Reads};
-ghost use Rattle.component_dto.specs.Rules.{first_for_use, is_for_use, is_immediate, is_never_made, is_single, names_of, rules};
+ghost use Rattle.component_dto.specs.Rules.{first_for_use, is_for_use, is_condition, is_immediate, is_implicit, is_never_made, is_single, names_of, rules};
 ghost use Rattle.component_dto.specs.TextLists.{first_repeated};
 
 use crate::given_fields::GivenFields;
@@ -11,6 +11,9 @@ use crate::text_lists::{first_repeated, spelled};
 use crate::{DescriptionFault, Scope};
 use prop_map::{Copies, OutOfMemory, Str};
 use std::alloc::Global;
+
+/// The most configuration PIDs of one component that are taken. Our own.
+const MOST_PIDS: usize = 4;
 
 impl GivenFields {
     /// Tests the rules on the fields.
@@ -38,7 +41,7 @@ impl GivenFields {
         if let Some((name, at)) = bad_target(alloc, self.references.as_slice())? {
             return Err(DescriptionFault::BadTarget { name, at });
         }
-        if self.configuration_pids.as_slice().len() > 1 {
+        if self.configuration_pids.as_slice().len() > MOST_PIDS {
             return Err(DescriptionFault::TooManyPids);
         }
         Ok(())
@@ -59,6 +62,24 @@ impl GivenFields {
     {
         self.immediate == Some(false) && self.service_interfaces.as_slice().is_empty()
     }
+}
+
+/// Whether the satisfying condition is a reference besides these: none has its name.
+pub(crate) fn is_implicit(references: &[ReferenceFields]) -> bool
+    ensures { result ≡ is_implicit references.now }
+{
+    for fields in references {
+        if is_condition(&fields.reference.name) {
+            return false;
+        }
+    }
+    true
+}
+
+fn is_condition(name: &Str) -> bool
+    ensures { result ≡ is_condition name.now }
+{
+    name.as_str() == "osgi.ds.satisfying.condition"
 }
 
 // The name of the first reference that takes an instance for each use.

@@ -24,7 +24,7 @@ fn a_description_is_read_and_copied(rt: HostRuntime) -> Result<(), Fail> {
         "Description { name: \"C\", scope: Singleton, implementation_class: \"C\", default_enabled: true, immediate: true, \
         service_interfaces: [], properties: [], references: [Reference { name: \"P\", interface_name: \"P\", cardinality: One, \
         policy: Static, policy_option: Reluctant, target: None, updated: None }], modified: None, \
-        configuration_policy: Optional, configuration_pids: [\"C\"], implicit: false }"
+        configuration_policy: Optional, configuration_pids: [\"C\"], implicit: true }"
     );
     Ok(())
 }
@@ -74,8 +74,8 @@ fn faults_of_descriptions_are_printed(rt: HostRuntime) -> Result<(), Fail> {
             "the target of X is no filter, from byte 3",
         ),
         (
-            "{\"implementationClass\":\"C\",\"configurationPid\":[\"a\",\"b\"]}",
-            "more than one configuration PID",
+            "{\"implementationClass\":\"C\",\"configurationPid\":[\"a\",\"b\",\"$\",\"d\",\"e\"]}",
+            "more than four configuration PIDs",
         ),
     ] {
         let fault = read(rt.alloc(), text).err().ok_or("a fault")?;
