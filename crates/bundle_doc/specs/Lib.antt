@@ -1,4 +1,3 @@
-pub mod Built
 pub mod Documents
 pub mod Entries
 pub mod Faults

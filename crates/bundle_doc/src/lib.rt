@@ -1,7 +1,6 @@
 //! Bundle documents: a bundle as one JSON text, with its manifest and the descriptions of its components.
 #![tactic(auto)]
 
-mod built;
 mod document;
 mod entries;
 mod fault;
@@ -13,7 +12,6 @@ mod shared_texts;
 mod text_list;
 mod texts;
 
-pub use built::is_built;
 pub use document::BundleDoc;
 pub use fault::DocFault;
 pub use reading::read_bundle;
