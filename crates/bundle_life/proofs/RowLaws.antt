@@ -1,14 +1,14 @@
 -- What a change of one row, a row more and a row less leave of numbers, states and counts.
-use Rattle.std.proofs.Common.{◌≡◌, ◌<◌, ◌≤◌, ◌+◌, ◌-◌, ℕ, zero, suc, List, [], ◌∷◌, ◌++◌, ap, sym, subst, ◌∙◌, refl, cond, arith, Bool, true, false, length, get_or, Option, Some, None}
+use Rattle.std.proofs.Common.{◌≡◌, ◌<◌, ◌≤◌, ◌+◌, ℕ, zero, suc, List, [], ◌∷◌, ◌++◌, ap, sym, subst, ◌∙◌, refl, cond, arith, Bool, true, false, length, get_or, Option, Some}
 use Rattle.std.proofs.Math.ListN.{set}
 use Rattle.std.proofs.lemmas.List.{length-set}
 use Rattle.std.proofs.lemmas.List.Elements.{All-push, All-set}
 use Rattle.std.proofs.lemmas.List.Quantifiers.{all_pairs_push, all_pairs_remove}
-use Rattle.std.proofs.lemmas.List.Sums.{sum_by-append, sum_by-remove, sum_by-set}
+use Rattle.std.proofs.lemmas.List.Sums.{sum_by-cons, sum_by-insert, sum_by-remove, sum_by-set}
 use Rattle.std.proofs.lemmas.Bool.{false≢true}
 use Rattle.std.proofs.lemmas.Option.{slice_get-get_or}
-use Rattle.std.specs.Prelude.{map, find, slice_get, remove}
-use Rattle.std.specs.List.{All, count_by, sum_by}
+use Rattle.std.specs.Prelude.{map, find, insert, remove}
+use Rattle.std.specs.List.{All, count_by}
 use Rattle.std.specs.Option.{option_map_or}
 use Rattle.row_places.specs.RowPlaces.{NoneOf, OnlyAt}
 use Rattle.osgi_version.specs.declared.version.Version.{Version}
@@ -17,7 +17,8 @@ use Rattle.bundle_life.specs.declared.bundle.BundleLife.{BundleLife}
 use Rattle.bundle_life.specs.declared.bundle.BundleState.{BundleState}
 use Rattle.bundle_life.specs.declared.bundle.BundleState.TheVariants.{Installed, Resolved, Stopping, Active}
 use Rattle.bundle_life.specs.Lives.{in_state, is_active, is_stopping, renamed, state_is}
-use Rattle.bundle_life.specs.Numbers.{AreNumbered, AreRising, IsGiven, has_number, stops}
+use Rattle.bundle_life.specs.Numbers.{AreNumbered, IsGiven, has_number, stops}
+use Rattle.bundle_life.specs.Undoing.{owing}
 
 -- ---- numbers
 
@@ -84,7 +85,7 @@ count_leaves number k rows y d only before after =
     let is : one_if (stops y) ≡ 0 = ap one_if after in
     omega (arith, counts_set rows k y d (only_within (has_number number) k rows only), was, is)
 
-active_isnt : (s : BundleState) → is_active s ≡ true → is_stopping s ≡ false
+pub active_isnt : (s : BundleState) → is_active s ≡ true → is_stopping s ≡ false
 active_isnt Active h = refl
 active_isnt Installed h = refl
 active_isnt Resolved h = refl
@@ -109,6 +110,26 @@ pub count_removed : (number k : ℕ) (rows : List BundleLife) (d : BundleLife) �
 count_removed number k rows d only before =
     let was : one_if (stops (get_or rows k d)) ≡ 0 = ap one_if (sym (state_at is_stopping number k rows d only) ∙ before) in
     omega (arith, sum_by-remove (λ (b : BundleLife). cond (stops b) 1 0) rows k d (only_within (has_number number) k rows only), was)
+
+-- a row in the place of the one of its number, and one where none had it
+pub count_exchanged : (number k : ℕ) (rows : List BundleLife) (y d : BundleLife) → OnlyAt (has_number number) k rows → count_by stops (set rows k y) + owing (state_is is_stopping rows number) ≡ count_by stops rows + owing (stops y)
+count_exchanged number k rows y d only =
+    let was : one_if (stops (get_or rows k d)) ≡ owing (state_is is_stopping rows number) = ap one_if (sym (state_at is_stopping number k rows d only)) in
+    omega (arith, counts_set rows k y d (only_within (has_number number) k rows only), was)
+
+pub count_inserted : (number gap : ℕ) (rows : List BundleLife) (y : BundleLife) → NoneOf (has_number number) rows → count_by stops (insert rows gap y) + owing (state_is is_stopping rows number) ≡ count_by stops rows + owing (stops y)
+count_inserted number gap rows y none =
+    let was : owing (state_is is_stopping rows number) ≡ 0 = ap owing (state_nowhere is_stopping number rows none) in
+    omega (arith, sum_by-insert (λ (b : BundleLife). cond (stops b) 1 0) rows gap y, was)
+
+-- a STOPPING bundle counts
+pub count_one : (number : ℕ) (rows : List BundleLife) → owing (state_is is_stopping rows number) ≤ count_by stops rows
+count_one number [] = omega arith
+count_one number (b ∷ bs) = subst (λ n. owing (state_is is_stopping (b ∷ bs) number) ≤ n) (sym (sum_by-cons (λ (c : BundleLife). cond (stops c) 1 0) b bs)) (by_test (has_number number b) (count_one number bs)) where
+  by_test : (t : Bool) → owing (state_is is_stopping bs number) ≤ count_by stops bs
+      → owing (option_map_or (λ (c : BundleLife). is_stopping c.state) (cond t (Some b) (find (has_number number) bs)) false) ≤ one_if (stops b) + count_by stops bs
+  by_test true more = omega arith
+  by_test false more = omega (arith, more)
 
 -- ---- a change at the place of a number is the map that the definitions have
 

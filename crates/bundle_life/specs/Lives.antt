@@ -1,6 +1,6 @@
 -- The lives of bundles, and their events. OSGi Core 8, chapter 4 "Life Cycle Layer"; the section stands at each group of words. That a start is one step,
 -- and the order of events within a step, are our own.
-use Rattle.std.specs.Prelude.{ℕ, ◌+◌, ◌==◌, ◌&&◌, List, [], ◌∷◌, ◌++◌, map, Bool, true, false, not, Option, Some, None, filter, find, if◌then◌else◌}
+use Rattle.std.specs.Prelude.{ℕ, ◌+◌, ◌==◌, ◌&&◌, List, [], ◌∷◌, ◌++◌, map, Bool, true, false, not, Option, filter, find, if◌then◌else◌}
 use Rattle.std.specs.Option.{option_map_or}
 use Rattle.std.specs.Str.{bytes_eq}
 use Rattle.osgi_version.specs.declared.version.Version.{Version}

@@ -1,5 +1,6 @@
 //! The events of bundles, with room for those that are to come for certain.
 ghost use Rattle.bundle_life.specs.EventLists.{EventList};
+ghost use Rattle.bundle_life.specs.Undoing.{owing};
 ghost use Rattle.std.specs.Prelude.{◌≡◌, ◌+◌, ◌-◌, ◌<◌, ◌≤◌, [], ◌∷◌, ◌++◌, drop, length, take, OnOk, OnErr};
 
 use crate::BundleEvent;
@@ -94,5 +95,19 @@ impl BundleEvents {
     {
         self.list.truncate(kept);
         self.owed = owed;
+    }
+    /// Takes the events behind the first `kept` away, where a bundle that owed an event or not owes one or not from now
+    /// on. It takes no memory.
+    pub(crate) fn take_back(&mut self, kept: usize, owed: bool, owes: bool)
+        requires room { kept + owing owes ≤ length self.old.events + owing owed }
+        requires owed { owing owed ≤ self.old.owed }
+        ensures { self.new ≡ record { events = take kept self.old.events; owed = self.old.owed + owing owes - owing owed } }
+    {
+        self.list.truncate(kept);
+        match (owed, owes) {
+            (true, false) => self.owed -= 1,
+            (false, true) => self.owed += 1,
+            _ => {}
+        }
     }
 }

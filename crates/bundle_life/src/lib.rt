@@ -4,12 +4,14 @@
 
 mod bundle;
 mod events;
+mod kept;
 mod life_fault;
 mod rows;
 mod saved;
 mod table;
 
 pub use bundle::{BundleEvent, BundleLife, BundleState};
+pub use kept::KeptBundle;
 pub use life_fault::LifeFault;
 pub use saved::Saved;
 pub use table::{Bundles, Installed};

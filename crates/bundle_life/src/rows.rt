@@ -1,12 +1,15 @@
 //! The rows of bundles: each is found by its number, and changes in place.
 ghost use Rattle.bundle_life.specs.Lives.{bundle_at, bundle_of, in_state, is_active, is_stopping, namesake, new_row, renamed, state_is};
-ghost use Rattle.bundle_life.specs.Numbers.{AreRising, NumberedRows, has_number, stops, without_number};
+ghost use Rattle.bundle_life.specs.Numbers.{AreNumbered, AreRising, IsGiven, NumberedRows, has_number, stops, without_number};
+ghost use Rattle.bundle_life.specs.Undoing.{owing, with_row};
 ghost use Rattle.bundle_life.specs.declared.bundle.BundleLife.{BundleLife};
-ghost use Rattle.row_places.specs.RowPlaces.{IsOnlyPlace};
+ghost use Rattle.row_places.specs.RowPlaces.{IsOnlyPlace, IsPlaceOrGap};
 ghost use Rattle.std.specs.List.{count_by};
 ghost use Rattle.std.specs.Option.{option_copied};
-ghost use Rattle.std.specs.Prelude.{◌≡◌, ◌+◌, ◌++◌, [], ◌∷◌, length, map, IfOk, IsFalse, IsTrue, OnErr, OnOk};
+ghost use Rattle.std.specs.Ordering.{nat_cmp};
+ghost use Rattle.std.specs.Prelude.{◌≡◌, ◌<◌, ◌≤◌, ◌+◌, ◌++◌, ℕ, [], ◌∷◌, length, map, IfOk, IsFalse, IsTrue, MatchResult, None, OnErr, OnOk, Some};
 
+use crate::kept::RowRoom;
 use crate::{BundleLife, BundleState};
 use osgi_version::Version;
 use prop_map::{Copies, OutOfMemory, Str};
@@ -46,6 +49,14 @@ impl BundleRows {
         ensures { result.now ≡ self.now.rows }
     {
         self.list.as_slice()
+    }
+
+    /// How many rows there are.
+    pub(crate) fn count(&self) -> usize
+        ensures length { result ≡ length self.now.rows }
+        ensures numbered { AreNumbered self.now.numbered self.now.rows }
+    {
+        self.list.len()
     }
 
     /// The bundle of a number.
@@ -102,13 +113,19 @@ impl BundleRows {
         Ok(())
     }
 
-    /// Takes the last row away, and its number, as if it had never come. It takes no memory.
-    pub(crate) fn take_back(&mut self)
-        ensures { (before : NumberedRows) (row : BundleLife) → self.old ≡ record { rows = before.rows ++ row ∷ []; numbered = before.numbered + 1 } → self.new ≡ before }
+    /// Takes the last row away, and its number, as if it had never come. One that is STOPPING stays. It takes no memory.
+    pub(crate) fn take_back(&mut self) -> Option<BundleLife>
+        ensures taken { (before : NumberedRows) (row : BundleLife) → self.old ≡ record { rows = before.rows ++ row ∷ []; numbered = before.numbered + 1 } → IsFalse (stops row) → (self.new ≡ before) × (result ≡ Some row) }
+        ensures empty { self.old.rows ≡ [] → (self.new ≡ self.old) × (result ≡ None) }
+        ensures kept { result ≡ None → self.new ≡ self.old }
+        ensures stopping { count_by stops self.new.rows ≡ count_by stops self.old.rows }
     {
-        if let Some(_row) = self.list.pop() {
-            self.numbered -= 1;
+        if self.list.as_slice().last()?.state == BundleState::Stopping {
+            return None;
         }
+        let row = self.list.pop()?;
+        self.numbered -= 1;
+        Some(row)
     }
 
     /// Gives the bundle of a number another state.
@@ -134,6 +151,16 @@ impl BundleRows {
             row.version = version;
             row.state = BundleState::Installed;
         }
+    }
+
+    /// Puts a row in the place of the one of its number, or where it belongs, for which there is room. It takes no memory.
+    pub(crate) fn put_back(&mut self, row: BundleLife, room: RowRoom)
+        requires given { IsGiven self.old.numbered row }
+        requires room { length (without_number row.number self.old.rows) < room }
+        ensures rows { self.new ≡ record self.old { rows = with_row row self.old.rows } }
+        ensures stopping { count_by stops self.new.rows + owing (state_is is_stopping self.old.rows row.number) ≡ count_by stops self.old.rows + owing (stops row) }
+    {
+        put_into(&mut self.list, row, room);
     }
 
     /// Takes the bundle of a number away.
@@ -168,6 +195,29 @@ fn place_of(rows: &[BundleLife], number: u64) -> Option<usize>
 {
     rows.binary_search_by(|bundle| bundle.number.cmp(&number))
         .ok()
+}
+
+/// The place of the bundle of a number, or the gap where it would stand.
+fn place_or_gap(rows: &[BundleLife], number: u64) -> Result<usize, usize>
+    requires { AreRising rows.now }
+    ensures place { IsPlaceOrGap (λ (b : BundleLife). nat_cmp b.number number) result rows.now }
+    ensures within { MatchResult result (λ place. place < length rows.now) (λ gap. gap ≤ length rows.now) }
+{
+    rows.binary_search_by(|bundle| bundle.number.cmp(&number))
+}
+
+// Puts a row in the place of the one of its number, or where it belongs, for which there is room.
+fn put_into(rows: &mut Vec<BundleLife>, row: BundleLife, room: RowRoom)
+    requires order { AreRising rows.old.items }
+    requires room { length (without_number row.number rows.old.items) < room }
+    ensures now { rows.new.items ≡ with_row row rows.old.items }
+    ensures numbered { (numbered : ℕ) → IsGiven numbered row → AreNumbered numbered rows.old.items → AreNumbered numbered rows.new.items }
+    ensures stopping { count_by stops rows.new.items + owing (state_is is_stopping rows.old.items row.number) ≡ count_by stops rows.old.items + owing (stops row) }
+{
+    match place_or_gap(rows.as_slice(), row.number) {
+        Ok(place) => rows[place] = row,
+        Err(gap) => room.insert(rows, gap, row),
+    }
 }
 
 /// The bundle of a location.

@@ -1,15 +1,18 @@
 //! The table of bundles.
 ghost use Rattle.bundle_life.specs.Numbers.{saved_of, stops};
-ghost use Rattle.bundle_life.specs.Lives.{BundleTable, after_install, after_uninstall, after_update, bundle_at, bundle_of, events_of, in_state, is_active, is_stopping, namesake, no_bundles, state_is, state_number, stop_completed, unresolving};
-ghost use Rattle.bundle_life.specs.Refusals.{IsRefusedBy, install_answer, install_refusal, installed_once, start_refusal, started_once, stop_begun_once, stop_refusal, uninstall_refusal, update_refusal};
+ghost use Rattle.bundle_life.specs.Lives.{BundleTable, after_install, after_uninstall, after_update, bundle_at, bundle_of, events_of, in_state, is_active, is_stopping, namesake, new_row, no_bundles, state_is, state_number, stop_completed, unresolving};
+ghost use Rattle.bundle_life.specs.Refusals.{IsRefusedBy, install_answer, install_refusal, installed_once, no_bundle, start_refusal, started_once, stop_begun_once, stop_refusal, uninstall_refusal, update_refusal};
+ghost use Rattle.bundle_life.specs.Undoing.{CanPutBack, IsKeptOf, IsStepped, IsUndoneBy, Kept, with_kept};
 ghost use Rattle.bundle_life.specs.declared.bundle.BundleEvent.{BundleEvent};
 ghost use Rattle.bundle_life.specs.declared.bundle.BundleLife.{BundleLife};
 ghost use Rattle.bundle_life.specs.declared.bundle.BundleState.TheVariants.{Active};
 ghost use Rattle.std.specs.List.{count_by};
 ghost use Rattle.std.specs.Option.{option_copied};
-ghost use Rattle.std.specs.Prelude.{◌≡◌, ◌≤◌, ◌+◌, ◌++◌, [], ◌∷◌, ◌↔◌, List, drop, length, map, option_map, IfOk, IsFalse, IsTrue, OnErr, OnOk};
+ghost use Rattle.std.specs.Prelude.{◌≡◌, ◌≤◌, ◌+◌, ◌++◌, [], ◌∷◌, ◌↔◌, ℕ, List, drop, length, map, option_map, IfOk, IsFalse, IsTrue, None, OnErr, OnOk, Some};
+ghost use Rattle.osgi_version.specs.declared.version.Version.{Version};
 
 use crate::events::BundleEvents;
+use crate::kept::{KeptBundle, RowRoom};
 use crate::rows::{BundleRows, at_location, namesake_of};
 use crate::{BundleEvent, BundleLife, BundleState, LifeFault, Saved};
 use osgi_version::Version;
@@ -181,7 +184,7 @@ impl Bundles {
         match self.events.add(&[event(number, 1)], 0) {
             Ok(()) => Ok(number),
             Err(fault) => {
-                self.rows.take_back();
+                let _row = self.rows.take_back();
                 Err(fault)
             }
         }
@@ -297,6 +300,62 @@ impl Bundles {
         self.rows.remove(bundle);
         Ok(())
     }
+
+    /// Takes the install that came last back, as if the bundle had never come: its row, its number and its INSTALLED. It
+    /// takes no memory.
+    pub fn undo_install(&mut self) -> Option<BundleLife>
+        ensures taken { (before : BundleTable) (location name : List ℕ) (version : Version) →
+            self.old ≡ after_install location name version before →
+            (self.new ≡ before) × (result ≡ Some (new_row (before.numbered + 1) location name version)) }
+        ensures empty { self.old.rows ≡ [] → (self.new ≡ self.old) × (result ≡ None) }
+    {
+        let row = self.rows.take_back()?;
+        let events = self.events.length().saturating_sub(1);
+        self.events.take_back(events, false, false);
+        Some(row)
+    }
+
+    /// A bundle as it is, to be kept before a step that may have to be undone, with room to put it back.
+    ///
+    /// # Errors
+    /// `NoBundle` where it isn't installed, and else just want of memory.
+    pub fn keep(&self, alloc: Global, bundle: u64) -> Result<KeptBundle, LifeFault>
+        ensures number { IfOk result (λ kept. kept.row.number ≡ bundle) }
+        ensures kept { IfOk result (λ kept. IsKeptOf kept self.now) }
+        ensures refused { IsRefusedBy (no_bundle bundle self.now) result }
+    {
+        match self.bundle(bundle) {
+            Some(row) => Ok(KeptBundle {
+                row: row.copy(alloc)?,
+                events: self.events.length(),
+                room: RowRoom::of(alloc, self.rows.count())?,
+            }),
+            None => Err(LifeFault::NoBundle { bundle }),
+        }
+    }
+
+    /// Puts a bundle back as it was kept, at its place, and takes the events that came since away. It takes no memory. It
+    /// undoes a start, a stop, the end of a stop, an update or an uninstall of it, before which it was kept.
+    pub fn put_back(&mut self, kept: KeptBundle)
+        requires { CanPutBack kept self.old }
+        ensures back { self.new ≡ with_kept kept self.old }
+        ensures undone { (before : BundleTable) → IsKeptOf kept before → IsStepped kept.row.number before self.old → self.new ≡ before }
+    {
+        let KeptBundle { row, events, room } = kept;
+        let owed = self.is_stopping(row.number);
+        self.events
+            .take_back(events, owed, row.state == BundleState::Stopping);
+        self.rows.put_back(row, room);
+    }
+
+    /// For contracts alone: a bundle that was kept can be put back after each step of it, which that undoes.
+    pub fn note_put_back()
+        ensures start { (kept : Kept) (t : BundleTable) → IsKeptOf kept t → IsFalse (state_is is_stopping t.rows kept.row.number) → IsUndoneBy kept t (started_once kept.row.number t) }
+        ensures stop { (kept : Kept) (t : BundleTable) → IsKeptOf kept t → IsUndoneBy kept t (stop_begun_once kept.row.number t) }
+        ensures stopped { (kept : Kept) (t : BundleTable) → IsKeptOf kept t → IsUndoneBy kept t (stop_completed (kept.row.number ∷ []) t) }
+        ensures update { (kept : Kept) (t : BundleTable) (name : List ℕ) (version : Version) → IsKeptOf kept t → IsFalse (state_is is_stopping t.rows kept.row.number) → IsUndoneBy kept t (after_update kept.row.number name version t) }
+        ensures uninstall { (kept : Kept) (t : BundleTable) → IsKeptOf kept t → IsFalse (state_is is_stopping t.rows kept.row.number) → IsUndoneBy kept t (after_uninstall kept.row.number t) }
+    {}
 
     /// The table as it is now, to go back to. Of the events it holds their number alone.
     ///

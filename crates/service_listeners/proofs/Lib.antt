@@ -1,3 +1,4 @@
 pub mod CutRows
+pub mod NumberLaws
 pub mod ToldRows
 pub mod Untold

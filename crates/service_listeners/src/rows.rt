@@ -1,14 +1,15 @@
 //! The rows of listeners, found by their numbers, and told one after another.
 ghost use Rattle.service_listeners.specs.Listening.{with_changes};
-ghost use Rattle.service_listeners.specs.Numbers.{AreRising, has_number};
-ghost use Rattle.service_listeners.specs.Undoing.{untold};
+ghost use Rattle.service_listeners.specs.Numbers.{AreNumbered, AreRising, IsGiven, has_number};
+ghost use Rattle.service_listeners.specs.Undoing.{untold, with_row};
 ghost use Rattle.service_listeners.specs.declared.listener.Listener.{Listener};
-ghost use Rattle.row_places.specs.RowPlaces.{IsOnlyPlace};
+ghost use Rattle.row_places.specs.RowPlaces.{IsOnlyPlace, IsPlaceOrGap};
 ghost use Rattle.std.specs.Option.{option_copied};
-ghost use Rattle.std.specs.Prelude.{◌≡◌, ◌≤◌, ◌==◌, ◌++◌, [], ◌∷◌, drop, filter, length, map, not, take, OnErr, OnOk};
+ghost use Rattle.std.specs.Ordering.{nat_cmp};
+ghost use Rattle.std.specs.Prelude.{◌≡◌, ◌<◌, ◌≤◌, ◌==◌, ◌++◌, ℕ, [], ◌∷◌, drop, filter, length, map, not, take, MatchResult, OnErr, OnOk};
 
-use crate::Listener;
 use crate::telling::{tell_one, untell_one};
+use crate::{Listener, RowRoom};
 use prop_map::OutOfMemory;
 use service_registry::ServiceRow;
 use std::alloc::Global;
@@ -20,6 +21,28 @@ pub(crate) fn place_of(rows: &[Listener], number: u64) -> Option<usize>
 {
     rows.binary_search_by(|listener| listener.number.cmp(&number))
         .ok()
+}
+
+// The place of the listener of a number, or the gap where it would stand.
+fn place_or_gap(rows: &[Listener], number: u64) -> Result<usize, usize>
+    requires { AreRising rows.now }
+    ensures place { IsPlaceOrGap (λ (l : Listener). nat_cmp l.number number) result rows.now }
+    ensures within { MatchResult result (λ place. place < length rows.now) (λ gap. gap ≤ length rows.now) }
+{
+    rows.binary_search_by(|listener| listener.number.cmp(&number))
+}
+
+/// Puts a listener in the place of the one of its number, or where it belongs, for which there is room.
+pub(crate) fn put_into(rows: &mut Vec<Listener>, listener: Listener, room: RowRoom)
+    requires order { AreRising rows.old.items }
+    requires room { length rows.old.items < room }
+    ensures now { rows.new.items ≡ with_row listener rows.old.items }
+    ensures numbered { (numbered : ℕ) → IsGiven numbered listener → AreNumbered numbered rows.old.items → AreNumbered numbered rows.new.items }
+{
+    match place_or_gap(rows.as_slice(), listener.number) {
+        Ok(place) => rows[place] = listener,
+        Err(gap) => room.insert(rows, gap, listener),
+    }
 }
 
 /// Tells the listeners from a place on of a change: all, or, where there is no memory, none.

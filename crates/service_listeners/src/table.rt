@@ -1,17 +1,17 @@
 //! The table of listeners.
 ghost use Rattle.ldap_filter.specs.Trees.{Tree};
 ghost use Rattle.service_listeners.specs.Listening.{after_changes, after_listen, after_unlisten, listener_of, ListenerTable, no_listeners, without_listeners_of};
-ghost use Rattle.service_listeners.specs.Numbers.{AreNumbered};
+ghost use Rattle.service_listeners.specs.Numbers.{AreNumbered, IsGiven};
 ghost use Rattle.service_listeners.specs.Refusals.{IsRefusedBy, listen_refusal, no_listener};
 ghost use Rattle.service_listeners.specs.Saves.{HaveGrown, cut_to, saved_of};
-ghost use Rattle.service_listeners.specs.Undoing.{without_change};
+ghost use Rattle.service_listeners.specs.Undoing.{with_listener, without_change};
 ghost use Rattle.service_listeners.specs.declared.listener.Listener.{Listener};
 ghost use Rattle.std.specs.Option.{option_copied, option_map_or};
-ghost use Rattle.std.specs.Prelude.{◌≡◌, ◌≤◌, ◌+◌, ◌↔◌, [], ◌∷◌, ◌++◌, drop, length, IfOk, IsTrue, None, OnErr, OnOk, Some};
+ghost use Rattle.std.specs.Prelude.{◌≡◌, ◌<◌, ◌≤◌, ◌+◌, ◌↔◌, [], ◌∷◌, ◌++◌, drop, length, IfOk, IsTrue, None, OnErr, OnOk, Some};
 
 use crate::cutting::{counts_told, cut_rows};
-use crate::rows::{keep_others, place_of, tell_from, untell_from};
-use crate::{ListenFault, Listener, Saved, ServiceEvent};
+use crate::rows::{keep_others, place_of, put_into, tell_from, untell_from};
+use crate::{ListenFault, Listener, RowRoom, Saved, ServiceEvent};
 use ldap_filter::Filter;
 use prop_map::{List, OutOfMemory};
 use service_registry::ServiceRow;
@@ -117,13 +117,50 @@ impl Listeners {
         ensures refused { IsRefusedBy (no_listener listener self.old) result }
         ensures err { OnErr result (self.new ≡ self.old) }
     {
+        let _row = self.remove(listener)?;
+        Ok(())
+    }
+
+    /// Removes a listener as `unlisten` does, and hands it out. To `put_back` it undoes that. The listeners of a bundle can
+    /// be removed and put back one after another.
+    ///
+    /// # Errors
+    /// As those of `unlisten`.
+    pub fn remove(&mut self, listener: u64) -> Result<Listener, ListenFault>
+        ensures row { IfOk result (λ row. listener_of self.old.rows listener ≡ Some row) }
+        ensures given { IfOk result (λ row. IsGiven self.old.numbered row) }
+        ensures number { IfOk result (λ row. row.number ≡ listener) }
+        ensures ok { OnOk result (self.new ≡ after_unlisten listener self.old) }
+        ensures refused { IsRefusedBy (no_listener listener self.old) result }
+        ensures fewer { OnOk result (length self.new.rows < length self.old.rows) }
+        ensures err { OnErr result (self.new ≡ self.old) }
+    {
         match place_of(self.rows.as_slice(), listener) {
-            Some(place) => {
-                let _row = self.rows.remove(place);
-                Ok(())
-            }
+            Some(place) => Ok(self.rows.remove(place)),
             None => Err(ListenFault::NoListener { listener }),
         }
+    }
+
+    /// Room for the listeners that stand, to be taken before one is removed that may have to be put back.
+    ///
+    /// # Errors
+    /// Only want of memory.
+    pub fn room(&self, alloc: Global) -> Result<RowRoom, OutOfMemory>
+        ensures { IfOk result (λ room. room ≡ length self.now.rows) }
+    {
+        RowRoom::of(alloc, self.rows.len())
+    }
+
+    /// Puts a listener that was removed back at its place, with what it was told. It takes no memory.
+    pub fn put_back(&mut self, listener: Listener, room: RowRoom)
+        requires given { IsGiven self.old.numbered listener }
+        requires room { length self.old.rows < room }
+        ensures back { self.new ≡ with_listener listener self.old }
+        ensures undone { (before : ListenerTable) → AreNumbered before.numbered before.rows →
+            listener_of before.rows listener.number ≡ Some listener →
+            self.old ≡ after_unlisten listener.number before → self.new ≡ before }
+    {
+        put_into(&mut self.rows, listener, room);
     }
 
     /// Removes the listeners of a bundle.

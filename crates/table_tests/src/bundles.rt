@@ -1,6 +1,6 @@
 //! Bundles, their states and their events.
 
-use bundle_life::{BundleState, Bundles, Installed};
+use bundle_life::{BundleState, Bundles, Installed, LifeFault};
 use osgi_version::Version;
 use std::alloc::{AllocError, Global};
 use std::test::Fail;
@@ -73,5 +73,35 @@ fn bundles_go_back_to_what_was_saved(rt: HostRuntime) -> Result<(), Fail> {
     let saved = bundles.save(alloc)?;
     bundles.go_back(saved);
     assert!(rt; are_events(&bundles, 0, &[1]));
+    Ok(())
+}
+
+#[test]
+fn an_install_is_taken_back(rt: HostRuntime) -> Result<(), Fail> {
+    let mut bundles = with_one(rt.alloc())?.ok_or("a bundle")?;
+    assert!(rt; bundles.undo_install().is_some());
+    assert!(rt; bundles.rows().is_empty());
+    assert!(rt; bundles.numbered() == 0);
+    assert!(rt; are_events(&bundles, 0, &[]));
+    Ok(())
+}
+
+// A stop of bundle 1, and as it was again.
+fn stop_undone(alloc: Global, bundles: &mut Bundles) -> Result<(), LifeFault> {
+    Bundles::note_put_back();
+    let kept = bundles.keep(alloc, 1)?;
+    bundles.stop(1)?;
+    bundles.put_back(kept);
+    Ok(())
+}
+
+#[test]
+fn a_stop_is_taken_back(rt: HostRuntime) -> Result<(), Fail> {
+    let alloc = rt.alloc();
+    let mut bundles = with_one(alloc)?.ok_or("a bundle")?;
+    assert!(rt; bundles.start(1).is_ok());
+    assert!(rt; stop_undone(alloc, &mut bundles).is_ok());
+    assert!(rt; bundles.state_of(1) == Some(BundleState::Active));
+    assert!(rt; are_events(&bundles, 0, &[1, 32, 128, 2]));
     Ok(())
 }

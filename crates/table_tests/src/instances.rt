@@ -2,7 +2,7 @@
 
 use crate::samples::text;
 use callback_orders::{Callback, Outcome, Phase};
-use instance_callbacks::InstanceCallbacks;
+use instance_callbacks::{HeldServices, InstanceCallbacks};
 use prop_map::Copies;
 use std::test::Fail;
 
@@ -21,6 +21,9 @@ fn a_service_is_held_from_its_bind_on(rt: HostRuntime) -> Result<(), Fail> {
         },
     )?;
     assert!(rt; callbacks.held(&log) == [4u64].as_slice());
+    let by_name = HeldServices::of(alloc, callbacks.calls())?;
+    assert!(rt; by_name.held(&log) == [4u64].as_slice());
+    assert!(rt; by_name.held(&text(alloc, "a")?).is_empty());
     callbacks.take_back();
     assert!(rt; callbacks.held(&log).is_empty());
     Ok(())

@@ -97,3 +97,21 @@ fn listeners_go_back_to_what_was_saved(rt: HostRuntime) -> Result<(), Fail> {
     assert!(rt; listeners.rows().is_empty());
     Ok(())
 }
+
+#[test]
+fn a_removed_listener_is_put_back_at_its_place(rt: HostRuntime) -> Result<(), Fail> {
+    let alloc = rt.alloc();
+    let mut listeners = with_one(alloc, "(v=1)")?.ok_or("a listener")?;
+    let filter = Filter::parse(alloc, "(v=*)")?;
+    assert!(rt; listeners.listen(alloc, 1, filter) == Ok(2));
+    let one = service(alloc, 1)?;
+    assert!(rt; listeners.tell(alloc, None, Some(&one)).is_ok());
+    let room = listeners.room(alloc)?;
+    let row = listeners.remove(1).ok().ok_or("listener 1")?;
+    assert!(rt; listeners.listener(1).is_none());
+    listeners.put_back(row, room);
+    assert!(rt; listeners.rows().first().map(|row| row.number) == Some(1));
+    assert!(rt; was_told(&listeners, 1, 0, &[1]));
+    assert!(rt; listeners.numbered() == 2);
+    Ok(())
+}

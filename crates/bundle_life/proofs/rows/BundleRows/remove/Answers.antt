@@ -2,7 +2,7 @@
 use Rattle.std.proofs.Common.{arith, ap, sym, ◌∙◌}
 use Rattle.row_places.proofs.RowPlaceLaws.{filter_none, filter_only, only_within}
 use Rattle.std.specs.List.{count_by}
-use Rattle.bundle_life.specs.Numbers.{has_number, NumberedRows, stops}
+use Rattle.bundle_life.specs.Numbers.{has_number, stops}
 use Rattle.bundle_life.proofs.RowLaws.{count_removed}
 use Rattle.bundle_life.proofs.rows.BundleRows.remove.Goals as goal
 

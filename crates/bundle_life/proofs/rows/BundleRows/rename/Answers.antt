@@ -2,7 +2,7 @@
 use Rattle.std.proofs.Common.{arith, ap, refl}
 use Rattle.row_places.proofs.RowPlaceLaws.{only_within}
 use Rattle.bundle_life.specs.declared.bundle.BundleState.TheVariants.{Installed}
-use Rattle.bundle_life.specs.Numbers.{has_number, NumberedRows}
+use Rattle.bundle_life.specs.Numbers.{has_number}
 use Rattle.bundle_life.proofs.RowLaws.{count_leaves, name_set, name_unset}
 use Rattle.bundle_life.proofs.rows.BundleRows.rename.Goals as goal
 

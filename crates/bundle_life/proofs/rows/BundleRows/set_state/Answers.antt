@@ -2,8 +2,8 @@
 use Rattle.std.proofs.Common.{arith, ap, sym, ◌∙◌}
 use Rattle.std.proofs.lemmas.Bool.{false≢true}
 use Rattle.row_places.proofs.RowPlaceLaws.{only_within}
-use Rattle.bundle_life.specs.Lives.{in_state, is_active, is_stopping}
-use Rattle.bundle_life.specs.Numbers.{has_number, NumberedRows}
+use Rattle.bundle_life.specs.Lives.{is_active, is_stopping}
+use Rattle.bundle_life.specs.Numbers.{has_number}
 use Rattle.bundle_life.proofs.RowLaws.{count_begins, count_completes, count_leaves, state_nowhere, state_set, state_unset}
 use Rattle.bundle_life.proofs.rows.BundleRows.set_state.Goals as goal
 

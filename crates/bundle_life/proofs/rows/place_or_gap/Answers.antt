@@ -1,0 +1,11 @@
+-- In rising rows the search finds the one bundle of a number, or the gap where it would stand.
+use Rattle.std.proofs.Common.{rules}
+use Rattle.std.proofs.lemmas.Fn.{always_returns_same}
+use Rattle.std.specs.Ordering.{nat_cmp}
+use Rattle.bundle_life.specs.declared.bundle.BundleLife.{BundleLife}
+use Rattle.bundle_life.proofs.NumberLaws.{placed_by}
+use Rattle.bundle_life.proofs.rows.place_or_gap.Goals as goal
+
+pub returns-clause-place : goal.returns-clause-place
+returns-clause-place c = placed_by (λ (b : BundleLife). b.number) c.args.number c.args.rows.now c.binary_search_by.result c.requires
+    (c.binary_search_by.ensures.position (λ (b : BundleLife). nat_cmp b.number c.args.number) (always_returns_same _ _ _ (λ a r q k. search rules))) c.binary_search_by.ensures.bound

@@ -1,0 +1,32 @@
+-- A listener in the place of the one of its number, or in the gap.
+use Rattle.std.proofs.Common.{subst, sym, ◌∙◌, Ok, Err}
+use Rattle.std.specs.Ordering.{nat_cmp}
+use Rattle.row_places.specs.RowPlaces.{IsPlaceOrGap}
+use Rattle.service_listeners.specs.declared.listener.Listener.{Listener}
+use Rattle.service_listeners.specs.Numbers.{AreNumbered, IsGiven}
+use Rattle.service_listeners.proofs.NumberLaws.{all_with, put_new, put_there, rising_with}
+use Rattle.service_listeners.proofs.rows.put_into.Goals as goal
+
+pub returns-in-Ok-clause-now : goal.returns-in-Ok-clause-now
+returns-in-Ok-clause-now c =
+    let place : IsPlaceOrGap (λ (l : Listener). nat_cmp l.number c.args.listener.number) (Ok c.in-Ok.place) c.args.rows.now.items =
+    rw c.as_slice.ensures.value at c.in-Ok.ensures.place in
+    put_there (λ (l : Listener). l.number) c.args.listener c.in-Ok.place c.args.rows.now.items c.requires.order place
+
+pub returns-in-Ok-clause-numbered : goal.returns-in-Ok-clause-numbered
+returns-in-Ok-clause-numbered c numbered given rows = subst (AreNumbered numbered) (sym (returns-in-Ok-clause-now c)) (
+  rising_with (λ (l : Listener). l.number) c.args.listener c.args.rows.now.items rows.0,
+  all_with (λ (l : Listener). l.number) c.args.listener (IsGiven numbered) c.args.rows.now.items given rows.1,
+)
+
+pub returns-in-Err-clause-now : goal.returns-in-Err-clause-now
+returns-in-Err-clause-now c =
+    let place : IsPlaceOrGap (λ (l : Listener). nat_cmp l.number c.args.listener.number) (Err c.in-Err.gap) c.args.rows.now.items =
+    rw c.as_slice.ensures.value at c.in-Err.ensures.place in
+    c.insert.ensures ∙ put_new (λ (l : Listener). l.number) c.args.listener c.in-Err.gap c.args.rows.now.items place
+
+pub returns-in-Err-clause-numbered : goal.returns-in-Err-clause-numbered
+returns-in-Err-clause-numbered c numbered given rows = subst (AreNumbered numbered) (sym (returns-in-Err-clause-now c)) (
+  rising_with (λ (l : Listener). l.number) c.args.listener c.args.rows.now.items rows.0,
+  all_with (λ (l : Listener). l.number) c.args.listener (IsGiven numbered) c.args.rows.now.items given rows.1,
+)
