@@ -42,6 +42,13 @@ impl Filter {
         Filter { node }
     }
 
+    /// The filter as a tree in memory, for those who match it against more than properties.
+    pub fn node(&self) -> &Node
+        ensures { tree_of result.now ≡ self.now }
+    {
+        &self.node
+    }
+
     /// Whether the filter matches the properties. It takes no memory.
     pub fn matches(&self, properties: &Properties) -> bool
         ensures { result ≡ matches self.now properties.now }

@@ -15,6 +15,7 @@ mod steps;
 pub use comparison::Comparison;
 pub use filter::Filter;
 pub use filter_fault::FilterFault;
-pub use matching::consists_of;
+pub use matching::{consists_of, value_compares, value_has_parts};
+pub use node::Node;
 pub use parsing::note_reading;
 pub use steps::Steps;

@@ -188,8 +188,8 @@ fn some_text_has_parts(parts: &[Str], texts: &[Str]) -> bool
         .any(|text| text_has_parts(parts, text.as_str()))
 }
 
-/// Whether a value compares so with a filter's.
-pub(crate) fn value_compares(comparison: Comparison, value: &str, property: &Value) -> bool
+/// Whether a value compares so with a filter's: a list where one item does. It takes no memory.
+pub fn value_compares(comparison: Comparison, value: &str, property: &Value) -> bool
     ensures { result ≡ value_compares comparison value.now property.now }
 {
     match property {
@@ -202,8 +202,8 @@ pub(crate) fn value_compares(comparison: Comparison, value: &str, property: &Val
     }
 }
 
-/// Whether a value has the parts in order, the first at its beginning and the last at its end.
-pub(crate) fn value_has_parts(parts: &[Str], property: &Value) -> bool
+/// Whether a value has the parts in order, the first at its beginning and the last at its end. It takes no memory.
+pub fn value_has_parts(parts: &[Str], property: &Value) -> bool
     ensures { result ≡ value_has_parts parts.now property.now }
 {
     match property {

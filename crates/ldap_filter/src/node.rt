@@ -16,13 +16,18 @@ pub enum Node {
     Present(Str),
     /// The attribute compares so with the value.
     Compare {
+        /// How it compares.
         comparison: Comparison,
+        /// The attribute.
         attribute: Str,
+        /// The value, without escapes.
         value: Str,
     },
     /// The attribute's text has these parts in order, the first and the last at its ends.
     Parts {
+        /// The attribute.
         attribute: Str,
+        /// Two parts or more, without escapes.
         parts: List<Str>,
     },
 }

@@ -1,0 +1,11 @@
+pub mod Best
+pub mod Faults
+pub mod Inside
+pub mod Placing
+pub mod Readings
+pub mod Resolution
+pub mod Rounds
+pub mod Texts
+pub mod VersionMachine
+pub mod Versioned
+pub mod Wirings

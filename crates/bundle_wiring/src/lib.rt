@@ -1,0 +1,27 @@
+//! Which bundles resolve together, and to whom each is wired (OSGi Core 8, chapter 3 "Module Layer"): what a manifest says
+//! of its bundle's needs and offers, the greatest set of bundles whose needs are met within it, and their wires.
+#![tactic(auto)]
+
+mod capabilities;
+mod clauses;
+mod fault;
+mod imports;
+mod matching;
+mod offers;
+mod packages;
+mod reading;
+mod resolved;
+mod resolving;
+mod texts;
+mod version_text;
+mod wires;
+mod wiring;
+
+pub use fault::WireFault;
+pub use matching::matches_versioned;
+pub use reading::read_wiring;
+pub use resolved::{Resolved, Wire};
+pub use resolving::resolve;
+pub use texts::note_texts;
+pub use wires::note_best;
+pub use wiring::{Offer, WireNeed, Wiring};

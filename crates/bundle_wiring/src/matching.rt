@@ -1,0 +1,160 @@
+//! When an offer meets a need.
+ghost use Rattle.bundle_wiring.specs.Resolution.{is_in_range, is_matched, meets};
+ghost use Rattle.bundle_wiring.specs.Versioned.{asks_version, every_versioned, is_like, matches_versioned, order_passes, some_versioned, version_passes};
+ghost use Rattle.bundle_wiring.specs.Texts.{version_of};
+ghost use Rattle.ldap_filter.specs.Matching.{passes, value_compares};
+ghost use Rattle.ldap_filter.specs.Nodes.{tree_of};
+ghost use Rattle.ldap_filter.specs.Trees.{trees_of};
+ghost use Rattle.prop_map.specs.Maps.{get};
+ghost use Rattle.std.specs.Prelude.{◌≡◌, map, if◌then◌else◌};
+
+use crate::version_text::version_order;
+use crate::{Offer, WireNeed};
+use ldap_filter::{Comparison, Filter, Node, value_compares, value_has_parts};
+use osgi_version::{Version, VersionRange};
+use prop_map::{Properties, Shared};
+use std::cmp::Ordering;
+
+/// Whether a filter matches the attributes and the version of an offer (OSGi Core 8, section 3.2.7 "Filter Syntax"). It
+/// matches as `Filter::matches` says, but an attribute `version`, in whatever case, under `=`, `>=` and `<=` compares the
+/// offer's version, whatever the attributes say, with the one that the filter's value spells; where it spells none, the
+/// comparison is false. It takes no memory.
+pub fn matches_versioned(filter: &Filter, properties: &Properties, version: &Version) -> bool
+    ensures { result ≡ matches_versioned filter.now properties.now version.now }
+{
+    node_matches(filter.node(), properties, version)
+}
+
+#[cycle(versioned_nodes)]
+fn node_matches(node: &Node, properties: &Properties, version: &Version) -> bool
+    ensures { result ≡ matches_versioned (tree_of node.now) properties.now version.now }
+{
+    match node {
+        Node::Every(nodes) => every_matches(nodes.as_slice(), properties, version),
+        Node::Any(nodes) => some_matches(nodes.as_slice(), properties, version),
+        Node::Not(node) => !node_matches(node, properties, version),
+        Node::Present(attribute) => properties.get(attribute.as_str()).is_some(),
+        Node::Compare {
+            comparison,
+            attribute,
+            value,
+        } => compares(
+            *comparison,
+            attribute.as_str(),
+            value.as_str(),
+            properties,
+            version,
+        ),
+        Node::Parts { attribute, parts } => match properties.get(attribute.as_str()) {
+            Some(property) => value_has_parts(parts.as_slice(), property),
+            None => false,
+        },
+    }
+}
+
+#[cycle(versioned_nodes)]
+fn every_matches(nodes: &[Node], properties: &Properties, version: &Version) -> bool
+    ensures { result ≡ every_versioned (trees_of (map tree_of nodes.now)) properties.now version.now }
+{
+    for node in nodes {
+        if !node_matches(node, properties, version) {
+            return false;
+        }
+    }
+    true
+}
+
+#[cycle(versioned_nodes)]
+fn some_matches(nodes: &[Node], properties: &Properties, version: &Version) -> bool
+    ensures { result ≡ some_versioned (trees_of (map tree_of nodes.now)) properties.now version.now }
+{
+    for node in nodes {
+        if node_matches(node, properties, version) {
+            return true;
+        }
+    }
+    false
+}
+
+fn compares(
+    comparison: Comparison,
+    attribute: &str,
+    value: &str,
+    properties: &Properties,
+    version: &Version,
+) -> bool
+    ensures { result ≡ (if asks_version comparison attribute.now then version_passes comparison version.now (version_of value.now) else passes (value_compares comparison value.now) (get properties.now attribute.now)) }
+{
+    if asks_version(comparison, attribute) {
+        version_passes(comparison, version, value)
+    } else {
+        match properties.get(attribute) {
+            Some(property) => value_compares(comparison, value, property),
+            None => false,
+        }
+    }
+}
+
+fn asks_version(comparison: Comparison, attribute: &str) -> bool
+    ensures { result ≡ asks_version comparison attribute.now }
+{
+    "version".eq_ignore_ascii_case(attribute) && !is_like(comparison)
+}
+
+fn is_like(comparison: Comparison) -> bool
+    ensures { result ≡ is_like comparison }
+{
+    match comparison {
+        Comparison::Like => true,
+        Comparison::Equal | Comparison::AtLeast | Comparison::AtMost => false,
+    }
+}
+
+fn version_passes(comparison: Comparison, version: &Version, value: &str) -> bool
+    ensures { result ≡ version_passes comparison version.now (version_of value.now) }
+{
+    match version_order(version, value) {
+        Some(order) => order_passes(comparison, order),
+        None => false,
+    }
+}
+
+fn order_passes(comparison: Comparison, order: Ordering) -> bool
+    ensures { result ≡ order_passes comparison order }
+{
+    match comparison {
+        Comparison::Equal | Comparison::Like => order.is_eq(),
+        Comparison::AtLeast => order.is_ge(),
+        Comparison::AtMost => order.is_le(),
+    }
+}
+
+/// Whether an offer meets a need. It takes no memory.
+pub(crate) fn meets(need: &WireNeed, offer: &Offer) -> bool
+    ensures { result ≡ meets need.now offer.now }
+{
+    (need.package == offer.package && need.name == offer.name)
+        && (is_in_range(&need.range, offer.version.get()) && is_matched(&need.filter, offer))
+}
+
+fn is_in_range(range: &Option<Shared<VersionRange>>, version: &Version) -> bool
+    ensures { result ≡ is_in_range range.now version.now }
+{
+    match range {
+        Some(range) => range.get().includes(version),
+        None => true,
+    }
+}
+
+fn is_matched(filter: &Option<Shared<Filter>>, offer: &Offer) -> bool
+    ensures { result ≡ is_matched filter.now offer.now }
+{
+    match filter {
+        Some(filter) => matches_versioned(
+            filter.get(),
+            offer.attributes.get(),
+            offer.version.get(),
+        ),
+        None => true,
+    }
+}
