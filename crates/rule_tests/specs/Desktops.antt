@@ -1,6 +1,7 @@
 -- A desk in memory (our own).
-use Rattle.std.specs.Prelude.{ℕ, ◌==◌, ◌-◌, List, [], ◌∷◌, ◌++◌, Bool, true, false, not, ◌&&◌, ◌≡◌, Option, Some, None, is_none, if◌then◌else◌}
-use Rattle.std.specs.List.{list_any}
+use Rattle.std.specs.Arc.{arc_value}
+use Rattle.std.specs.Prelude.{ℕ, ◌==◌, ◌-◌, List, [], ◌∷◌, ◌++◌, Bool, true, false, not, ◌&&◌, ◌≡◌, Option, Some, None, is_none, if◌then◌else◌, option_map}
+use Rattle.std.specs.List.{find, list_any}
 use Rattle.callback_orders.specs.declared.callback.Outcome.{Outcome}
 use Rattle.turn_runner.specs.declared.turn_work.TurnWork.{TurnWork}
 use Rattle.rule_tests.specs.declared.memory_desk.Ended.{Ended}
@@ -18,6 +19,10 @@ pub record Desktop (O : Type 0) : Type 0 where
 
 abbrev pub is_holder : {O : Type 0} → List (Held O) → ℕ → Bool
 is_holder held instance = list_any (λ one. one.instance == instance) held
+
+-- the object that was put back first for an instance
+abbrev pub object_of : {O : Type 0} → List (Held O) → ℕ → Option O
+object_of held instance = option_map (λ one. arc_value one.object) (find (λ one. one.instance == instance) held)
 
 -- the instance has an object exactly where the turn needs one
 abbrev pub fits : {O : Type 0} → List (Held O) → TurnWork → Bool

@@ -1,7 +1,10 @@
 //! A desk in memory, for tests.
-ghost use Rattle.std.specs.Prelude.{◌≡◌, ◌==◌, ℕ, [], None, not, false, true, is_some, OnOk, OnErr, IfErr, MatchOption};
-ghost use Rattle.rule_tests.specs.Desktops.{Begins, EndsAs, Posts, is_due, is_holder, fits, with_number};
-ghost use Rattle.turn_runner.specs.Outcomes.{IsRunOf, has_object_after, is_destroy_of};
+ghost use Rattle.std.specs.Prelude.{◌≡◌, ◌⊎◌, ◌==◌, ◌<◌, ◌&&◌, ◌||◌, ℕ, [], Some, None, not, false, true, is_some, option_map, vec_len, vec_capacity, OnOk, OnErr, IfErr};
+ghost use Rattle.rule_tests.specs.Desktops.{Begins, EndsAs, Posts, is_due, is_holder, fits, object_of, with_number};
+ghost use Rattle.std.specs.Arc.{arc_value};
+ghost use Rattle.std.specs.List.{find};
+ghost use Rattle.std.specs.Option.{option_copied};
+ghost use Rattle.turn_runner.specs.Outcomes.{IsMadeFor, IsRunOf, has_object_after, is_destroy_of};
 
 use callback_orders::Outcome;
 use prop_map::{Copies, OutOfMemory};
@@ -55,17 +58,30 @@ fn is_holder<O>(held: &[Held<O>], instance: u64) -> bool
     held.iter().any(|one| one.instance == instance)
 }
 
-// Who holds the object of an instance.
-fn find<O>(held: &[Held<O>], instance: u64) -> Option<&Held<O>>
-    ensures some { is_some result ≡ is_holder held.now instance }
-    ensures own { MatchOption result (Unit {0}) (λ one. one.now.instance ≡ instance) }
+fn first_held<O>(held: &[Held<O>], instance: u64) -> Option<&Held<O>>
+    ensures { option_copied result ≡ find (λ one. one.instance == instance) held.now }
 {
-    for one in held {
-        if one.instance == instance {
-            return Some(one);
-        }
+    held.iter().find(|one| one.instance == instance)
+}
+
+// What holds the object of an instance, the first one.
+fn held_object<O>(held: &[Held<O>], instance: u64) -> Option<&Held<O>>
+    ensures some { is_some result ≡ is_holder held.now instance }
+    ensures first { option_copied result ≡ find (λ one. one.instance == instance) held.now }
+{
+    first_held(held, instance)
+}
+
+// Keeps the object that a turn of the instance made.
+#[tactic(auto, using(crate::proofs::Holders::holder_more))]
+fn keep<O: Drop>(held: &mut Vec<Held<O>>, instance: u64, made: Option<Arc<O>>)
+    requires { vec_len held.old < vec_capacity held.old }
+    ensures holders { (n : ℕ) → is_holder held.new.items n ≡ (is_holder held.old.items n || (is_some made && (instance == n))) }
+    ensures own { (n : ℕ) (object : O) → object_of held.new.items n ≡ Some object → (object_of held.old.items n ≡ Some object) ⊎ ((instance ≡ n) × (option_map (λ m. arc_value m) made ≡ Some object)) }
+{
+    if let Some(object) = made {
+        held.push_reserved(Held { instance, object });
     }
-    None
 }
 
 impl<O> MemoryDesk<O> {
@@ -120,6 +136,8 @@ impl<O: Drop> Desk<O> for MemoryDesk<O> {
 
     ghost has_object = { λ d instance. is_holder d.held instance };
 
+    ghost owns = { λ d instance object. object_of d.held instance ≡ Some object };
+
     ghost begins = { Begins };
 
     ghost ends = { EndsAs };
@@ -148,13 +166,12 @@ impl<O: Drop> Desk<O> for MemoryDesk<O> {
     }
 
     fn object(&self, _alloc: Global, instance: u64) -> Result<Option<Arc<O>>, OutOfMemory> {
-        match find(self.held.as_slice(), instance) {
+        match held_object(self.held.as_slice(), instance) {
             Some(one) => Ok(Some(Arc::try_clone(&one.object)?)),
             None => Ok(None),
         }
     }
 
-    #[tactic(auto, using(crate::proofs::Holders::holder_more))]
     fn put_back(
         &mut self,
         _alloc: Global,
@@ -165,6 +182,7 @@ impl<O: Drop> Desk<O> for MemoryDesk<O> {
         ensures ok { OnOk result (EndsAs self.old number ran.outcome self.new) }
         ensures ended { OnOk result (with_number number self.new.under_way ≡ None) }
         ensures objects { OnOk result ((instance : ℕ) → is_destroy_of (with_number number self.old.under_way) instance ≡ false → is_holder self.new.held instance ≡ has_object_after (with_number number self.old.under_way) (is_some ran.made) (λ other. is_holder self.old.held other) instance) }
+        ensures own { OnOk result ((instance : ℕ) (object : O) → object_of self.new.held instance ≡ Some object → (object_of self.old.held instance ≡ Some object) ⊎ IsMadeFor arc_value (with_number number self.old.under_way) ran.made instance object) }
         ensures err { OnErr result (self.new ≡ self.old) }
         ensures back { IfErr result (λ e. e.0 ≡ ran) }
     {
@@ -176,9 +194,7 @@ impl<O: Drop> Desk<O> for MemoryDesk<O> {
             Some(work) => work.instance,
             None => unreachable!(),
         };
-        if let Some(object) = made {
-            self.held.push_reserved(Held { instance, object });
-        }
+        keep(&mut self.held, instance, made);
         self.ended.push_reserved(Ended { number, outcome });
         self.drain = true;
         Ok(())

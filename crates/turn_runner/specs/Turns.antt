@@ -2,13 +2,15 @@
 use Rattle.std.specs.Prelude.{zero, suc, ℕ, ◌≤◌, ◌<◌, List, Bool, true, false, ◌≡◌, ◌⊎◌, Option, Some, None, Result, Ok, Err}
 use Rattle.prop_map.specs.declared.properties.Property.{Property}
 use Rattle.callback_orders.specs.declared.callback.Outcome.{Outcome}
+use Rattle.kind_trait.specs.declared.kind_fault.KindFault.{KindFault}
+use Rattle.kind_trait.specs.declared.site.Site.{Site}
 use Rattle.kind_trait.specs.Meanings.{Told}
 use Rattle.turn_runner.specs.declared.turn_work.TurnWork.{TurnWork}
 use Rattle.turn_runner.specs.declared.desk_fault.DeskFault.{DeskFault}
 use Rattle.turn_runner.specs.declared.desk_fault.DeskFault.TheVariants.{JournalFull as NoRoom, OutOfMemory as NoMemoryLeft}
 use Rattle.turn_runner.specs.declared.settle_fault.SettleFault.{SettleFault}
 use Rattle.turn_runner.specs.declared.settle_fault.SettleFault.TheVariants.{Unsettled, JournalFull, OutOfMemory}
-use Rattle.turn_runner.specs.Outcomes.{is_refused, IsOutcome, outcome_where}
+use Rattle.turn_runner.specs.Outcomes.{is_refused, IsHeard, IsOutcome, outcome_where}
 
 -- the first due turn was taken, exactly where one is due and there is room for it
 abbrev pub IsTaken : {S : Type 0} → (S → Bool) → (S → Bool) → (S → TurnWork → S → Type 0) → S → Result (Option TurnWork) DeskFault → S → Type 0
@@ -16,6 +18,10 @@ IsTaken has_due has_room begins before (Ok None) after = (has_due before ≡ fal
 IsTaken has_due has_room begins before (Ok (Some work)) after = (has_due before ≡ true) × (has_room before ≡ true) × begins before work after
 IsTaken has_due has_room begins before (Err NoRoom) after = (has_due before ≡ true) × (has_room before ≡ false) × (after ≡ before)
 IsTaken has_due has_room begins before (Err NoMemoryLeft) after = after ≡ before
+
+-- the turn of a number ends with an outcome, and an object of its instance's own answered that where one has to be told
+abbrev pub HeardEnds : {S O : Type 0} → (S → ℕ → Option TurnWork) → (S → ℕ → O → Type 0) → (O → Site → Told → Result (Unit {0}) KindFault → Type 0) → (S → ℕ → Outcome → S → Type 0) → S → ℕ → Outcome → S → Type 0
+HeardEnds running owns hears ends before number outcome after = ends before number outcome after × IsHeard owns hears before (running before number) outcome
 
 -- a turn begins, it ends with this outcome, and the drains that are due then are posted
 abbrev pub Ends : {S : Type 0} → (S → TurnWork → S → Type 0) → (S → ℕ → Outcome → S → Type 0) → (S → S → Type 0) → TurnWork → Outcome → S → S → Type 0

@@ -1,7 +1,8 @@
 //! Where turns come from and go back to.
 ghost use Rattle.callback_orders.specs.declared.callback.Outcome.{Outcome};
-ghost use Rattle.std.specs.Prelude.{◌≡◌, ℕ, Bool, false, Option, Some, None, IfOk, IfErr, OnOk, OnErr, MatchOption, is_some};
-ghost use Rattle.turn_runner.specs.Outcomes.{IsRunOf, has_object_after, is_destroy_of, needs_object};
+ghost use Rattle.std.specs.Arc.{arc_value};
+ghost use Rattle.std.specs.Prelude.{◌≡◌, ◌⊎◌, ℕ, Bool, false, Option, Some, None, IfOk, IfErr, OnOk, OnErr, MatchOption, is_some};
+ghost use Rattle.turn_runner.specs.Outcomes.{IsMadeFor, IsRunOf, has_object_after, is_destroy_of, needs_object};
 ghost use Rattle.turn_runner.specs.Turns.{IsTaken};
 ghost use Rattle.turn_runner.specs.declared.turn_work.TurnWork.{TurnWork};
 
@@ -13,8 +14,9 @@ use std::sync::Arc;
 /// Where turns come from and go back to, and where the objects of the instances are kept.
 ///
 /// Its meaning says at each moment whether a turn is due, whether the journal has room for it, whether a drain is due, which turn
-/// of a number has begun and not ended, and which instances have an object. Three relations between the desk before and after
-/// say what it means that a turn begins, that it ends with an outcome, and that drains are posted.
+/// of a number has begun and not ended, which instances have an object, and which objects are an instance's own. Three relations
+/// between the desk before and after say what it means that a turn begins, that it ends with an outcome, and that drains are
+/// posted.
 pub trait Desk<O> {
     /// Whether a turn is due.
     ghost has_due: { Self → Bool };
@@ -30,6 +32,9 @@ pub trait Desk<O> {
 
     /// Whether an object was put back for an instance.
     ghost has_object: { Self → ℕ → Bool };
+
+    /// What it is that an object is an instance's own: only one that a turn of the instance made becomes so.
+    ghost owns: { Self → ℕ → O → Type 0 };
 
     /// The first due turn begins.
     ghost begins: { Self → TurnWork → Self → Type 0 };
@@ -49,7 +54,8 @@ pub trait Desk<O> {
         ensures step { IsTaken has_due has_room begins self.old result self.new }
         ensures running { IfOk result (λ taken. MatchOption taken (Unit {0}) (λ work. running self.new work.number ≡ Some work)) }
         ensures fits { IfOk result (λ taken. MatchOption taken (Unit {0}) (λ work. has_object self.new work.instance ≡ needs_object work)) }
-        ensures objects { (instance : ℕ) → has_object self.new instance ≡ has_object self.old instance };
+        ensures objects { (instance : ℕ) → has_object self.new instance ≡ has_object self.old instance }
+        ensures own { (instance : ℕ) (object : O) → owns self.new instance object → owns self.old instance object };
 
     /// Whether a turn is due.
     ///
@@ -58,13 +64,14 @@ pub trait Desk<O> {
     fn due(&self, alloc: Global) -> Result<bool, OutOfMemory>
         ensures { IfOk result (λ due. due ≡ has_due self.now) };
 
-    /// The object of an instance: `None` exactly where none was put back for it. Once the instance's Destroy has ended, the desk
-    /// may have let the object go.
+    /// The own object of an instance: `None` exactly where none was put back for it. Once the instance's Destroy has ended, the
+    /// desk may have let the object go.
     ///
     /// # Errors
     /// Only want of memory.
     fn object(&self, alloc: Global, instance: u64) -> Result<Option<Arc<O>>, OutOfMemory>
-        ensures { IfOk result (λ object. is_some object ≡ has_object self.now instance) };
+        ensures has { IfOk result (λ object. is_some object ≡ has_object self.now instance) }
+        ensures own { IfOk result (λ object. MatchOption object (Unit {0}) (λ o. owns self.now instance (arc_value o))) };
 
     /// Ends the turn of that number, which must have begun and not ended, with what it came to: an object must be there exactly
     /// where the turn made one.
@@ -81,6 +88,7 @@ pub trait Desk<O> {
         ensures ok { OnOk result (ends self.old number ran.outcome self.new) }
         ensures ended { OnOk result (running self.new number ≡ None) }
         ensures objects { OnOk result ((instance : ℕ) → is_destroy_of (running self.old number) instance ≡ false → has_object self.new instance ≡ has_object_after (running self.old number) (is_some ran.made) (has_object self.old) instance) }
+        ensures own { OnOk result ((instance : ℕ) (object : O) → owns self.new instance object → owns self.old instance object ⊎ IsMadeFor arc_value (running self.old number) ran.made instance object) }
         ensures err { OnErr result (self.new ≡ self.old) }
         ensures back { IfErr result (λ e. e.0 ≡ ran) };
 
@@ -91,5 +99,6 @@ pub trait Desk<O> {
     fn post(&mut self, alloc: Global) -> Result<(), OutOfMemory>
         ensures step { posts self.old self.new }
         ensures ok { OnOk result (has_drain self.new ≡ false) }
-        ensures objects { (instance : ℕ) → has_object self.new instance ≡ has_object self.old instance };
+        ensures objects { (instance : ℕ) → has_object self.new instance ≡ has_object self.old instance }
+        ensures own { (instance : ℕ) (object : O) → owns self.new instance object → owns self.old instance object };
 }

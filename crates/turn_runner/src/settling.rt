@@ -1,7 +1,7 @@
 //! How all turns that are due are run.
 ghost use Rattle.std.specs.Prelude.{◌≡◌, Some};
 ghost use Rattle.turn_runner.specs.Outcomes.{needs_object, is_refused};
-ghost use Rattle.turn_runner.specs.Turns.{IsEndRun, IsDueRun, IsSettled};
+ghost use Rattle.turn_runner.specs.Turns.{HeardEnds, IsEndRun, IsDueRun, IsSettled};
 
 use crate::{Desk, DeskFault, SettleFault, TurnWork, run_shared};
 use callback_orders::Outcome;
@@ -18,7 +18,7 @@ fn run_begun<K: Kinds, D: Desk<K::Object>>(
 ) -> Result<(), OutOfMemory>
     requires running { D.running desk.old work.now.number ≡ Some work.now }
     requires fits { D.has_object desk.old work.now.instance ≡ needs_object work.now }
-    ensures { IsEndRun D.has_drain D.ends D.posts (is_refused K.refuses work.now) work.now.number desk.old result desk.new }
+    ensures { IsEndRun D.has_drain (HeardEnds D.running D.owns K.hears D.ends) D.posts (is_refused K.refuses work.now) work.now.number desk.old result desk.new }
 {
     let object = desk.object(alloc, work.instance)?;
     let ran = run_shared(alloc, kinds, object, work);
@@ -39,7 +39,7 @@ fn run_due<K: Kinds, D: Desk<K::Object>>(
     desk: &mut D,
     kinds: &K,
 ) -> Result<bool, DeskFault>
-    ensures { IsDueRun D.has_due D.has_room D.has_drain D.begins D.ends D.posts K.refuses desk.old result desk.new }
+    ensures { IsDueRun D.has_due D.has_room D.has_drain D.begins (HeardEnds D.running D.owns K.hears D.ends) D.posts K.refuses desk.old result desk.new }
 {
     let Some(work) = desk.take(alloc)? else {
         return Ok(false);
@@ -49,7 +49,8 @@ fn run_due<K: Kinds, D: Desk<K::Object>>(
 }
 
 /// Posts the drains that are due, and then runs the turns that are due, one after the other, until nothing is due. It answers
-/// how many ran. Behind each turn the drains that are due then are posted before the next one begins.
+/// how many ran. Behind each turn the drains that are due then are posted before the next one begins. Where a turn is told to
+/// an object, its outcome is what an object answered that is its instance's own on the desk.
 ///
 /// # Errors
 /// Unsettled exactly where `budget` turns ran and one is still due. JournalFull exactly where fewer ran, one is due and the journal
@@ -60,7 +61,7 @@ pub fn settle<K: Kinds, D: Desk<K::Object>>(
     kinds: &K,
     budget: u64,
 ) -> Result<u64, SettleFault>
-    ensures { IsSettled D.has_due D.has_room D.has_drain D.begins D.ends D.posts K.refuses budget desk.old result desk.new }
+    ensures { IsSettled D.has_due D.has_room D.has_drain D.begins (HeardEnds D.running D.owns K.hears D.ends) D.posts K.refuses budget desk.old result desk.new }
 {
     desk.post(alloc)?;
     for ran in 0..budget {
