@@ -1,2 +1,3 @@
+pub mod ByNameLemmas
 pub mod HeldLemmas
 pub mod LastLemmas

@@ -28,6 +28,15 @@ impl Copies for Services {
 }
 
 impl Services {
+    /// No service. It takes no memory.
+    pub(crate) fn none(alloc: Global) -> Services
+        ensures { result ≡ [] }
+    {
+        Services {
+            kept: Vec::new(alloc),
+        }
+    }
+
     /// One service.
     pub(crate) fn one(alloc: Global, service: u64) -> Result<Services, OutOfMemory>
         ensures { IfOk result (λ services. services ≡ service ∷ []) }

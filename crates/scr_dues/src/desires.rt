@@ -1,5 +1,6 @@
 //! The services that an instance desires (OSGi Compendium 8, chapter 112, "Target Services", "Reference Policy", "Reference
 //! Policy Option", "Bound Service Replacement").
+ghost use Rattle.callback_orders.specs.Lives.{held_for};
 ghost use Rattle.component_state.specs.Reasons.{choice_at};
 ghost use Rattle.component_state.specs.Rows.{rows_of};
 ghost use Rattle.component_state.specs.declared.component.Component.{Component};
@@ -129,33 +130,51 @@ fn need_in(
     )
 }
 
-// What an instance that isn't ending desires for a dynamic reference.
+// What an instance that isn't ending desires for a dynamic reference, for which it holds these.
 fn desired_now(
     alloc: Global,
     own: &OwnRows,
     world: &World,
     instance: &Instance,
+    held: &[u64],
     place: u64,
     reference: &Reference,
 ) -> Result<Vec<u64>, OutOfMemory>
-    requires { reference.now.policy ≡ Dynamic }
+    requires policy { reference.now.policy ≡ Dynamic }
+    requires held { held.now ≡ held_for reference.now.name instance.now.callbacks }
     ensures { IfOk result (λ v. v.items ≡ desired_services world.now instance.now place reference.now) }
 {
     let need = need_in(alloc, own, world, instance, reference)?;
-    let held = held_for(alloc, &reference.name, instance.callbacks.as_slice())?;
     let targets = targets(alloc, own, world, &need)?;
-    desired(alloc, &need, &[], &held, &targets)
+    desired(alloc, &need, &[], held, &targets)
 }
 
-// What an instance that isn't ending desires for the reference at a place.
+// What an instance holds for a reference, where that is dynamic.
+fn held_where_dynamic(
+    alloc: Global,
+    instance: &Instance,
+    reference: &Reference,
+) -> Result<Vec<u64>, OutOfMemory>
+    ensures { IfOk result (λ v. reference.now.policy ≡ Dynamic → v.items ≡ held_for reference.now.name instance.now.callbacks) }
+{
+    match reference.policy {
+        Policy::Static => Ok(Vec::new(alloc)),
+        Policy::Dynamic => held_for(alloc, &reference.name, instance.callbacks.as_slice()),
+    }
+}
+
+// What an instance that isn't ending desires for the reference at a place, for which it holds these: that is looked at
+// where it is dynamic alone.
 fn desired_services(
     alloc: Global,
     own: &OwnRows,
     world: &World,
     instance: &Instance,
+    held: &[u64],
     place: u64,
     reference: &Reference,
 ) -> Result<Vec<u64>, OutOfMemory>
+    requires { reference.now.policy ≡ Dynamic → held.now ≡ held_for reference.now.name instance.now.callbacks }
     ensures { IfOk result (λ v. v.items ≡ desired_services world.now instance.now place reference.now) }
 {
     match reference.policy {
@@ -163,7 +182,7 @@ fn desired_services(
             let chosen = choice_at(instance.origin.chosen.as_slice(), place);
             sorted(alloc, own, world, chosen)
         }
-        Policy::Dynamic => desired_now(alloc, own, world, instance, place, reference),
+        Policy::Dynamic => desired_now(alloc, own, world, instance, held, place, reference),
     }
 }
 
@@ -183,8 +202,29 @@ pub fn desired_for(
     ensures { IfOk result (λ v. v.items ≡ desired_unless_ending ending world.now instance.now place reference.now) }
 {
     if ending {
+        return Ok(Vec::new(alloc));
+    }
+    let held = held_where_dynamic(alloc, instance, reference)?;
+    desired_services(alloc, own, world, instance, &held, place, reference)
+}
+
+/// The same, where what it holds for the reference is known.
+pub(crate) fn desired_holding(
+    alloc: Global,
+    own: &OwnRows,
+    world: &World,
+    ending: bool,
+    instance: &Instance,
+    held: &[u64],
+    place: u64,
+    reference: &Reference,
+) -> Result<Vec<u64>, OutOfMemory>
+    requires { held.now ≡ held_for reference.now.name instance.now.callbacks }
+    ensures { IfOk result (λ v. v.items ≡ desired_unless_ending ending world.now instance.now place reference.now) }
+{
+    if ending {
         Ok(Vec::new(alloc))
     } else {
-        desired_services(alloc, own, world, instance, place, reference)
+        desired_services(alloc, own, world, instance, held, place, reference)
     }
 }

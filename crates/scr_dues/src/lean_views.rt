@@ -1,20 +1,21 @@
 //! What decides which callback of an instance is due, without what isn't looked at: whether it is held, whether a service that it
 //! holds is ready, and whether one changed of which it isn't told (our own).
+ghost use Rattle.callback_orders.specs.Lives.{held_for};
+ghost use Rattle.instance_callbacks.specs.ByName.{held_in};
 ghost use Rattle.prop_map.specs.Words.{has, with_places};
-ghost use Rattle.scr_dues.specs.LeanViews.{best_held, lean_reference, lean_view_as};
+ghost use Rattle.scr_dues.specs.LeanViews.{lean_reference, lean_view_as};
 ghost use Rattle.scr_world.specs.Views.{is_changed, is_ready};
-ghost use Rattle.std.specs.Prelude.{◌≡◌, ◌&&◌, IfOk, map, not};
+ghost use Rattle.std.specs.Prelude.{◌≡◌, ◌&&◌, ℕ, IfOk, List, map, not};
 
 use crate::changes::{awaits_modified, is_changed};
 use crate::components::references_in;
-use crate::desires::desired_for;
+use crate::desires::desired_holding;
 use crate::own_rows::OwnRows;
 use crate::readiness::{bundle_of_instance, is_ready};
 use crate::services::sorted;
-use callback_orders::{
-    HeldService, InstanceView, Phase, ReferenceView, Wish, held_for, is_outstanding,
-};
+use callback_orders::{HeldService, InstanceView, Phase, ReferenceView, Wish, is_outstanding};
 use component_dto::Reference;
+use instance_callbacks::HeldServices;
 use prop_map::{List, OutOfMemory, Str};
 use scr_world::{Instance, World};
 use std::alloc::Global;
@@ -81,33 +82,24 @@ fn changes(
     Ok(found)
 }
 
-// What an instance holds for the reference of a name, best first.
-fn best_held(
-    alloc: Global,
-    own: &OwnRows,
-    world: &World,
-    instance: &Instance,
-    reference: &Str,
-) -> Result<Vec<u64>, OutOfMemory>
-    ensures { IfOk result (λ v. v.items ≡ best_held world.now instance.now reference.now) }
-{
-    let held = held_for(alloc, reference, instance.callbacks.as_slice())?;
-    sorted(alloc, own, world, &held)
-}
-
 fn lean_reference(
     alloc: Global,
     own: &OwnRows,
     world: &World,
     ending: bool,
     instance: &Instance,
+    all_held: &HeldServices,
     place: u64,
     reference: &Reference,
 ) -> Result<ReferenceView, OutOfMemory>
+    requires { (name : List ℕ) → held_in all_held.now name ≡ held_for name instance.now.callbacks }
     ensures { IfOk result (λ v. v ≡ lean_reference ending world.now instance.now (place, reference.now)) }
 {
-    let desired = desired_for(alloc, own, world, ending, instance, place, reference)?;
-    let held = best_held(alloc, own, world, instance, &reference.name)?;
+    let services = all_held.held(&reference.name);
+    let desired = desired_holding(
+        alloc, own, world, ending, instance, services, place, reference,
+    )?;
+    let held = sorted(alloc, own, world, services)?;
     let bundle = bundle_of_instance(world, instance);
     let told = reference.updated.is_some();
     let wishes = wishes(alloc, own, world, bundle, &held, &desired)?;
@@ -125,18 +117,24 @@ fn lean_references(
     world: &World,
     ending: bool,
     instance: &Instance,
+    all_held: &HeldServices,
     references: &[Reference],
 ) -> Result<Vec<ReferenceView>, OutOfMemory>
+    requires { (name : List ℕ) → held_in all_held.now name ≡ held_for name instance.now.callbacks }
     ensures { IfOk result (λ v. v.items ≡ map (lean_reference ending world.now instance.now) (with_places 0 references.now)) }
 {
     let mut found = Vec::new(alloc);
     for (at, reference) in references.iter().enumerate() {
-        found.push(lean_reference(alloc, own, world, ending, instance, at as u64, reference)?)?;
+        let place = at as u64;
+        found.push(lean_reference(
+            alloc, own, world, ending, instance, all_held, place, reference,
+        )?)?;
     }
     Ok(found)
 }
 
-/// What decides it, where the instance is in this phase, and ends or doesn't, as if nobody held it.
+/// What decides it, where the instance is in this phase, and ends or doesn't, as if nobody held it. Its callbacks are gone
+/// over once, however many references it has.
 #[tactic(auto, unfolding(crate::specs::LeanViews::lean_view_as))]
 pub(crate) fn lean_view_as(
     alloc: Global,
@@ -149,7 +147,8 @@ pub(crate) fn lean_view_as(
     ensures { IfOk result (λ v. v ≡ lean_view_as phase ending world.now instance.now) }
 {
     let references = references_in(own, world, instance);
-    let views = lean_references(alloc, own, world, ending, instance, references)?;
+    let all_held = HeldServices::of(alloc, instance.callbacks.as_slice())?;
+    let views = lean_references(alloc, own, world, ending, instance, &all_held, references)?;
     Ok(InstanceView {
         instance: instance.number,
         phase,

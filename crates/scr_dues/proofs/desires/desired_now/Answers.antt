@@ -18,9 +18,8 @@ returns c =
     let r = c.args.reference.now in
     let choice = sorted w (choice_at i.origin.chosen c.args.place) in
     let need : c.in_ok-need.need ≡ need_of (properties_in w i) r = c.in_ok-need.ensures in
-    let policy : c.in_ok-need.need.policy ≡ Dynamic = ap (λ (n : Need). n.policy) need ∙ c.requires in
-    let held : c.deref.result.now ≡ held_for r.name i.callbacks = c.deref.ensures.value ∙ c.in_ok-held.ensures ∙ ap (held_for r.name) c.as_slice.ensures in
-    let services : c.deref-2.result.now ≡ targets_for w i r = c.deref-2.ensures.value ∙ c.in_ok-targets.ensures ∙ ap (λ (n : Need). targets n (registered_services w)) need in
+    let policy : c.in_ok-need.need.policy ≡ Dynamic = ap (λ (n : Need). n.policy) need ∙ c.requires.policy in
+    let services : c.deref.result.now ≡ targets_for w i r = c.deref.ensures.value ∙ c.in_ok-targets.ensures ∙ ap (λ (n : Need). targets n (registered_services w)) need in
     subst (λ (l : List ℕ). IfOk c.desired.result (λ v. v.items ≡ l))
-    (dynamic_desires c.in_ok-need.need [] choice c.deref.result.now c.deref-2.result.now policy ∙ (λ j. desired (need j) choice (held j) (services j)))
+    (dynamic_desires c.in_ok-need.need [] choice c.args.held.now c.deref.result.now policy ∙ (λ j. desired (need j) choice (c.requires.held j) (services j)))
     c.desired.ensures
