@@ -9,13 +9,13 @@ use Rattle.component_state.specs.declared.pass.Passed.{Passed}
 use Rattle.journal_core.specs.Rooms.{JournalRows}
 use Rattle.journal_core.specs.declared.entry.Entry.{Entry}
 use Rattle.prop_map.specs.Words.{has}
-use Rattle.scr_consequences.specs.Ends.{draining_in}
 use Rattle.scr_entries.specs.Following.{entry_of}
 use Rattle.scr_entries.proofs.FollowingEntries.{follows}
 use Rattle.scr_entries.proofs.Reserved.{room_in}
 use Rattle.scr_entries.proofs.Scratch.{satisfied_then}
-use Rattle.scr_growth.specs.Growths.{AreCached, HasFinished, IsAmid, IsBefore, MayGrow}
-use Rattle.scr_growth.specs.declared.growth.Finished.{Finished}
+use Rattle.scr_growth.specs.Growths.{AreCached, HasFinished, IsAmid, IsBefore, IsTold, MayGrow}
+use Rattle.scr_growth.specs.declared.passing.Finished.{Finished}
+use Rattle.scr_growth.specs.declared.told.Told.{Told}
 use Rattle.scr_laws.proofs.ReadyStages.{legal_ready}
 use Rattle.scr_state.specs.Drafts.{with_draft}
 use Rattle.scr_state.specs.Keeps.{IsDraft, Keeps}
@@ -105,14 +105,14 @@ module _ (journal : JournalRows Step) (s : State) (keeps : Keeps journal s) (ste
     held = sym (held_before step (world_at journal.entries)) ∙ ap (λ (w : World). w.unregistered_held) (sym stepped_is);
   }
 
-  pub amid : (failing_ones draining : List ℕ) → failing_ones ≡ failing step s.world → draining ≡ draining_in s.world → IsAmid journal step (record s { world = m }) undo failing_ones draining
-  amid failing_ones draining failing_is draining_is = record {
+  pub amid : (told : Told) → IsTold step s.world told → IsAmid journal step (record s { world = m }) undo told
+  amid told is = record {
     grows = grows;
     world = stepped_is;
     cached = cached;
     before = before;
-    failing = failing_is ∙ ap (failing step) keeps.world;
-    draining = draining_is ∙ ap draining_in keeps.world;
+    told = subst (λ (w : World). IsTold step w told) keeps.world is;
+    satisfied = λ number. keeps.satisfied number ∙ ap (λ (w : World). has (satisfied_in w) number) keeps.world;
   }
 
   -- ---- and its entry stands in the journal
@@ -149,7 +149,8 @@ module _ (journal : JournalRows Step) (s : State) (keeps : Keeps journal s) (ste
         descriptions = end_descriptions ∙ cached.descriptions ∙ ap descriptions_of (documents_now ∙ ap (λ (w : World). w.documents) (sym world));
         levels = levels ∙ ap (λ (x : State). unwrap_or undo.levels x.levels) done.state ∙ cached.levels ∙ ap levels_of (sym end_descriptions);
         satisfied = λ number.
-            ap (λ ns. has ns number) (satisfied ∙ done.satisfied ∙ satisfied_then step (world_at journal.entries) done.pass done.passed)
+            ap (λ ns. has ns number) satisfied ∙ done.satisfied number
+            ∙ ap (λ ns. has ns number) (satisfied_then step (world_at journal.entries) done.pass done.passed)
             ∙ ap (λ (w : World). has (satisfied_in w) number) (sym (world ∙ world_is));
         reserved = ap (λ (j : JournalRows Step). j.reserved) done.journal ∙ ap reserved (sym world);
         legal = subst (λ (h : History). IsLegal new.limit h) (sym history_then)
@@ -164,14 +165,14 @@ module _ (journal : JournalRows Step) (s : State) (keeps : Keeps journal s) (ste
 
 -- ---- the pass
 
-module _ (journal : JournalRows Step) (step : Step) (s : State) (undo : Draft) (failing_ones draining : List ℕ) (amid_it : IsAmid journal step s undo failing_ones draining) where
-  stage_is : stage_in s.world failing_ones ≡ stage_of step (world_at journal.entries)
-  stage_is = ap (stage_in s.world) amid_it.failing ∙ ap (λ (w : World). stage_in w (failing step (world_at journal.entries))) amid_it.world ∙ stage_is_in step (world_at journal.entries)
+module _ (journal : JournalRows Step) (step : Step) (s : State) (undo : Draft) (told : Told) (amid_it : IsAmid journal step s undo told) where
+  stage_is : stage_in s.world told.failing ≡ stage_of step (world_at journal.entries)
+  stage_is = ap (stage_in s.world) amid_it.told.failing ∙ ap (λ (w : World). stage_in w (failing step (world_at journal.entries))) amid_it.world ∙ stage_is_in step (world_at journal.entries)
 
-  pub ready_then : IsReady (stage_in s.world failing_ones)
+  pub ready_then : IsReady (stage_in s.world told.failing)
   ready_then = subst (λ (t : Stage). IsReady t) (sym stage_is) (legal_ready journal.limit (history_of journal.entries) amid_it.grows.legal step amid_it.grows.may)
 
-  pub passed_then : (pass : Passed) → HasPassed (stage_in s.world failing_ones) pass → HasPassed (stage_of step (world_at journal.entries)) pass
+  pub passed_then : (pass : Passed) → HasPassed (stage_in s.world told.failing) pass → HasPassed (stage_of step (world_at journal.entries)) pass
   passed_then pass passed = subst (λ (t : Stage). HasPassed t pass) stage_is passed
 
 -- ---- room for the entry

@@ -1,4 +1,6 @@
+pub mod Drafted
 pub mod Growing
 pub mod ListenerLemmas
 pub mod SettleSteps
 pub mod Settled
+pub mod WithoutPass

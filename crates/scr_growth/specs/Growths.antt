@@ -8,16 +8,19 @@ use Rattle.journal_core.specs.Rooms.{JournalRows}
 use Rattle.journal_core.specs.declared.entry.Entry.{Entry}
 use Rattle.journal_core.specs.declared.entry.GateKey.{GateKey}
 use Rattle.journal_core.specs.declared.entry.Opened.{Opened}
+use Rattle.prop_map.specs.Words.{has}
 use Rattle.bundle_life.specs.Lives.{stop_completed}
 use Rattle.scr_consequences.specs.Ends.{draining_in}
 use Rattle.scr_entries.specs.Following.{entry_of}
-use Rattle.scr_growth.specs.declared.growth.Finished.{Finished}
 use Rattle.scr_growth.specs.declared.listener_change.ListenerChange.{ListenerChange}
 use Rattle.scr_growth.specs.declared.listener_change.ListenerChange.TheVariants.{Nothing, Listen, Unlisten, Remove}
+use Rattle.scr_growth.specs.declared.passing.Finished.{Finished}
 use Rattle.scr_growth.specs.declared.settling.Lists.{Lists}
 use Rattle.scr_growth.specs.declared.settling.Rest.{Rest}
+use Rattle.scr_growth.specs.declared.told.Told.{Told}
 use Rattle.scr_state.specs.declared.draft.Draft.{Draft}
 use Rattle.scr_state.specs.declared.state.State.{State}
+use Rattle.scr_unseen.specs.Unseen.{is_unseen}
 use Rattle.scr_world.specs.Calls.{world_at}
 use Rattle.scr_world.specs.Consequences.{shut_between, stage_of, stopped_by}
 use Rattle.scr_world.specs.Legal.{IsLegal, MayCome}
@@ -27,7 +30,7 @@ use Rattle.scr_world.specs.Room.{has_room, needed_by, reserved, reserved_for}
 use Rattle.scr_world.specs.Steps.{history_of}
 use Rattle.scr_world.specs.Stepping.{failing, world_after_step}
 use Rattle.scr_world.specs.Tables.{descriptions_of, listeners_by}
-use Rattle.scr_world.specs.Worlds.{all_instances}
+use Rattle.scr_world.specs.Worlds.{all_instances, satisfied_in}
 use Rattle.scr_world.specs.declared.step.Step.{Step}
 use Rattle.scr_world.specs.declared.world.World.{World}
 use Rattle.service_listeners.specs.Listening.{ListenerTable, after_changes, after_listen, after_unlisten, without_listeners_of}
@@ -102,14 +105,20 @@ pub record MayGrow (journal : JournalRows Step) (step : Step) : Type 0 where
   pub may : MayCome (world_at journal.entries) step
   pub room : has_room journal.limit (world_at journal.entries) (needed_by step) ≡ true
 
+-- what is told of a step before it stands in the world
+pub record IsTold (step : Step) (w : World) (t : Told) : Type 0 where
+  pub failing : t.failing ≡ failing step w
+  pub draining : t.draining ≡ draining_in w
+  pub unseen : t.unseen ≡ is_unseen step w
+
 -- the step stands in the world, and its pass hasn't run
-pub record IsAmid (journal : JournalRows Step) (step : Step) (s : State) (undo : Draft) (failing_ones draining_ones : List ℕ) : Type 0 where
+pub record IsAmid (journal : JournalRows Step) (step : Step) (s : State) (undo : Draft) (t : Told) : Type 0 where
   pub grows : MayGrow journal step
   pub world : s.world ≡ world_after_step step (world_at journal.entries)
   pub cached : AreCached s undo
   pub before : IsBefore (world_at journal.entries) s.world undo s.world.open_periods
-  pub failing : failing_ones ≡ failing step (world_at journal.entries)
-  pub draining : draining_ones ≡ draining_in (world_at journal.entries)
+  pub told : IsTold step (world_at journal.entries) t
+  pub satisfied : (number : ℕ) → has s.satisfied number ≡ has (satisfied_in (world_at journal.entries)) number
 
 -- its pass has run, and its periods stand in the world
 pub record IsSettling (journal : JournalRows Step) (step : Step) (s : State) (undo : Draft) (open_then : List OpenPeriod) (lists : Lists)
@@ -124,6 +133,9 @@ pub record IsSettling (journal : JournalRows Step) (step : Step) (s : State) (un
   pub cached : AreCached s undo
   pub before : IsBefore (world_at journal.entries) s.world undo open_then
   pub draining : draining_ones ≡ draining_in (world_at journal.entries)
+
+abbrev pub no_lists : Lists
+no_lists = record { closed = []; opened = []; stopped = [] }
 
 abbrev pub entry_with : Step → Lists → Entry Step
 entry_with step lists = record { step = step; closed = lists.closed; opened = lists.opened; stopped = lists.stopped }
@@ -151,4 +163,4 @@ pub record HasFinished (old : JournalRows Step) (step : Step) (was : State) (new
   pub journal : new ≡ record old { entries = old.entries ++ entry_of step pass (world_at old.entries) ∷ []; reserved = reserved now.world }
   pub state : now ≡ record was { world = world_after_entry (entry_of step pass (world_at old.entries)) (world_at old.entries) }
   pub shut : f.shut ≡ shut_between (world_at old.entries) now.world
-  pub satisfied : f.satisfied ≡ pass.satisfied
+  pub satisfied : (number : ℕ) → has f.satisfied number ≡ has pass.satisfied number

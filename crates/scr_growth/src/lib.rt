@@ -5,7 +5,10 @@ mod entering;
 mod growth;
 mod listener_change;
 mod listening;
+mod passing;
 mod settling;
+mod told;
 mod undone;
+mod unseen;
 
 pub use growth::grow;

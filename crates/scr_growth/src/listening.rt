@@ -9,7 +9,7 @@ ghost use Rattle.service_listeners.specs.Numbers.{AreNumbered};
 ghost use Rattle.std.specs.Prelude.{◌≡◌, ◌++◌, ◌∷◌, [], List as Items, OnErr, OnOk};
 
 use crate::listener_change::{ListenerChange, apply, listener_change};
-use crate::undone::{descriptions_after, levels_after, periods_before, rows_before};
+use crate::undone::{descriptions_after, levels_after, periods_before, rows_with};
 use component_state::OpenPeriod;
 use journal_core::Journal;
 use prop_map::{List, OutOfMemory};
@@ -119,7 +119,7 @@ fn tell_all(
     tell_changes(
         alloc,
         listeners,
-        rows_before(&state.world, undo),
+        rows_with(&state.world, undo),
         periods_before(periods, undo),
         &state.world,
         descriptions_after(state, undo),

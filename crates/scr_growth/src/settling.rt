@@ -14,7 +14,7 @@ ghost use Rattle.std.specs.Prelude.{◌≡◌, ◌+◌, ◌<◌, ◌≤◌, ℕ,
 
 use crate::entering::{add_entry, take_entry};
 use crate::listening::tell_last;
-use crate::undone::{periods_before, rows_before};
+use crate::undone::{periods_before, rows_with};
 use callback_orders::{Callback, Called, Outcome, is_outstanding};
 use component_state::OpenPeriod;
 use journal_core::{GateKey, Journal, Opened};
@@ -105,7 +105,7 @@ fn rest_of(
 {
     let tokens = tokens_in(alloc, world)?;
     let reserved = reserved(world, tokens.as_slice())?;
-    let rows = rows_before(world, undo);
+    let rows = rows_with(world, undo);
     let before = periods_before(periods, undo);
     Ok(Rest {
         entries: world.entries.checked_add(1).ok_or(AllocError)?,

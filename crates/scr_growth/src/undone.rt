@@ -1,4 +1,4 @@
-//! What was before a step, where the draft that brings it back is at hand.
+//! What is in a world with a draft in it. Where that is the one that brings back what there was, it is what was before.
 ghost use Rattle.service_registry.specs.declared.row.ServiceRow.{ServiceRow};
 ghost use Rattle.std.specs.List.{AllPairs};
 ghost use Rattle.std.specs.Option.{unwrap_or};
@@ -11,12 +11,12 @@ use scr_state::{Draft, State};
 use scr_world::World;
 use service_registry::ServiceRow;
 
-/// The direct services as they were before the step.
-pub(crate) fn rows_before<'a>(world: &'a World, undo: &'a Draft) -> &'a [ServiceRow]
-    ensures rows { result.now ≡ (unwrap_or undo.entry.now.registry world.entry.now.registry).rows }
+/// The direct services of a world with a draft in it.
+pub(crate) fn rows_with<'a>(world: &'a World, draft: &'a Draft) -> &'a [ServiceRow]
+    ensures rows { result.now ≡ (unwrap_or draft.entry.now.registry world.entry.now.registry).rows }
     ensures ascending { AllPairs (λ (a b : ServiceRow). a.id < b.id) result.now }
 {
-    match &undo.registry {
+    match &draft.registry {
         Some(registry) => registry.rows(),
         None => world.registry.rows(),
     }

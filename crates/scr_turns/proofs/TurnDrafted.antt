@@ -13,6 +13,7 @@ use Rattle.scr_laws.proofs.Sounding.{legal_sound}
 use Rattle.scr_state.specs.Drafts.{with_draft}
 use Rattle.scr_state.specs.Keeps.{IsDraft, IsKept, with_bundles_by}
 use Rattle.scr_state.specs.declared.state.State.{State}
+use Rattle.scr_tokens.proofs.TokenCounts.{token_counted}
 use Rattle.scr_turns.specs.TurnDrafts.{AreKnown, IsTurnChange, draft_with}
 use Rattle.scr_turns.specs.declared.drafts.TurnChanges.{TurnChanges}
 use Rattle.scr_world.specs.Legal.{IsLegal}
@@ -56,6 +57,7 @@ known_of limit past legal =
       numbers = (and_parts (not (has (map (λ (i : Instance). i.number) w.instances) w.whiteboard.number)) (are_apart (map (λ (i : Instance). i.number) w.instances)) apart.numbers).1;
       turns = apart.turns;
       living = sound.living;
+      counted = token_counted past;
     }
 
 pub known : (s : State) → IsKept s → AreKnown s.world

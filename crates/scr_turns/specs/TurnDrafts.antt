@@ -1,5 +1,5 @@
 -- What the steps of turns change. Our own.
-use Rattle.std.specs.Prelude.{◌≡◌, ℕ, ◌+◌, ◌++◌, ◌∷◌, [], List, None, map, true}
+use Rattle.std.specs.Prelude.{◌≡◌, ◌<◌, ℕ, ◌+◌, ◌++◌, ◌∷◌, [], List, None, map, true}
 use Rattle.std.specs.List.{Contains}
 use Rattle.std.specs.Option.{unwrap_or}
 use Rattle.callback_orders.specs.declared.callback.Callback.{Callback}
@@ -12,21 +12,26 @@ use Rattle.scr_world.specs.Instances.{lives_on, with_effect_of_begin}
 use Rattle.scr_world.specs.Stepping.{before_turn, begins_by, failed_by, failures_by, generations_by, instances_by, makes_by, whiteboard_by}
 use Rattle.scr_world.specs.Tables.{tokens_by, uses_by}
 use Rattle.scr_world.specs.declared.instance.Instance.{Instance}
+use Rattle.scr_world.specs.declared.marks.Token.{Token}
 use Rattle.scr_world.specs.declared.step.Step.{Step}
 use Rattle.scr_world.specs.declared.world.World.{World}
+use Rattle.use_counts.specs.declared.uses.Holder.TheVariants.{Token as ByToken}
+use Rattle.use_counts.specs.Uses.{holder_count}
 
 -- an instance that a turn tells of a callback
 abbrev pub told_in : World → ℕ → Callback → Instance → Instance
 told_in w turn callback i = with_effect_of_begin (before_turn w) callback (record i { turn = turn; callbacks = i.callbacks ++ begun callback ∷ [] })
 
--- each instance has a number of its own, was told last by a turn of its own, and lives on
+-- each instance has a number of its own
 abbrev pub HaveOwnNumbers : List Instance → Type 0
 HaveOwnNumbers is = are_apart (map (λ (i : Instance). i.number) is) ≡ true
 
+-- each instance was told last by a turn of its own too, and lives on; each get by token is counted
 pub record AreKnown (w : World) : Type 0 where
   pub numbers : HaveOwnNumbers w.instances
   pub turns : are_apart (map (λ (i : Instance). i.turn) w.instances) ≡ true
   pub living : (i : Instance) → Contains w.instances i → lives_on i ≡ true
+  pub counted : (t : Token) → Contains w.tokens t → 0 < holder_count ByToken t.bundle t.service w.uses
 
 -- what a step of a turn changes
 pub record IsTurnChange (step : Step) (w : World) (c : TurnChanges) : Type 0 where

@@ -1,11 +1,12 @@
 //! Gets by token (our own; OSGi Core 8, chapter 5, "Getting Services", "Releasing Services").
+ghost use Rattle.scr_turns.specs.TurnDrafts.{AreKnown};
 ghost use Rattle.scr_world.specs.Tables.{tokens_by, uses_by, without_token};
 ghost use Rattle.scr_world.specs.TurnSteps.{is_turn_step};
 ghost use Rattle.scr_world.specs.declared.marks.Token.{Token};
 ghost use Rattle.scr_world.specs.declared.step.Step.TheVariants.{Released};
 ghost use Rattle.std.specs.Option.{option_copied, unwrap_or};
-ghost use Rattle.std.specs.Prelude.{◌≡◌, ◌==◌, IfOk, filter, find, not, true};
-ghost use Rattle.use_counts.specs.Uses.{after_get, after_unget};
+ghost use Rattle.std.specs.Prelude.{◌≡◌, ◌<◌, ◌==◌, IfOk, filter, find, not, true};
+ghost use Rattle.use_counts.specs.Uses.{after_get, after_unget, holder_count};
 ghost use Rattle.use_counts.specs.declared.uses.Holder.TheVariants.{Token as ByToken};
 
 use prop_map::{Copies, List, OutOfMemory};
@@ -19,7 +20,8 @@ pub(crate) fn uses_after(
     world: &World,
     step: &Step,
 ) -> Result<Option<UseCounts>, OutOfMemory>
-    requires { is_turn_step step.now ≡ true }
+    requires turn { is_turn_step step.now ≡ true }
+    requires known { AreKnown world.now }
     ensures { IfOk result (λ r. unwrap_or r world.now.uses ≡ uses_by step.now world.now.tokens world.now.uses) }
 {
     match step {
@@ -50,6 +52,7 @@ fn with_get(
 
 // The use counts once the get of an entry's place is released.
 fn released(alloc: Global, world: &World, place: u64) -> Result<Option<UseCounts>, OutOfMemory>
+    requires { AreKnown world.now }
     ensures { IfOk result (λ r. unwrap_or r world.now.uses ≡ uses_by (Released place) world.now.tokens world.now.uses) }
 {
     match token_at(world.tokens.as_slice(), place) {
@@ -64,14 +67,15 @@ fn token_at(tokens: &[Token], place: u64) -> Option<&Token>
     tokens.iter().find(|token| token.place == place)
 }
 
+// The use counts without the get of a token, which is counted.
 fn without_token(alloc: Global, uses: &UseCounts, token: &Token) -> Result<UseCounts, OutOfMemory>
+    requires { 0 < holder_count ByToken token.now.bundle token.now.service uses.now }
     ensures { IfOk result (λ after. after ≡ without_token uses.now token.now) }
 {
     let mut after = uses.copy(alloc)?;
     match after.unget(token.bundle, token.service, Holder::Token) {
         Ok(_) => Ok(after),
-        // Each get by token is counted, so this doesn't come up.
-        Err(_) => Err(AllocError),
+        Err(_) => unreachable!(),
     }
 }
 

@@ -1,3 +1,4 @@
+pub mod Asking
 pub mod Satisfying
 pub mod SeenSame
 pub mod UnseenEntries

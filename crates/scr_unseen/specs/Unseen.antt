@@ -1,11 +1,13 @@
 -- Services that no component tells apart. OSGi Compendium 8, chapter 112, "Target Services", "Satisfied"; the word is our own.
 use Rattle.std.specs.Prelude.{◌≡◌, ℕ, ◌+◌, ◌&&◌, ◌||◌, List, [], Bool, false, not, Option, Some, None}
-use Rattle.std.specs.List.{list_all}
+use Rattle.std.specs.List.{list_all, list_any}
 use Rattle.std.specs.Option.{option_map_or}
+use Rattle.component_dto.specs.declared.description.Reference.{Reference}
 use Rattle.component_state.specs.declared.component.Component.{Component}
 use Rattle.component_state.specs.Components.{needs_of}
 use Rattle.journal_core.specs.declared.entry.Entry.{Entry}
 use Rattle.reference_match.specs.declared.need.Need.{Need}
+use Rattle.reference_match.specs.Needs.{condition_interface}
 use Rattle.reference_match.specs.Targets.{meets}
 use Rattle.scr_world.specs.Tables.{registry_by}
 use Rattle.scr_world.specs.declared.command.Command.TheVariants.{Register, Unregister, SetProperties}
@@ -13,7 +15,13 @@ use Rattle.scr_world.specs.declared.step.Step.{Step}
 use Rattle.scr_world.specs.declared.step.Step.TheVariants.{Command as Commanded}
 use Rattle.scr_world.specs.declared.world.World.{World}
 use Rattle.service_registry.specs.Registries.{has_number}
+use Rattle.service_registry.specs.Services.{has_interface}
 use Rattle.service_registry.specs.declared.row.ServiceRow.{ServiceRow}
+
+-- a component configuration asks for an interface of a service, by its references or by the satisfying condition
+abbrev pub asks_for : Component → ServiceRow → Bool
+asks_for c r =
+    list_any (λ (x : Reference). has_interface x.interface_name r) c.description.references || (c.description.implicit && has_interface condition_interface r)
 
 -- a service meets no need of these component configurations
 abbrev pub meets_none : List Component → ServiceRow → Bool

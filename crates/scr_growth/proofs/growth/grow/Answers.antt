@@ -1,9 +1,9 @@
 use Rattle.std.proofs.Common.{◌≡◌, ◌∙◌, ap, subst, sym}
 use Rattle.journal_core.specs.Rooms.{JournalRows}
 use Rattle.scr_growth.proofs.Growing.{amid, grown, kept, shut_then}
+use Rattle.scr_growth.specs.Growths.{IsTold}
 use Rattle.scr_state.specs.declared.draft.Draft.{Draft}
 use Rattle.scr_state.specs.declared.state.State.{State}
-use Rattle.scr_world.specs.Stepping.{failing}
 use Rattle.scr_world.specs.declared.step.Step.{Step}
 use Rattle.scr_world.specs.declared.world.World.{World}
 use Rattle.std.specs.Prelude.{Option}
@@ -12,7 +12,7 @@ use Rattle.bundle_life.specs.Numbers.{SavedBundles}
 use Rattle.scr_bundles.proofs.Coming.{step_may_change}
 use Rattle.scr_bundles.specs.Changes.{IsSavedOf, MayChange}
 use Rattle.scr_state.specs.Drafts.{with_draft}
-use Rattle.scr_state.specs.Keeps.{Keeps}
+use Rattle.scr_state.specs.Keeps.{IsDraft, Keeps}
 use Rattle.scr_world.specs.Legal.{MayCome}
 use Rattle.scr_world.specs.Steps.{history_of}
 use Rattle.scr_world.specs.Tables.{bundles_by}
@@ -22,7 +22,7 @@ pub finish-requires : goal.finish-requires
 finish-requires c =
     amid c.args.journal.now c.args.state.now c.requires.keeps c.args.step.value c.change_bundles.new.bundles (c.in_ok-saved.ensures.ok ∙ ap (λ (x : Step). bundles_by x c.args.state.now.world.bundles) c.deref-2.ensures) c.requires.may c.requires.room c.args.draft c.requires.draft
     c.swap_in.new.world c.swap_in.ensures.world c.swap_in.new.draft c.swap_in.ensures.back c.swap_in.ensures.descriptions c.swap_in.ensures.levels
-    c.in_ok-failing.failing c.in_ok-draining.draining (c.in_ok-failing.ensures ∙ ap (λ (x : Step). failing x c.args.state.now.world) c.deref.ensures) c.in_ok-draining.ensures
+    c.in_ok-told.told (subst (λ (x : Step). IsTold x c.args.state.now.world c.in_ok-told.told) c.deref.ensures c.in_ok-told.ensures)
 
 pub returns-in-Ok-clause-keeps : goal.returns-in-Ok-clause-keeps
 returns-in-Ok-clause-keeps c =
@@ -93,3 +93,6 @@ returns-clause-keeps c =
     (saved_then c.args.state.now.world.bundles c.change_bundles.new.bundles c.swap_in-in-Err.new.world.bundles c.in_ok-saved.saved (ap (λ (w : World). w.bundles) world) c.in_ok-saved.ensures.saved)) in
     subst (λ (j : JournalRows Step). Keeps j (record c.finish.new.state { world = record c.swap_in-in-Err.new.world { bundles = c.put_back.new.bundles } })) (sym c.in-Err.ensures.journal)
     (subst (λ (x : State). Keeps c.args.journal.now x) (sym state) c.requires.keeps)
+
+pub told_before-requires : goal.told_before-requires
+told_before-requires c = subst (λ (x : Step). IsDraft c.args.state.now x c.args.draft) (sym c.deref.ensures) c.requires.draft

@@ -2,7 +2,7 @@ use Rattle.std.proofs.Common.{◌∙◌, ap, subst, sym, ℕ, List}
 use Rattle.component_state.specs.Inside.Ready.{IsReady}
 use Rattle.scr_world.specs.Consequences.{stage_in}
 use Rattle.scr_world.specs.Levels.{levels_of}
-use Rattle.scr_growth.proofs.growth.pass_of.Goals as goal
+use Rattle.scr_growth.proofs.passing.pass_of.Goals as goal
 
 pub pass_in-requires : goal.pass_in-requires
 pass_in-requires c = record {

@@ -5,18 +5,18 @@ use Rattle.scr_world.specs.Consequences.{stopped_by, stopped_in}
 use Rattle.scr_world.specs.Lists.{world_after_entry}
 use Rattle.scr_world.specs.Room.{reserved}
 use Rattle.scr_world.specs.declared.world.World.{World}
-use Rattle.scr_growth.proofs.growth.finish.Goals as goal
+use Rattle.scr_growth.proofs.passing.finish_with_pass.Goals as goal
 
 pub pass_of-requires : goal.pass_of-requires
 pass_of-requires c = record {
   cached = c.requires.cached;
-  ready = ready_then c.args.journal.now c.args.step.value c.args.state.now c.args.undo.now c.args.failing.now c.args.draining.now c.requires;
+  ready = ready_then c.args.journal.now c.args.step.value c.args.state.now c.args.undo.now c.args.told.now c.requires;
 }
 
 pub settle_with-requires : goal.settle_with-requires
 settle_with-requires c = record {
   pass = c.in_ok-passed.passed;
-  passed = passed_then c.args.journal.now c.args.step.value c.args.state.now c.args.undo.now c.args.failing.now c.args.draining.now c.requires c.in_ok-passed.passed c.in_ok-passed.ensures;
+  passed = passed_then c.args.journal.now c.args.step.value c.args.state.now c.args.undo.now c.args.told.now c.requires c.in_ok-passed.passed c.in_ok-passed.ensures;
   grows = c.requires.grows;
   world = ap (λ (w : World). record w { open_periods = c.in_ok-passed.passed.open_now }) c.requires.world;
   closed = refl;
@@ -24,7 +24,7 @@ settle_with-requires c = record {
   stopped = c.in_ok-stopped.ensures ∙ ap stopped_in c.requires.world ∙ stopped_is_in c.args.step.value (world_at c.args.journal.now.entries);
   cached = record { descriptions = c.requires.cached.descriptions; levels = c.requires.cached.levels };
   before = record { registry = c.requires.before.registry; periods = c.requires.before.periods; held = c.requires.before.held };
-  draining = c.requires.draining;
+  draining = c.requires.told.draining;
 }
 
 pub returns-clause-finished : goal.returns-clause-finished
@@ -33,9 +33,9 @@ returns-clause-finished c =
     let done = c.in_ok-shut.ensures.settled in
     let stops : c.in_ok-stopped.stopped ≡ stopped_by c.args.step.value (world_at c.args.journal.now.entries) = c.in_ok-stopped.ensures ∙ ap stopped_in c.requires.world ∙ stopped_is_in c.args.step.value (world_at c.args.journal.now.entries) in record {
       pass = c.in_ok-passed.passed;
-      passed = passed_then c.args.journal.now c.args.step.value c.args.state.now c.args.undo.now c.args.failing.now c.args.draining.now c.requires c.in_ok-passed.passed c.in_ok-passed.ensures;
+      passed = passed_then c.args.journal.now c.args.step.value c.args.state.now c.args.undo.now c.args.told.now c.requires c.in_ok-passed.passed c.in_ok-passed.ensures;
       journal = done.journal ∙ ap (λ (ns : List ℕ). record c.args.journal.now { entries = c.args.journal.now.entries ++ record { step = c.args.step.value; closed = c.in_ok-passed.passed.closed; opened = c.in_ok-passed.passed.opened; stopped = ns } ∷ []; reserved = reserved c.settle_with.new.state.world }) stops;
       state = done.state ∙ ap (λ (ns : List ℕ). record c.args.state.now { world = world_after_entry (record { step = c.args.step.value; closed = c.in_ok-passed.passed.closed; opened = c.in_ok-passed.passed.opened; stopped = ns }) was }) stops;
       shut = done.shut;
-      satisfied = refl;
+      satisfied = λ number. refl;
     }

@@ -1,0 +1,65 @@
+//! Commands for services that no component tells apart.
+ghost use Rattle.scr_unseen.specs.Unseen.{is_unmet, is_unseen, service_of};
+ghost use Rattle.scr_world.specs.Tables.{registry_by};
+ghost use Rattle.std.specs.Prelude.{◌≡◌, ◌&&◌, IfOk};
+
+use crate::needs::is_unmet;
+use component_state::Component;
+use prop_map::OutOfMemory;
+use scr_world::{Command, Step, World};
+use service_registry::ServiceRow;
+use std::alloc::{AllocError, Global};
+
+/// Whether a step is a command that registers, unregisters or changes a service that meets no need of a component
+/// configuration, before it or after. The direct services after it are the caller's.
+///
+/// # Errors
+/// Only want of memory. That a number is too high counts as such.
+pub fn is_unseen(
+    alloc: Global,
+    world: &World,
+    step: &Step,
+    after: &[ServiceRow],
+) -> Result<bool, OutOfMemory>
+    requires { after.now ≡ (registry_by step.now world.now.registry).rows }
+    ensures { IfOk result (λ so. so ≡ is_unseen step.now world.now) }
+{
+    match service_of(world, step)? {
+        Some(service) => {
+            let components = world.components.as_slice();
+            is_unmet_twice(alloc, components, service, world.registry.rows(), after)
+        }
+        None => Ok(false),
+    }
+}
+
+// The number of the service that a command registers, unregisters or changes.
+fn service_of(world: &World, step: &Step) -> Result<Option<u64>, OutOfMemory>
+    ensures { IfOk result (λ service. service ≡ service_of step.now world.now) }
+{
+    match step {
+        Step::Command(Command::Register { .. }) => {
+            let number = world.registry.numbered().checked_add(1).ok_or(AllocError)?;
+            Ok(Some(number))
+        }
+        Step::Command(Command::Unregister { service, .. }) => Ok(Some(*service)),
+        Step::Command(Command::SetProperties { service, .. }) => Ok(Some(*service)),
+        _ => Ok(None),
+    }
+}
+
+// The service of this number meets no need among the one or the other.
+fn is_unmet_twice(
+    alloc: Global,
+    components: &[Component],
+    service: u64,
+    before: &[ServiceRow],
+    after: &[ServiceRow],
+) -> Result<bool, OutOfMemory>
+    ensures { IfOk result (λ so. so ≡ (is_unmet components.now service before.now && is_unmet components.now service after.now)) }
+{
+    if !is_unmet(alloc, components, service, before)? {
+        return Ok(false);
+    }
+    is_unmet(alloc, components, service, after)
+}
