@@ -41,6 +41,19 @@ fn held_services_and_turns_are_told(rt: HostRuntime) {
     assert!(rt; on_core(rt.alloc(), settled_counts) == Some([1, 5]));
 }
 
+// The state of the consumer, and how many services are bound to its reference.
+fn told(alloc: Global, core: &mut Core) -> Option<(u8, usize)> {
+    settle_both(alloc, core)?;
+    let view = core.component(alloc, 1).ok()??;
+    let reference = view.references.as_slice().first()?;
+    Some((view.state, reference.bound.as_slice().len()))
+}
+
+#[test]
+fn a_component_is_told(rt: HostRuntime) {
+    assert!(rt; on_core(rt.alloc(), told) == Some((8, 1)));
+}
+
 // How many services of P there are, and the number of the best.
 fn found(alloc: Global, core: &mut Core) -> Option<(usize, u64)> {
     run(alloc, core, PROVIDER)?;

@@ -1,4 +1,5 @@
 //! The judge of a command, by its kind.
+ghost use Rattle.scr_commands.specs.Inside.Subjects.{Bundles, Configurations, Services, subject};
 ghost use Rattle.scr_judgements.specs.Judgements.{Judges, JudgesStep};
 ghost use Rattle.scr_state.specs.Keeps.{Keeps};
 ghost use Rattle.scr_world.specs.declared.step.Step.TheVariants.{Command as Commanded};
@@ -50,6 +51,42 @@ fn judge_command(
     ensures judged { Judges journal.now.limit state.now command.now result }
 {
     match command {
+        Command::Install { .. }
+        | Command::Update { .. }
+        | Command::Start { .. }
+        | Command::Stop { .. }
+        | Command::Uninstall { .. }
+        | Command::Enable { .. }
+        | Command::Disable { .. } => judge_for_bundles(alloc, journal, state, step, command),
+        Command::Register { .. }
+        | Command::Unregister { .. }
+        | Command::SetProperties { .. }
+        | Command::Get { .. }
+        | Command::Unget { .. }
+        | Command::Listen { .. }
+        | Command::Unlisten { .. } => judge_for_services(alloc, journal, state, step, command),
+        Command::Configure { .. }
+        | Command::ConfigureFactory { .. }
+        | Command::Unconfigure { .. } => judge_for_configurations(
+            alloc, journal, state, step, command,
+        ),
+    }
+}
+
+// A command about bundles.
+fn judge_for_bundles(
+    alloc: Global,
+    journal: &Journal<Step>,
+    state: &State,
+    step: &Step,
+    command: &Command,
+) -> Result<Judgement, CoreFault>
+    requires keeps { Keeps journal.now state.now }
+    requires command { step.now ≡ Commanded command.now }
+    requires subject { subject command.now ≡ Bundles }
+    ensures judged { Judges journal.now.limit state.now command.now result }
+{
+    match command {
         Command::Install { doc } => judge_install(alloc, journal, state, step, doc),
         Command::Update { bundle, doc } => judge_update(alloc, journal, state, step, *bundle, doc),
         Command::Start { bundle } => judge_start(alloc, journal, state, step, *bundle),
@@ -61,6 +98,24 @@ fn judge_command(
         Command::Disable { bundle, name } => {
             judge_disable(alloc, journal, state, step, *bundle, name)
         }
+        _ => unreachable!(),
+    }
+}
+
+// A command about services.
+fn judge_for_services(
+    alloc: Global,
+    journal: &Journal<Step>,
+    state: &State,
+    step: &Step,
+    command: &Command,
+) -> Result<Judgement, CoreFault>
+    requires keeps { Keeps journal.now state.now }
+    requires command { step.now ≡ Commanded command.now }
+    requires subject { subject command.now ≡ Services }
+    ensures judged { Judges journal.now.limit state.now command.now result }
+{
+    match command {
         Command::Register {
             bundle,
             interfaces,
@@ -84,6 +139,24 @@ fn judge_command(
             judge_listen(alloc, journal, state, step, *bundle, filter)
         }
         Command::Unlisten { listener } => judge_unlisten(alloc, journal, state, step, *listener),
+        _ => unreachable!(),
+    }
+}
+
+// A command about configurations.
+fn judge_for_configurations(
+    alloc: Global,
+    journal: &Journal<Step>,
+    state: &State,
+    step: &Step,
+    command: &Command,
+) -> Result<Judgement, CoreFault>
+    requires keeps { Keeps journal.now state.now }
+    requires command { step.now ≡ Commanded command.now }
+    requires subject { subject command.now ≡ Configurations }
+    ensures judged { Judges journal.now.limit state.now command.now result }
+{
+    match command {
         Command::Configure { pid, properties } => {
             judge_configure(alloc, journal, state, step, pid, properties)
         }
@@ -93,5 +166,6 @@ fn judge_command(
             properties,
         } => judge_configure_factory(alloc, journal, state, step, factory, name, properties),
         Command::Unconfigure { pid } => judge_unconfigure(alloc, journal, state, step, pid),
+        _ => unreachable!(),
     }
 }

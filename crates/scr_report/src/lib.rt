@@ -1,9 +1,13 @@
 //! The report of a component configuration as JSON (OSGi Compendium 8, chapter 112, "ComponentConfigurationDTO").
 #![tactic(auto)]
 
+mod core_reports;
 mod lists;
 mod property_values;
 mod reference_values;
+mod report_fault;
 mod reports;
 
+pub use core_reports::{report, report_text};
+pub use report_fault::ReportFault;
 pub use reports::{report_of, report_text_of};
