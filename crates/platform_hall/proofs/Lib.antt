@@ -5,9 +5,13 @@ pub mod Steps
 pub mod Starts
 pub mod Stops
 pub mod Settlings
+pub mod Spans
+pub mod Bounded
 pub mod Desks
 pub mod Taking
 pub mod Holders
+pub mod Owners
+pub mod Seen
 pub mod Draining
 pub mod Results
 pub mod Commanding

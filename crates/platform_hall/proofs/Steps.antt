@@ -22,7 +22,8 @@ after_entry : (entry : Entry Step) (past : History) → IsAfter (world_of past) 
 unfolding world_of world_after_entry world_after_step
 after_entry entry past = record { entries = refl; instances = refl; whiteboard = refl }
 
-history_append : (entries : List (Entry Step)) (entry : Entry Step) → history_of (entries ++ entry ∷ []) ≡ entry ∷ history_of entries
+-- a history grows at its front
+pub history_append : (entries : List (Entry Step)) (entry : Entry Step) → history_of (entries ++ entry ∷ []) ≡ entry ∷ history_of entries
 history_append entries entry = reverse-append entries (entry ∷ [])
 
 module _ (limit : ℕ) (old new : List (Entry Step)) (step : Step) where

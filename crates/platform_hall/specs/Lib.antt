@@ -1,2 +1,3 @@
 pub mod Platforms
+pub mod SettleBounds
 pub mod Desks

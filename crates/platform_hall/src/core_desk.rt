@@ -1,11 +1,13 @@
 //! The desk of a platform: turns come from its core and go back to it.
+ghost use Rattle.platform_hall.specs.Desks.{Owns};
 ghost use Rattle.platform_hall.specs.Platforms.{Begins, CoreTakes, Ends, Posts, has_drain, has_due, has_object, has_room, running, world};
 ghost use Rattle.scr_world.specs.declared.reply.CoreFault.TheVariants.{OutOfMemory as NoMemory};
 ghost use Rattle.scr_core.specs.Cores.{AreWithinGreatest};
 ghost use Rattle.scr_world.specs.Legal.{IsLegal};
 ghost use Rattle.scr_world.specs.Steps.{history_of};
-ghost use Rattle.std.specs.Prelude.{◌≡◌, ℕ, [], Some, None, false, is_some, IfOk, IfErr, OnErr, OnOk};
-ghost use Rattle.turn_runner.specs.Outcomes.{IsRunOf, has_object_after, is_destroy_of, needs_object};
+ghost use Rattle.std.specs.Arc.{arc_value};
+ghost use Rattle.std.specs.Prelude.{◌≡◌, ◌⊎◌, ℕ, [], Some, None, false, is_some, IfOk, IfErr, OnErr, OnOk};
+ghost use Rattle.turn_runner.specs.Outcomes.{IsMadeFor, IsRunOf, has_object_after, is_destroy_of, needs_object};
 
 use crate::drains::post_drains;
 use crate::held::Held;
@@ -17,7 +19,7 @@ use std::marker::Model;
 use std::sync::Arc;
 use turn_runner::{Desk, DeskFault, Ran, TurnWork};
 
-/// A desk over the core. Contracts see what they see of the core.
+/// A desk over the core. Contracts see what they see of the core, and the objects.
 #[derive(Drop)]
 pub(crate) struct CoreDesk<O> {
     core: Core,
@@ -26,16 +28,15 @@ pub(crate) struct CoreDesk<O> {
 }
 
 impl<O> Model for CoreDesk<O> {
-    ghost use Rattle.platform_hall.specs.Desks.{IsDesk};
-    ghost use Rattle.scr_core.specs.Cores.{CoreView};
+    ghost use Rattle.platform_hall.specs.Desks.{DeskView, IsDesk};
     ghost use Rattle.std.specs.Coded.{codes};
     ghost use Rattle.ldap_filter.specs.TreeCodes.{tree_code};
 
-    ghost Value = { CoreView };
+    ghost Value = { DeskView O };
 
     ghost coded = { Prim.hlevel (codes, tree_code) };
 
-    ghost view = { λ d. d.core };
+    ghost view = { λ d. record { core = d.core; held = d.held.items } };
 
     ghost invariant = { λ d. IsDesk d.core d.turns.items d.held.items };
 }
@@ -43,7 +44,7 @@ impl<O> Model for CoreDesk<O> {
 impl<O: Drop> CoreDesk<O> {
     pub(crate) fn new(alloc: Global, limits: Limits) -> Result<CoreDesk<O>, CoreFault>
         requires within { AreWithinGreatest limits }
-        ensures ok { IfOk result (λ desk. desk ≡ record { limits = limits; journal = [] }) }
+        ensures ok { IfOk result (λ desk. desk ≡ record { core = record { limits = limits; journal = [] }; held = [] }) }
         ensures err { IfErr result (λ fault. fault ≡ NoMemory) }
     {
         Ok(CoreDesk {
@@ -55,8 +56,8 @@ impl<O: Drop> CoreDesk<O> {
 
     // The core, whose journal is legal.
     pub(crate) fn core(&self) -> &Core
-        ensures core { result.now ≡ self.now }
-        ensures legal { IsLegal self.now.limits.journal (history_of self.now.journal) }
+        ensures core { result.now ≡ self.now.core }
+        ensures legal { IsLegal self.now.core.limits.journal (history_of self.now.core.journal) }
     {
         self.core.note_legal();
         &self.core
@@ -64,15 +65,15 @@ impl<O: Drop> CoreDesk<O> {
 
     // Takes a command.
     pub(crate) fn command(&mut self, alloc: Global, command: Command) -> Result<Accepted, CoreFault>
-        ensures { CoreTakes self.old command result self.new }
+        ensures { CoreTakes self.old.core command result self.new.core }
     {
         self.core.command(alloc, command)
     }
 
     // The work of a turn that is under way, for whose instance an object is there where the turn needs one.
     pub(crate) fn work(&self, alloc: Global, turn: u64) -> Result<Option<TurnWork>, OutOfMemory>
-        ensures work { IfOk result (λ work. work ≡ running self.now turn) }
-        ensures fits { (work : _) → running self.now turn ≡ Some work → has_object self.now work.instance ≡ needs_object work }
+        ensures work { IfOk result (λ work. work ≡ running self.now.core turn) }
+        ensures fits { (work : _) → running self.now.core turn ≡ Some work → has_object self.now.core work.instance ≡ needs_object work }
     {
         self.core.note_legal();
         self.core.turn_work(alloc, turn)
@@ -80,21 +81,23 @@ impl<O: Drop> CoreDesk<O> {
 }
 
 impl<O: Drop> Desk<O> for CoreDesk<O> {
-    ghost has_due = { has_due };
+    ghost has_due = { λ desk. has_due desk.core };
 
-    ghost has_room = { has_room };
+    ghost has_room = { λ desk. has_room desk.core };
 
-    ghost has_drain = { has_drain };
+    ghost has_drain = { λ desk. has_drain desk.core };
 
-    ghost running = { running };
+    ghost running = { λ desk. running desk.core };
 
-    ghost has_object = { has_object };
+    ghost has_object = { λ desk. has_object desk.core };
 
-    ghost begins = { Begins };
+    ghost owns = { Owns };
 
-    ghost ends = { Ends };
+    ghost begins = { λ before work after. Begins before.core work after.core };
 
-    ghost posts = { Posts };
+    ghost ends = { λ before turn outcome after. Ends before.core turn outcome after.core };
+
+    ghost posts = { λ before after. Posts before.core after.core };
 
     fn take(&mut self, alloc: Global) -> Result<Option<TurnWork>, DeskFault> {
         self.turns.reserve(1)?;
@@ -127,10 +130,11 @@ impl<O: Drop> Desk<O> for CoreDesk<O> {
         number: u64,
         ran: Ran<O>,
     ) -> Result<(), (Ran<O>, OutOfMemory)>
-        requires { IsRunOf (running self.old number) ran.outcome (is_some ran.made) }
-        ensures ok { OnOk result (Ends self.old number ran.outcome self.new) }
-        ensures ended { OnOk result (running self.new number ≡ None) }
-        ensures objects { OnOk result ((instance : ℕ) → is_destroy_of (running self.old number) instance ≡ false → has_object self.new instance ≡ has_object_after (running self.old number) (is_some ran.made) (has_object self.old) instance) }
+        requires { IsRunOf (running self.old.core number) ran.outcome (is_some ran.made) }
+        ensures ok { OnOk result (Ends self.old.core number ran.outcome self.new.core) }
+        ensures ended { OnOk result (running self.new.core number ≡ None) }
+        ensures objects { OnOk result ((instance : ℕ) → is_destroy_of (running self.old.core number) instance ≡ false → has_object self.new.core instance ≡ has_object_after (running self.old.core number) (is_some ran.made) (has_object self.old.core) instance) }
+        ensures own { OnOk result ((instance : ℕ) (object : O) → Owns self.new instance object → Owns self.old instance object ⊎ IsMadeFor arc_value (running self.old.core number) ran.made instance object) }
         ensures err { OnErr result (self.new ≡ self.old) }
         ensures back { IfErr result (λ e. e.0 ≡ ran) }
     {

@@ -13,5 +13,5 @@ mod platform;
 mod tokens;
 
 pub use finish_fault::FinishFault;
-pub use notes::{note_rest, note_turns_end};
+pub use notes::{note_rest, note_settle_bound, note_turns_end};
 pub use platform::Platform;

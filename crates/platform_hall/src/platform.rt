@@ -5,6 +5,7 @@ ghost use Rattle.scr_core.specs.Cores.{AreWithinGreatest};
 ghost use Rattle.scr_world.specs.Legal.{IsLegal};
 ghost use Rattle.scr_world.specs.Steps.{history_of};
 ghost use Rattle.platform_hall.specs.Platforms.{BeginsTurn, FinishesTurn, Settles, TakesCommand};
+ghost use Rattle.platform_hall.specs.SettleBounds.{SettlesWithin};
 
 use crate::FinishFault;
 use crate::core_desk::CoreDesk;
@@ -33,7 +34,19 @@ impl<K: Kinds> Model for Platform<K> {
 
     ghost coded = { Prim.hlevel (codes, tree_code) };
 
-    ghost view = { λ p. p.desk };
+    ghost view = { λ p. p.desk.core };
+}
+
+// Runs the turns that are due over the desk, and sees of it what contracts see of its core.
+fn settle_desk<K: Kinds>(
+    alloc: Global,
+    desk: &mut CoreDesk<K::Object>,
+    kinds: &K,
+    turns: u64,
+) -> Result<u64, SettleFault>
+    ensures { Settles K.refuses turns desk.old.core result desk.new.core }
+{
+    settle(alloc, desk, kinds, turns)
 }
 
 impl<K: Kinds + Drop> Platform<K> {
@@ -67,17 +80,18 @@ impl<K: Kinds + Drop> Platform<K> {
     }
 
     /// Runs the turns that are due, one after the other, until none is due, and answers how many ran. The drains that are due
-    /// behind a turn are posted before the next one begins.
+    /// behind a turn are posted before the next one begins. Where the platform is calm and no creation or activation ends other than
+    /// Done, no component configuration closes, and at most as many turns run as the settle bound says.
     ///
     /// # Errors
     /// `Unsettled` exactly where as many turns ran as the limit says and one is still due. `JournalFull` exactly where fewer ran, one
     /// is due and the journal has no room for it. `OutOfMemory` comes also where a turn's outcome is NoMemory. The turns that ran
     /// stand.
     pub fn settle(&mut self, alloc: Global) -> Result<u64, SettleFault>
-        ensures { Settles K.refuses self.old.limits.turns self.old result self.new }
+        ensures { SettlesWithin K.refuses self.old result self.new }
     {
         let turns = self.desk.core().limits().turns;
-        settle(alloc, &mut self.desk, &self.kinds, turns)
+        settle_desk(alloc, &mut self.desk, &self.kinds, turns)
     }
 
     /// Begins the first due turn, and answers its number: `None` exactly where none is due.

@@ -1,7 +1,10 @@
 //! What a desk keeps: the tokens of turns, and the objects of instances.
-ghost use Rattle.platform_hall.specs.Desks.{is_holder, tokens_of};
+ghost use Rattle.platform_hall.specs.Desks.{is_holder, object_of, tokens_of};
 ghost use Rattle.scr_world.specs.Room.{one_if};
-ghost use Rattle.std.specs.Prelude.{◌≡◌, ◌==◌, ◌<◌, ◌+◌, ◌&&◌, ◌||◌, ℕ, not, is_some, MatchOption, vec_len, vec_capacity, filter, length, slice_index};
+ghost use Rattle.std.specs.Arc.{arc_value};
+ghost use Rattle.std.specs.List.{find};
+ghost use Rattle.std.specs.Option.{option_copied};
+ghost use Rattle.std.specs.Prelude.{◌≡◌, ◌⊎◌, ◌==◌, ◌<◌, ◌+◌, ◌&&◌, ◌||◌, ℕ, Some, not, is_some, option_map, vec_len, vec_capacity, filter, length, slice_index};
 ghost use Rattle.turn_runner.specs.Outcomes.{is_destroy};
 
 use crate::held::Held;
@@ -34,17 +37,18 @@ pub(crate) fn take_out(turns: &mut Vec<Turn>, number: u64) -> Turn
     turns.swap_remove(place)
 }
 
-// What holds the object of an instance.
+fn first_held<O>(held: &[Held<O>], instance: u64) -> Option<&Held<O>>
+    ensures { option_copied result ≡ find (λ one. one.instance == instance) held.now }
+{
+    held.iter().find(|one| one.instance == instance)
+}
+
+// What holds the object of an instance, the first one.
 pub(crate) fn held_object<O>(held: &[Held<O>], instance: u64) -> Option<&Held<O>>
     ensures some { is_some result ≡ is_holder held.now instance }
-    ensures own { MatchOption result (Unit {0}) (λ one. one.now.instance ≡ instance) }
+    ensures first { option_copied result ≡ find (λ one. one.instance == instance) held.now }
 {
-    for one in held {
-        if one.instance == instance {
-            return Some(one);
-        }
-    }
-    None
+    first_held(held, instance)
 }
 
 // Lets the object of an instance go.
@@ -62,7 +66,8 @@ pub(crate) fn is_destroy(callback: &Callback) -> bool
 
 fn keep_made<O: Drop>(held: &mut Vec<Held<O>>, instance: u64, made: Option<Arc<O>>)
     requires { vec_len held.old < vec_capacity held.old }
-    ensures { (n : ℕ) → is_holder held.new.items n ≡ (is_holder held.old.items n || (is_some made && (instance == n))) }
+    ensures holders { (n : ℕ) → is_holder held.new.items n ≡ (is_holder held.old.items n || (is_some made && (instance == n))) }
+    ensures own { (n : ℕ) (object : O) → object_of held.new.items n ≡ Some object → (object_of held.old.items n ≡ Some object) ⊎ ((instance ≡ n) × (option_map (λ m. arc_value m) made ≡ Some object)) }
 {
     if let Some(object) = made {
         held.push_reserved(Held { instance, object });
@@ -77,7 +82,8 @@ pub(crate) fn keep<O: Drop>(
     is_destroyed: bool,
 )
     requires { vec_len held.old < vec_capacity held.old }
-    ensures { (n : ℕ) → is_holder held.new.items n ≡ ((is_holder held.old.items n || (is_some made && (instance == n))) && not (is_destroyed && (instance == n))) }
+    ensures holders { (n : ℕ) → is_holder held.new.items n ≡ ((is_holder held.old.items n || (is_some made && (instance == n))) && not (is_destroyed && (instance == n))) }
+    ensures own { (n : ℕ) (object : O) → object_of held.new.items n ≡ Some object → (object_of held.old.items n ≡ Some object) ⊎ ((instance ≡ n) × (option_map (λ m. arc_value m) made ≡ Some object)) }
 {
     keep_made(held, instance, made);
     if is_destroyed {

@@ -1,12 +1,17 @@
-use Rattle.std.proofs.Common.{ap, ◌∙◌, ◌&&◌}
+use Rattle.std.proofs.Common.{ap, sym, ◌∙◌, ◌&&◌}
 use Rattle.std.specs.Prelude.{◌==◌, not}
-use Rattle.platform_hall.specs.Desks.{is_holder}
+use Rattle.platform_hall.specs.Desks.{is_holder, object_of}
 use Rattle.platform_hall.proofs.Holders.{holder_less, let_go_where}
+use Rattle.platform_hall.proofs.Owners.{own_less}
 use Rattle.platform_hall.proofs.tokens.keep.Goals as goal
 
-pub returns-then-is_destroyed : goal.returns-then-is_destroyed
-returns-then-is_destroyed g c = λ n.
+pub returns-then-is_destroyed-clause-holders : goal.returns-then-is_destroyed-clause-holders
+returns-then-is_destroyed-clause-holders g c = λ n.
     ap (λ xs. is_holder xs n) c.let_go.ensures
     ∙ holder_less c.keep_made.new.held.items c.args.instance n
-    ∙ ap (λ b. b && not (c.args.instance == n)) (c.keep_made.ensures n)
+    ∙ ap (λ b. b && not (c.args.instance == n)) (c.keep_made.ensures.holders n)
     ∙ let_go_where c.args.is_destroyed (c.args.instance == n) _ c.if-is_destroyed.true
+
+pub returns-then-is_destroyed-clause-own : goal.returns-then-is_destroyed-clause-own
+returns-then-is_destroyed-clause-own g c = λ n object is.
+    c.keep_made.ensures.own n object (own_less c.keep_made.new.held.items c.args.instance n object (ap (λ xs. object_of xs n) (sym c.let_go.ensures) ∙ is))

@@ -3,6 +3,7 @@ use Rattle.scr_core.specs.Cores.{CoreView}
 use Rattle.platform_hall.specs.Platforms.{has_object}
 use Rattle.platform_hall.proofs.Desks.{desk_alike}
 use Rattle.platform_hall.proofs.Settlings.{posts_alike}
+use Rattle.platform_hall.proofs.Seen.{core_same}
 use Rattle.platform_hall.proofs.core_desk.CoreDeskDesk.post.Goals as goal
 
 pub invariant_of-self : goal.invariant_of-self
@@ -11,4 +12,4 @@ invariant_of-self g c =
     (posts_alike c.self.inside.core c.post_drains.new.core c.post_drains.ensures.step) c.self.invariant
 
 pub returns-clause-objects : goal.returns-clause-objects
-returns-clause-objects g c = λ n. (posts_alike c.self.inside.core c.post_drains.new.core c.post_drains.ensures.step).objects n ∙ ap (λ (p : CoreView). has_object p n) c.self.view_is
+returns-clause-objects g c = λ n. (posts_alike c.self.inside.core c.post_drains.new.core c.post_drains.ensures.step).objects n ∙ ap (λ (p : CoreView). has_object p n) (core_same c.self.view_is)

@@ -5,6 +5,7 @@ use Rattle.platform_hall.specs.Platforms.{Begins, has_due, has_object, has_room}
 use Rattle.platform_hall.proofs.Desks.{desk_begun, running_fits}
 use Rattle.platform_hall.proofs.Settlings.{begins_as, begins_legal}
 use Rattle.platform_hall.proofs.Taking.{full_step, idle_step, taken_step}
+use Rattle.platform_hall.proofs.Seen.{core_same, desk_of}
 use Rattle.platform_hall.proofs.core_desk.CoreDeskDesk.take.Goals as goal
 
 pub invariant_of-self-in-Ok-Turn : goal.invariant_of-self-in-Ok-Turn
@@ -31,22 +32,24 @@ pub returns-in-Ok-Turn-clause-objects : goal.returns-in-Ok-Turn-clause-objects
 returns-in-Ok-Turn-clause-objects g c = λ n.
     let took = rw c.in-Ok-Turn.field-0-is at c.in-Ok-Turn.ensures.answer in
     (begins_as c.self.inside.core c.take_turn.new.self c.in-Ok-Turn.work c.note_legal.ensures (c.in-Ok-Turn.ensures.limits, took.1, took.2)).objects n
-    ∙ ap (λ (p : CoreView). has_object p n) c.self.view_is
+    ∙ ap (λ (p : CoreView). has_object p n) (core_same c.self.view_is)
 
 pub returns-in-Ok-Turn-clause-step : goal.returns-in-Ok-Turn-clause-step
 returns-in-Ok-Turn-clause-step g c =
     let took = rw c.in-Ok-Turn.field-0-is at c.in-Ok-Turn.ensures.answer in
-    subst (λ (p : CoreView). (has_due p ≡ true) × (has_room p ≡ true) × Begins p c.in-Ok-Turn.work c.take_turn.new.self) c.self.view_is
+    subst (λ (p : CoreView). (has_due p ≡ true) × (has_room p ≡ true) × Begins p c.in-Ok-Turn.work c.take_turn.new.self) (core_same c.self.view_is)
     (taken_step c.self.inside.core c.take_turn.new.self c.in-Ok-Turn.work (c.in-Ok-Turn.ensures.limits, took.1, took.2))
 
 pub returns-in-Ok-Idle-clause-step : goal.returns-in-Ok-Idle-clause-step
 returns-in-Ok-Idle-clause-step g c =
     let idle = rw c.in-Ok-Idle.field-0-is at c.in-Ok-Idle.ensures.answer in
-    subst (λ (p : CoreView). (has_due p ≡ false) × (c.take_turn.new.self ≡ p)) c.self.view_is
-    (idle_step c.self.inside.core c.take_turn.new.self c.in-Ok-Idle.ensures.limits idle)
+    let step = idle_step c.self.inside.core c.take_turn.new.self c.in-Ok-Idle.ensures.limits idle in
+    subst (λ d. (has_due d.core ≡ false) × (desk_of c.take_turn.new.self c.self.inside.held.items ≡ d)) c.self.view_is
+    (step.0, ap (λ p. desk_of p c.self.inside.held.items) step.1)
 
 pub returns-in-Err-JournalFull-clause-step : goal.returns-in-Err-JournalFull-clause-step
 returns-in-Err-JournalFull-clause-step g c =
     let full = rw c.in-Err-JournalFull.field-0-is at c.in-Err-JournalFull.ensures.answer in
-    subst (λ (p : CoreView). (has_due p ≡ true) × (has_room p ≡ false) × (c.take_turn.new.self ≡ p)) c.self.view_is
-    (full_step c.self.inside.core c.take_turn.new.self c.in-Err-JournalFull.ensures.limits full)
+    let step = full_step c.self.inside.core c.take_turn.new.self c.in-Err-JournalFull.ensures.limits full in
+    subst (λ d. (has_due d.core ≡ true) × (has_room d.core ≡ false) × (desk_of c.take_turn.new.self c.self.inside.held.items ≡ d)) c.self.view_is
+    (step.0, step.1, ap (λ p. desk_of p c.self.inside.held.items) step.2)
