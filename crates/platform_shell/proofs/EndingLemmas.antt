@@ -13,8 +13,8 @@ use Rattle.scr_core.specs.Cores.{CoreView}
 use Rattle.shell_lang.specs.ShellLines.{shell_line, is_quit}
 use Rattle.platform_shell.specs.Asks.{Setting}
 use Rattle.platform_shell.specs.Cuts.{CutsFirst}
-use Rattle.platform_shell.specs.Runs.{Ends, EndsScript, FaultsAt, HasRun, HasRunOver, IsCutOff, are_short, ending, script_lines}
-use Rattle.platform_shell.specs.Statuses.{HasCause, IsEnding, read_faults_after, status_of, write_faults_after}
+use Rattle.platform_shell.specs.Runs.{Ends, EndsScript, HasRun, HasRunOver, IsCutOff, are_short, ending, script_lines}
+use Rattle.platform_shell.specs.Statuses.{HasCause, IsEnding, status_of, write_faults_after}
 
 quits_or : (q : Bool) (status : Status) → status ≡ Done → cond q Done status ≡ Done
 quits_or true status done = refl
@@ -61,17 +61,7 @@ pub run_ends_script : (s : Setting) (left written written' : Option (List ℕ)) 
 run_ends_script s left written written' before after status manual R W (bytes, told, ran) cause reads writes =
     (bytes, told, λ room turns. ends_or_lacks s bytes before after written written' status manual R W ran cause reads writes room turns)
 
--- a line that is cut off is no failure of an end
-pub no_fault_cut : (fault : SettleFault) (s : Setting) (left left' : Option (List ℕ)) (before after : CoreView) (written written' : Option (List ℕ)) → FaultsAt (status_of fault) s left left' before after written written'
-no_fault_cut StillDue s left left' before after written written' = tt
-no_fault_cut NoRoom s left left' before after written written' = tt
-no_fault_cut OutOfMemory s left left' before after written written' = tt
-
-pub no_read_fault_cut : (count : ℕ) (fault : SettleFault) → read_faults_after count (status_of fault) ≡ count
-no_read_fault_cut count StillDue = refl
-no_read_fault_cut count NoRoom = refl
-no_read_fault_cut count OutOfMemory = refl
-
+-- a line that is cut off is no failure of the sink
 pub no_write_fault_cut : (count : ℕ) (fault : SettleFault) → write_faults_after count (status_of fault) ≡ count
 no_write_fault_cut count StillDue = refl
 no_write_fault_cut count NoRoom = refl

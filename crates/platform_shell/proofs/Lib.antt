@@ -8,3 +8,8 @@ pub mod Resting
 pub mod Progress
 pub mod Reached
 pub mod EndingLemmas
+pub mod AnswerLemmas
+pub mod ReadNames
+pub mod LineNames
+pub mod OwnNames
+pub mod NamesKept

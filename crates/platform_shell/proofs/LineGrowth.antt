@@ -16,7 +16,7 @@ use Rattle.turn_runner.specs.declared.settle_fault.SettleFault.TheVariants.{Unse
 use Rattle.platform_hall.specs.declared.finish_fault.FinishFault.{FinishFault}
 use Rattle.platform_hall.specs.declared.finish_fault.FinishFault.TheVariants.{NoTurn as NoSuchTurn, OutOfMemory as NoMemoryLeft}
 use Rattle.platform_hall.specs.Platforms.{BeginsTurn, Finishes, FinishesTurn}
-use Rattle.shell_lang.specs.declared.shell_line.ShellLine.TheVariants.{Silent, Quit, Command as Commanded, Bundles, Services, Components, Held, Find, Events, BundleEvents, Trace, Settle, Begin, Finish}
+use Rattle.shell_lang.specs.declared.shell_line.ShellLine.TheVariants.{Silent, Quit, Command as Commanded, Bundles, Services, Components, Report, Held, Find, Events, BundleEvents, Trace, Settle, Begin, Finish}
 use Rattle.shell_lang.specs.declared.shell_reply.ShellReply.{ShellReply}
 use Rattle.shell_lang.specs.ShellLines.{Asked, shell_line}
 use Rattle.platform_shell.specs.declared.status.Status.{Status}
@@ -56,12 +56,13 @@ grew_asks s (Ok (Commanded command)) before after told (said, is, (answer, takes
 grew_asks s (Ok Bundles) before after told (is, same) = grew_not before after same
 grew_asks s (Ok Services) before after told (is, same) = grew_not before after same
 grew_asks s (Ok Components) before after told (is, same) = grew_not before after same
+grew_asks s (Ok (Report configuration)) before after told (is, same) = grew_not before after same
 grew_asks s (Ok (Held configuration)) before after told (said, is, (answer, held, tells, replied, same)) = grew_not before after same
 grew_asks s (Ok (Find tree)) before after told (is, same) = grew_not before after same
 grew_asks s (Ok (Events listener number)) before after told (is, same) = grew_not before after same
 grew_asks s (Ok (BundleEvents number)) before after told (is, same) = grew_not before after same
 grew_asks s (Ok (Trace number)) before after told (is, same) = grew_not before after same
-grew_asks s (Ok Settle) before after told (said, is, (count, settles, replied)) = grew_settled s.refuses before.limits.turns before after (Ok count) settles
+grew_asks s (Ok Settle) before after told (said, is, (count, settles, replied)) = grew_settled s.refuses before.limits.turns before after (Ok count) settles.0
 grew_asks s (Ok Begin) before after told (said, is, asked) =
     grew_manually s.is_manual AsksBegin before after said (λ asks. grew_begun before after asks.0 asks.1) asked
 grew_asks s (Ok (Finish turn)) before after told (said, is, asked) =
@@ -70,7 +71,7 @@ grew_asks s (Err fault) before after told (is, same) = grew_not before after sam
 
 grew_rests_by : (manual : Bool) (s : Setting) (between after : CoreView) → RestsBy manual s between after → Grew between after []
 grew_rests_by true s between after same = grew_not between after same
-grew_rests_by false s between after (count, settles) = grew_settled s.refuses between.limits.turns between after (Ok count) settles
+grew_rests_by false s between after (count, settles) = grew_settled s.refuses between.limits.turns between after (Ok count) settles.0
 
 -- the rest behind it
 pub grew_rests : (s : Setting) (between after : CoreView) → Rests s between after → Grew between after []
@@ -104,12 +105,13 @@ grew_cut_asked s (Ok (Commanded command)) fault before after commands cut = grew
 grew_cut_asked s (Ok Bundles) fault before after commands (is, (same, none)) = grew_none before after commands none (grew_not before after same)
 grew_cut_asked s (Ok Services) fault before after commands (is, (same, none)) = grew_none before after commands none (grew_not before after same)
 grew_cut_asked s (Ok Components) fault before after commands (is, (same, none)) = grew_none before after commands none (grew_not before after same)
+grew_cut_asked s (Ok (Report configuration)) fault before after commands (is, (same, none)) = grew_none before after commands none (grew_not before after same)
 grew_cut_asked s (Ok (Held configuration)) fault before after commands (is, (same, none)) = grew_none before after commands none (grew_not before after same)
 grew_cut_asked s (Ok (Find tree)) fault before after commands (is, (same, none)) = grew_none before after commands none (grew_not before after same)
 grew_cut_asked s (Ok (Events listener number)) fault before after commands (is, (same, none)) = grew_none before after commands none (grew_not before after same)
 grew_cut_asked s (Ok (BundleEvents number)) fault before after commands (is, (same, none)) = grew_none before after commands none (grew_not before after same)
 grew_cut_asked s (Ok (Trace number)) fault before after commands (is, (same, none)) = grew_none before after commands none (grew_not before after same)
-grew_cut_asked s (Ok Settle) fault before after commands (cut, none) = grew_none before after commands none (grew_settled s.refuses before.limits.turns before after (Err fault) cut)
+grew_cut_asked s (Ok Settle) fault before after commands (cut, none) = grew_none before after commands none (grew_settled s.refuses before.limits.turns before after (Err fault) cut.0)
 grew_cut_asked s (Ok Begin) fault before after commands (manual, cut, none) = grew_none before after commands none (grew_cut_begin fault before after cut)
 grew_cut_asked s (Ok (Finish turn)) fault before after commands (manual, cut, none) = grew_none before after commands none (grew_cut_finish s.refuses turn fault before after cut)
 grew_cut_asked s (Err why) fault before after commands (is, (same, none)) = grew_none before after commands none (grew_not before after same)
@@ -119,7 +121,7 @@ pub grew_cuts : (s : Setting) (asked : Asked) (fault : SettleFault) (before afte
 grew_cuts s asked fault before after commands (inl cut) = grew_cut_asked s asked fault before after commands cut
 grew_cuts s asked fault before after commands (inr (manual, (between, told, asks, cut), is)) =
     grew_same before after (commands_of before asked ++ []) commands (append-nil (commands_of before asked) ∙ sym is)
-    (grew_trans before between after (commands_of before asked) [] (grew_asks s asked before between told asks) (grew_settled s.refuses between.limits.turns between after (Err fault) cut))
+    (grew_trans before between after (commands_of before asked) [] (grew_asks s asked before between told asks) (grew_settled s.refuses between.limits.turns between after (Err fault) cut.0))
 
 -- a line that is carried out, and the rest behind it
 pub grew_carried : (s : Setting) (asked : Asked) (before between after : CoreView) (told : Option ShellReply) → Asks s asked before told between → Rests s between after → Grew before after (commands_of before asked)

@@ -11,7 +11,7 @@ use Rattle.platform_shell.specs.declared.line_input.LineStep.TheVariants.{Line a
 use Rattle.platform_shell.specs.Asks.{Setting}
 use Rattle.platform_shell.specs.Carries.{RunsAsked}
 use Rattle.platform_shell.specs.Lines.{lines_of}
-use Rattle.platform_shell.specs.Reading.{LineRead, NextLine, coming}
+use Rattle.platform_shell.specs.Reading.{LineRead, NextLine, not_yet_read}
 use Rattle.platform_shell.specs.Runs.{Faulted, as_list, script_lines, texts}
 use Rattle.platform_shell.proofs.Progress.{Progress, progress_line, progress_start, script_line}
 
@@ -23,7 +23,7 @@ pub record ReadSoFar (left now : Option (List ℕ)) (pending : List ℕ) (lines 
 
 -- so far: the run has come here, and until the end of the input is seen this is what was read
 pub record Reached (s : Setting) (left now : Option (List ℕ)) (ended : Bool) (pending : List ℕ) (before after : CoreView) (written written' : Option (List ℕ)) (number : ℕ) : Type 0 where
-  pub progress : Progress s left (coming ended now) pending before after written written' number
+  pub progress : Progress s left (not_yet_read ended now) pending before after written written' number
   pub read : ended ≡ false → ReadSoFar left now pending progress.lines
 
 -- nothing was read yet
@@ -49,12 +49,12 @@ line_more left now now' pending pending' lines line so_far (piece, size, got, sh
 -- a line ran, and its reply is written
 pub reached_line : {s : Setting} {left now : Option (List ℕ)} {ended : Bool} {pending : List ℕ} {first at : CoreView} {written written' : Option (List ℕ)} {number : ℕ} → Reached s left now ended pending first at written written' number
     → (now' : Option (List ℕ)) (ended' : Bool) (pending' : List ℕ) (after : CoreView) (written'' : Option (List ℕ)) (line : List ℕ) (told : Option ShellReply)
-    → NextLine (coming ended now) (coming ended' now') pending pending' (OfLine line) → (ended' ≡ false → (ended ≡ false) × LineRead now now' pending pending' (OfLine line))
+    → NextLine (not_yet_read ended now) (not_yet_read ended' now') pending pending' (OfLine line) → (ended' ≡ false → (ended ≡ false) × LineRead now now' pending pending' (OfLine line))
     → is_quit (shell_line line) ≡ false → RunsAsked s (shell_line line) at (Ok told) after → Appends written' written'' (texts (as_list told))
     → Reached s left now' ended' pending' first after written written'' (next_count number)
 unfolding progress_line
 reached_line {s} {left} {now} {ended} {pending} {first} {at} {written} {written'} {number} so_far now' ended' pending' after written'' line told next taken other runs wrote = record {
-  progress = progress_line so_far.progress (coming ended' now') pending' after written'' line told next other runs wrote;
+  progress = progress_line so_far.progress (not_yet_read ended' now') pending' after written'' line told next other runs wrote;
   read = λ unended. let here = taken unended in line_more left now now' pending pending' so_far.progress.lines line (so_far.read here.0) here.1 other;
 }
 

@@ -1,31 +1,36 @@
 -- What a line asks, carried out: the platform before and after, and what is told. Our own form.
 use Rattle.std.specs.Prelude.{◌≡◌, ℕ, List, [], ◌∷◌, Bool, true, false, Option, Some, None, Result, Ok, Err, IfErr, if◌then◌else◌}
+use Rattle.std.specs.Fmt.{decimal}
+use Rattle.std.specs.Option.{option_map_or}
 use Rattle.callback_orders.specs.declared.callback.Outcome.{Outcome}
 use Rattle.callback_orders.specs.declared.callback.Outcome.TheVariants.{Done as IsDone, Refused as IsRefused, NoMemory}
 use Rattle.kind_trait.specs.Meanings.{Told}
 use Rattle.prop_map.specs.declared.properties.Property.{Property}
 use Rattle.scr_world.specs.declared.command.Command.{Command}
 use Rattle.scr_world.specs.declared.reply.CoreFault.{CoreFault}
-use Rattle.scr_world.specs.declared.reply.CoreFault.TheVariants.{NoListener, JournalFull, OutOfMemory}
+use Rattle.scr_world.specs.declared.reply.CoreFault.TheVariants.{NoComponent, NoListener, JournalFull, OutOfMemory}
 use Rattle.scr_world.specs.declared.reply.Reply.{Reply}
 use Rattle.scr_world.specs.declared.reply.Reply.TheVariants.{Done as InCore, Bundle as OfBundle, Service as OfService, Uses as OfUses, Listener as OfListener}
 use Rattle.scr_world.specs.declared.lines.HeldLine.{HeldLine}
 use Rattle.scr_world.specs.declared.lines.TurnLine.{TurnLine}
 use Rattle.scr_core.specs.Cores.{CoreView}
 use Rattle.scr_readers.specs.Events.{events_told, has_listener}
+use Rattle.scr_report.specs.Reports.{report_in}
 use Rattle.scr_world.specs.declared.world.World.{World}
 use Rattle.scr_world.specs.Readers.{TellsHeld, bundle_events_after, bundle_lines, component_lines, found, service_lines}
 use Rattle.scr_world.specs.Replies.{changes}
 use Rattle.scr_world.specs.Steps.{history_of}
 use Rattle.scr_world.specs.TurnLines.{turns_above}
+use Rattle.serde_json.specs.Written.{compact_text}
 use Rattle.turn_runner.specs.declared.turn_work.TurnWork.{TurnWork}
 use Rattle.platform_hall.specs.declared.finish_fault.FinishFault.{FinishFault}
 use Rattle.platform_hall.specs.declared.finish_fault.FinishFault.TheVariants.{NoTurn as NoSuchTurn, OutOfMemory as NoMemoryLeft}
-use Rattle.platform_hall.specs.Platforms.{BeginsTurn, FinishesTurn, Settles, TakesCommand, running, world}
-use Rattle.shell_lang.specs.declared.shell_line.ShellLine.TheVariants.{Silent, Quit, Command as Commanded, Bundles as AskBundles, Services as AskServices, Components as AskComponents, Held as AskHeld, Find as AskFind, Events as AskEvents, BundleEvents as AskBundleEvents, Trace as AskTrace, Settle, Begin, Finish}
+use Rattle.platform_hall.specs.Platforms.{BeginsTurn, FinishesTurn, TakesCommand, running, world}
+use Rattle.platform_hall.specs.SettleBounds.{SettlesWithin}
+use Rattle.shell_lang.specs.declared.shell_line.ShellLine.TheVariants.{Silent, Quit, Command as Commanded, Bundles as AskBundles, Services as AskServices, Components as AskComponents, Report as AskReport, Held as AskHeld, Find as AskFind, Events as AskEvents, BundleEvents as AskBundleEvents, Trace as AskTrace, Settle, Begin, Finish}
 use Rattle.shell_lang.specs.declared.shell_reply.Refusal.TheVariants.{Line as InLine, Core as OfCore, NotManual, NoTurn}
 use Rattle.shell_lang.specs.declared.shell_reply.ShellReply.{ShellReply}
-use Rattle.shell_lang.specs.declared.shell_reply.ShellReply.TheVariants.{Done, Bundle, Service, Uses, Listener, Bundles, Services, Components, Held, Found, Events, BundleEvents, Trace, Turns, Begun, Idle, Finished, Refused}
+use Rattle.shell_lang.specs.declared.shell_reply.ShellReply.TheVariants.{Done, Bundle, Service, Uses, Listener, Bundles, Services, Components, Report, Held, Found, Events, BundleEvents, Trace, Turns, Begun, Idle, Finished, Refused}
 use Rattle.shell_lang.specs.ShellLines.{Asked}
 
 -- how a run goes: whether turns run where a line asks for it alone, and which callbacks the component code refuses
@@ -72,13 +77,17 @@ abbrev pub AsksHeld : ℕ → CoreView → ShellReply → CoreView → Type 0
 AsksHeld configuration before reply after =
     (answer : Result (List HeldLine) CoreFault) × TellsHeld (world before) configuration answer × IsAnswer answer × (reply ≡ held_reply answer) × (after ≡ before)
 
+-- the report of the component configuration of a number, where there is one
+abbrev pub report_reply : World → ℕ → ShellReply
+report_reply w configuration = option_map_or (λ d. Report (compact_text d)) (report_in w configuration) (Refused (OfCore (NoComponent (decimal configuration))))
+
 -- what a listener was told behind the first so many events, where there is one
 abbrev pub events_reply : World → ℕ → ℕ → ShellReply
 events_reply w listener before = if has_listener w listener then Events before (events_told w listener before) else Refused (OfCore (NoListener listener))
 
 -- the turns that are due run, and their number is told
 abbrev pub AsksSettle : (List ℕ → List Property → Told → Bool) → CoreView → ShellReply → CoreView → Type 0
-AsksSettle refuses before reply after = (count : ℕ) × Settles refuses before.limits.turns before (Ok count) after × (reply ≡ Turns count)
+AsksSettle refuses before reply after = (count : ℕ) × SettlesWithin refuses before (Ok count) after × (reply ≡ Turns count)
 
 -- the line of a turn that begins with this work
 abbrev pub line_for : TurnWork → TurnLine
@@ -130,6 +139,7 @@ Asks s (Ok (Commanded command)) before told after = Does (AsksCommand command) b
 Asks s (Ok AskBundles) before told after = Says (Bundles (bundle_lines (world before))) before told after
 Asks s (Ok AskServices) before told after = Says (Services (service_lines (world before))) before told after
 Asks s (Ok AskComponents) before told after = Says (Components (component_lines (world before))) before told after
+Asks s (Ok (AskReport configuration)) before told after = Says (report_reply (world before) configuration) before told after
 Asks s (Ok (AskHeld configuration)) before told after = Does (AsksHeld configuration) before told after
 Asks s (Ok (AskFind tree)) before told after = Says (Found (found (world before) tree)) before told after
 Asks s (Ok (AskEvents listener number)) before told after = Says (events_reply (world before) listener number) before told after

@@ -10,7 +10,8 @@ use Rattle.scr_core.specs.Cores.{CoreView}
 use Rattle.turn_runner.specs.declared.settle_fault.SettleFault.{SettleFault}
 use Rattle.turn_runner.specs.declared.settle_fault.SettleFault.TheVariants.{Unsettled, JournalFull, OutOfMemory}
 use Rattle.platform_hall.specs.declared.finish_fault.FinishFault.TheVariants.{OutOfMemory as NoMemoryLeft}
-use Rattle.platform_hall.specs.Platforms.{Accepts, BeginsTurn, FinishesTurn, Settles, TakesCommand}
+use Rattle.platform_hall.specs.Platforms.{Accepts, BeginsTurn, FinishesTurn, TakesCommand}
+use Rattle.platform_hall.specs.SettleBounds.{SettlesWithin}
 use Rattle.shell_lang.specs.declared.shell_line.ShellLine.TheVariants.{Command as Commanded, Settle, Begin, Finish}
 use Rattle.shell_lang.specs.declared.shell_reply.ShellReply.{ShellReply}
 use Rattle.shell_lang.specs.ShellLines.{Asked, shell_line}
@@ -26,9 +27,9 @@ CutsCommand command Unsettled before after commands = ⊥
 CutsCommand command JournalFull before after commands = TakesCommand before command (Err InCore) after × (commands ≡ [])
 CutsCommand command OutOfMemory before after commands = Stays before after commands ⊎ ((reply : Reply) × Accepts before command reply after × (commands ≡ changed before command))
 
--- the turns of a settling are cut off
+-- the turns of a settling are cut off; on a calm platform where no creation or activation fails, a limit of turns below its bound alone leaves turns due
 abbrev pub CutsSettle : (List ℕ → List Property → Told → Bool) → SettleFault → CoreView → CoreView → Type 0
-CutsSettle refuses fault before after = Settles refuses before.limits.turns before (Err fault) after
+CutsSettle refuses fault before after = SettlesWithin refuses before (Err fault) after
 
 -- the turn that begins finds no room; want of memory leaves all as it was, or with its beginning
 abbrev pub CutsBegin : SettleFault → CoreView → CoreView → Type 0

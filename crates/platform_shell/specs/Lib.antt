@@ -6,3 +6,4 @@ pub mod Cuts
 pub mod Rests
 pub mod Carries
 pub mod Runs
+pub mod Answers

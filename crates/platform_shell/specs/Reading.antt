@@ -15,8 +15,8 @@ Tells None bytes = Unit {0}
 Tells (Some left) bytes = left ≡ bytes
 
 -- what is told to come: nothing once the end was seen
-abbrev pub coming : Bool → Option (List ℕ) → Option (List ℕ)
-coming ended left = if ended then Some [] else left
+abbrev pub not_yet_read : Bool → Option (List ℕ) → Option (List ℕ)
+not_yet_read ended left = if ended then Some [] else left
 
 -- pending bytes and those behind them are the same bytes as before
 abbrev pub SameBytes : Option (List ℕ) → Option (List ℕ) → List ℕ → List ℕ → Type 0

@@ -2,13 +2,14 @@
 use Rattle.std.specs.Prelude.{◌≡◌, ℕ, Bool, true, false, Ok}
 use Rattle.scr_core.specs.Cores.{CoreView}
 use Rattle.scr_world.specs.Quiet.{IsQuiet, IsRight}
-use Rattle.platform_hall.specs.Platforms.{Settles, none_under_way, world}
+use Rattle.platform_hall.specs.Platforms.{none_under_way, world}
+use Rattle.platform_hall.specs.SettleBounds.{SettlesWithin}
 use Rattle.platform_shell.specs.Asks.{Setting}
 
--- behind a line the turns that are due run until none is, but in `script --manual`
+-- behind a line the turns that are due run until none is, within the bound of a calm platform, but in `script --manual`
 abbrev pub RestsBy : Bool → Setting → CoreView → CoreView → Type 0
 RestsBy true s between after = after ≡ between
-RestsBy false s between after = (count : ℕ) × Settles s.refuses between.limits.turns between (Ok count) after
+RestsBy false s between after = (count : ℕ) × SettlesWithin s.refuses between (Ok count) after
 
 abbrev pub Rests : Setting → CoreView → CoreView → Type 0
 Rests s between after = RestsBy s.is_manual s between after

@@ -2,8 +2,12 @@
 ghost use Rattle.std.specs.Prelude.{◌≡◌};
 ghost use Rattle.platform_shell.specs.Asks.{line_for};
 ghost use Rattle.platform_shell.specs.Carries.{CarriesBegin, CarriesCommand, CarriesFinish, CarriesOut, TellsRefusal};
+ghost use Rattle.shell_lang.specs.declared.shell_line.ShellLine.TheVariants.{Settle};
+ghost use Rattle.std.specs.Prelude.{Ok};
 
-use crate::readings::{bundle_events, bundles, components, events, found, held, services, trace};
+use crate::readings::{
+    bundle_events, bundles, components, events, found, held, reported, services, trace,
+};
 use callback_orders::Outcome;
 use kind_trait::Kinds;
 use platform_hall::{FinishFault, Platform};
@@ -28,6 +32,9 @@ pub(crate) fn carry_out<K: Kinds + Drop>(
         Ok(ShellLine::Bundles) => Ok(Some(bundles(alloc, platform)?)),
         Ok(ShellLine::Services) => Ok(Some(services(alloc, platform)?)),
         Ok(ShellLine::Components) => Ok(Some(components(alloc, platform)?)),
+        Ok(ShellLine::Report { configuration }) => {
+            Ok(Some(reported(alloc, platform, configuration)?))
+        }
         Ok(ShellLine::Held { configuration }) => Ok(Some(held(alloc, platform, configuration)?)),
         Ok(ShellLine::Find { filter }) => Ok(Some(found(alloc, platform, &filter)?)),
         Ok(ShellLine::Events { listener, after }) => {
@@ -35,7 +42,7 @@ pub(crate) fn carry_out<K: Kinds + Drop>(
         }
         Ok(ShellLine::BundleEvents { after }) => Ok(Some(bundle_events(alloc, platform, after)?)),
         Ok(ShellLine::Trace { after }) => Ok(Some(trace(alloc, platform, after)?)),
-        Ok(ShellLine::Settle) => Ok(Some(ShellReply::Turns(platform.settle(alloc)?))),
+        Ok(ShellLine::Settle) => settled(alloc, manual, platform),
         Ok(ShellLine::Begin) => Ok(Some(begin(alloc, manual, platform)?)),
         Ok(ShellLine::Finish { turn }) => Ok(Some(finish(alloc, manual, platform, turn)?)),
     }
@@ -66,6 +73,20 @@ pub(crate) fn refused(fault: CoreFault) -> Result<ShellReply, SettleFault>
         CoreFault::JournalFull => Err(SettleFault::JournalFull),
         CoreFault::OutOfMemory => Err(SettleFault::OutOfMemory),
         fault => Ok(ShellReply::Refused(Refusal::Core { fault })),
+    }
+}
+
+// The turns that are due run until none is.
+fn settled<K: Kinds + Drop>(
+    alloc: Global,
+    manual: bool,
+    platform: &mut Platform<K>,
+) -> Result<Option<ShellReply>, SettleFault>
+    ensures { CarriesOut (record { is_manual = manual; refuses = K.refuses }) (Ok Settle) platform.old result platform.new }
+{
+    match platform.settle(alloc) {
+        Ok(count) => Ok(Some(ShellReply::Turns(count))),
+        Err(fault) => Err(fault),
     }
 }
 

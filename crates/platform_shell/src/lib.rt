@@ -4,14 +4,17 @@
 #![tactic(auto)]
 
 mod asked;
+mod line_answer;
 mod line_ask;
 mod line_input;
 mod line_run;
+mod notes;
 mod readings;
 mod reply_output;
 mod script_run;
 mod status;
 
+pub use notes::note_own_names;
 pub use platform_hall::Platform;
 pub use script_run::run_script;
 pub use status::Status;

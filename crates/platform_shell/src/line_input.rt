@@ -1,7 +1,7 @@
 //! The next line of an input that comes in pieces.
 ghost use Rattle.std.specs.Prelude.{◌≡◌, ◌+◌, ◌<◌, ◌≤◌, [], ◌∷◌, ◌++◌, drop, false, length, List, ℕ, take, vec_len, MatchOption};
 ghost use Rattle.std.specs.Str.Lines.{strip_carriage_return};
-ghost use Rattle.platform_shell.specs.Reading.{coming, faults_after_fill, faults_after_line, FirstLineFeed, Fills, LineRead, NextLine, IsShorter, NoLineFeed, IsLastLine, TakesLine};
+ghost use Rattle.platform_shell.specs.Reading.{not_yet_read, faults_after_fill, faults_after_line, FirstLineFeed, Fills, LineRead, NextLine, IsShorter, NoLineFeed, IsLastLine, TakesLine};
 
 use fault_count::{ReadStep, Source};
 use prop_map::List;
@@ -66,7 +66,7 @@ const LONGEST_LINE: usize = 1_048_576;
 
 /// The next line of the bytes that were read ahead and those that the input has left.
 pub fn next_line<In: Source>(alloc: Global, ahead: &mut ReadAhead, input: &mut In) -> LineStep
-    ensures step { NextLine (coming ahead.old.ended (In.left input.old)) (coming ahead.new.ended (In.left input.new)) ahead.old.bytes.items ahead.new.bytes.items result }
+    ensures step { NextLine (not_yet_read ahead.old.ended (In.left input.old)) (not_yet_read ahead.new.ended (In.left input.new)) ahead.old.bytes.items ahead.new.bytes.items result }
     ensures shorter { IsShorter result (In.number input.old + length ahead.old.bytes.items) (In.number input.new + length ahead.new.bytes.items) }
     ensures taken { ahead.new.ended ≡ false → (ahead.old.ended ≡ false) × LineRead (In.left input.old) (In.left input.new) ahead.old.bytes.items ahead.new.bytes.items result }
     ensures unended { result ≡ LineStep.Failed → ahead.new.ended ≡ false }

@@ -1,17 +1,22 @@
 //! What lines ask that look at the platform alone.
-ghost use Rattle.platform_shell.specs.Asks.{events_reply};
+ghost use Rattle.platform_shell.specs.Asks.{events_reply, report_reply};
 ghost use Rattle.platform_shell.specs.Carries.{CarriesHeld, CarriesReading};
 ghost use Rattle.platform_hall.specs.Platforms.{world};
 ghost use Rattle.scr_world.specs.Readers.{bundle_events_after, bundle_lines, component_lines, found, service_lines};
 ghost use Rattle.scr_world.specs.Steps.{history_of};
 ghost use Rattle.scr_world.specs.TurnLines.{turns_above};
+ghost use Rattle.scr_world.specs.declared.reply.CoreFault.TheVariants.{NoComponent};
+ghost use Rattle.shell_lang.specs.declared.shell_reply.Refusal.TheVariants.{Core as OfCore};
+ghost use Rattle.std.specs.Fmt.{decimal};
 
 use crate::asked::refused;
 use kind_trait::Kinds;
 use ldap_filter::Filter;
 use platform_hall::Platform;
-use prop_map::List;
-use shell_lang::ShellReply;
+use prop_map::{List, Str};
+use scr_report::{ReportFault, report_text};
+use scr_world::CoreFault;
+use shell_lang::{Refusal, ShellReply};
 use std::alloc::Global;
 use turn_runner::SettleFault;
 
@@ -46,6 +51,30 @@ pub(crate) fn components<K: Kinds + Drop>(
 {
     let rows = platform.core().component_rows(alloc)?;
     Ok(ShellReply::Components(rows))
+}
+
+// What is told of a component configuration.
+pub(crate) fn reported<K: Kinds + Drop>(
+    alloc: Global,
+    platform: &Platform<K>,
+    configuration: u64,
+) -> Result<ShellReply, SettleFault>
+    ensures { CarriesReading (report_reply (world platform.now) configuration) result }
+{
+    match report_text(alloc, platform.core(), configuration) {
+        Ok(text) => Ok(ShellReply::Report(Str::of(text))),
+        Err(ReportFault::NoComponent { id }) => no_component(alloc, id),
+        Err(ReportFault::OutOfMemory) => Err(SettleFault::OutOfMemory),
+    }
+}
+
+// There is no component configuration of this number.
+fn no_component(alloc: Global, id: u64) -> Result<ShellReply, SettleFault>
+    ensures { CarriesReading (ShellReply.Refused (OfCore (NoComponent (decimal id)))) result }
+{
+    let name = Str::of(format!(in alloc; "{id}")?);
+    let fault = CoreFault::NoComponent { name };
+    Ok(ShellReply::Refused(Refusal::Core { fault }))
 }
 
 // What the instances of a component configuration hold.

@@ -7,10 +7,9 @@ ghost use Rattle.scr_world.specs.Steps.{history_of};
 ghost use Rattle.platform_shell.specs.Runs.{EndsScript, FaultsAt, HasRunOver};
 ghost use Rattle.platform_shell.specs.Statuses.{HasCause, form_of, read_faults_after, write_faults_after};
 
+use crate::line_answer::answer_line;
 use crate::line_ask::{AskStep, read_ask};
 use crate::line_input::{LineStep, ReadAhead, next_line};
-use crate::line_run::run_line;
-use crate::reply_output::{told_text, write_all};
 use crate::status::form_of;
 use crate::{Platform, Status};
 use fault_count::{Sink, Source};
@@ -22,7 +21,8 @@ use std::alloc::Global;
 /// The words `script` and `script --manual` are the forms; other words end the run before anything is read. The lines are run up to
 /// `quit`, to a line that is too long or to the end of the input. In `script` the platform is settled behind each line, also one without
 /// a reply, and then its reply is written: where no turn was under way at the start, the platform is quiet and right whenever a reply is
-/// written. In `script --manual` turns run where a line asks for it alone.
+/// written. In `script --manual` turns run where a line asks for it alone. A settling that begins on a calm platform, in which no
+/// creation or activation fails, closes no component configuration and needs at most as many turns as the settle bound says.
 ///
 /// A line ends the run with `JournalFull` where its command, its turn or a turn of its settling finds no room in the journal, with `Unsettled`
 /// where the settling ran as many turns as the limit says and one is still due, with `NoMemory`, and with `WriteFault` where the sink fails
@@ -97,17 +97,9 @@ fn run_lines<K: Kinds + Drop, In: Source, Out: Sink>(
             AskStep::Quit => return Status::Done,
             AskStep::NoMemory => return Status::NoMemory,
         };
-        let told = match run_line(alloc, manual, platform, asked) {
-            Ok(told) => told,
-            Err(fault) => return Status::from(fault),
-        };
-        let text = match told_text(alloc, told) {
-            Ok(text) => text,
-            Err(_) => return Status::NoMemory,
-        };
-        if !write_all(output, text.as_slice()) {
-            return Status::WriteFault;
+        match answer_line(alloc, manual, platform, asked, output) {
+            Ok(()) => number = number.saturating_add(1),
+            Err(status) => return status,
         }
-        number = number.saturating_add(1);
     }
 }

@@ -1,5 +1,5 @@
 -- What the document, the properties or the filter of a line mean. Our own form.
-use Rattle.std.specs.Prelude.{ℕ, List, Result, Ok, Err, if◌then◌else◌}
+use Rattle.std.specs.Prelude.{ℕ, List, Result, Ok, Err}
 use Rattle.bundle_doc.specs.declared.document.BundleDoc.{BundleDoc}
 use Rattle.bundle_doc.specs.declared.fault.DocFault.{DocFault}
 use Rattle.bundle_doc.specs.Documents.{bundle_of}
@@ -13,17 +13,16 @@ use Rattle.prop_map.specs.declared.properties.Property.{Property}
 use Rattle.prop_map.specs.JsonProperties.{properties_of}
 use Rattle.serde_json.specs.Read.{read}
 use Rattle.shell_lang.specs.declared.line_fault.LineFault.{LineFault}
-use Rattle.shell_lang.specs.declared.line_fault.LineFault.TheVariants.{NotBuilt, NotJson, Document, Properties, FilterText, OutOfMemory}
-use Rattle.shell_lang.specs.Built.{is_built}
+use Rattle.shell_lang.specs.declared.line_fault.LineFault.TheVariants.{NotJson, Document, Properties, FilterText, OutOfMemory}
 use Rattle.shell_lang.specs.FilterTexts.{filter_read}
 
--- a document that is read and built
-abbrev pub built_document : Result BundleDoc DocFault → Result BundleDoc LineFault
-built_document (Ok doc) = if is_built doc then Ok doc else Err NotBuilt
-built_document (Err fault) = Err (Document fault)
+-- a document as a line has it
+abbrev pub given_document : Result BundleDoc DocFault → Result BundleDoc LineFault
+given_document (Ok doc) = Ok doc
+given_document (Err fault) = Err (Document fault)
 
 abbrev pub document_argument : List ℕ → Result BundleDoc LineFault
-document_argument text = built_document (bundle_of text)
+document_argument text = given_document (bundle_of text)
 
 -- why a line is refused whose properties aren't read
 abbrev pub property_fault : PropFault → LineFault

@@ -1,6 +1,5 @@
 pub mod Words
 pub mod LineFaults
-pub mod Built
 pub mod FilterTexts
 pub mod Arguments
 pub mod Interfaces

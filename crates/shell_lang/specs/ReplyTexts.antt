@@ -5,7 +5,7 @@ use Rattle.shell_lang.specs.RefusalTexts.{refusal_text}
 use Rattle.shell_lang.specs.RowTexts.{bundle_event_text, bundle_text, component_text, held_text, number_text, placed_rows_text, registered_text, rows_text, service_event_text}
 use Rattle.shell_lang.specs.TurnTexts.{finished_text, trace_text, turn_text}
 use Rattle.shell_lang.specs.declared.shell_reply.ShellReply.{ShellReply}
-use Rattle.shell_lang.specs.declared.shell_reply.ShellReply.TheVariants.{Done, Bundle, Service, Uses, Listener, Bundles, Services, Components, Held, Found, Events, BundleEvents, Trace, Turns, Begun, Idle, Finished, Refused}
+use Rattle.shell_lang.specs.declared.shell_reply.ShellReply.TheVariants.{Done, Bundle, Service, Uses, Listener, Bundles, Services, Components, Report, Held, Found, Events, BundleEvents, Trace, Turns, Begun, Idle, Finished, Refused}
 
 -- the text of a reply
 abbrev pub reply_text : ShellReply → List ℕ
@@ -17,6 +17,7 @@ reply_text (Listener listener) = codes "ok listener " ++ decimal listener ++ cod
 reply_text (Bundles rows) = rows_text bundle_text rows
 reply_text (Services rows) = rows_text registered_text rows
 reply_text (Components rows) = rows_text component_text rows
+reply_text (Report text) = codes "ok " ++ text ++ codes "\n"
 reply_text (Held rows) = rows_text held_text rows
 reply_text (Found numbers) = rows_text number_text numbers
 reply_text (Events before events) = placed_rows_text service_event_text before events

@@ -4,15 +4,15 @@ use Rattle.std.specs.List.{list_any}
 use Rattle.std.specs.Str.{bytes_eq, is_utf8}
 use Rattle.component_dto.specs.Fields.{after}
 use Rattle.scr_world.specs.declared.command.Command.{Command}
-use Rattle.scr_world.specs.declared.command.Command.TheVariants.{Install, Update, Start, Stop, Uninstall, Enable, Disable, Register, Unregister, SetProperties, Get, Unget, Listen, Unlisten}
+use Rattle.scr_world.specs.declared.command.Command.TheVariants.{Install, Update, Start, Stop, Uninstall, Enable, Disable, Register, Unregister, SetProperties, Get, Unget, Listen, Unlisten, Configure, ConfigureFactory, Unconfigure}
 use Rattle.shell_lang.specs.declared.line_fault.LineFault.{LineFault}
 use Rattle.shell_lang.specs.declared.line_fault.LineFault.TheVariants.{NotBuilt, UnknownCommand}
 use Rattle.shell_lang.specs.declared.shell_line.ShellLine.{ShellLine}
-use Rattle.shell_lang.specs.declared.shell_line.ShellLine.TheVariants.{Silent, Quit, Command as Commanded, Bundles, Services, Components, Held, Find, Events, BundleEvents, Trace, Settle, Begin, Finish}
+use Rattle.shell_lang.specs.declared.shell_line.ShellLine.TheVariants.{Silent, Quit, Command as Commanded, Bundles, Services, Components, Report, Held, Find, Events, BundleEvents, Trace, Settle, Begin, Finish}
 use Rattle.shell_lang.specs.Arguments.{document_argument, filter_argument, properties_argument}
 use Rattle.shell_lang.specs.Interfaces.{interfaces_at}
 use Rattle.shell_lang.specs.LineFaults.{Reads, fitting}
-use Rattle.shell_lang.specs.Words.{behind_word, first_word, nothing_at, number_and_text, number_and_word, number_at, only_number, text_at, two_numbers, two_numbers_and_text, word_at}
+use Rattle.shell_lang.specs.Words.{behind_word, first_word, nothing_at, number_and_text, number_and_word, number_at, only_number, only_word, text_at, two_numbers, two_numbers_and_text, two_words_and_text, word_and_text, word_at}
 
 -- what a line asks, or why it asks nothing that it can have
 abbrev pub Asked : Type 0
@@ -60,15 +60,31 @@ setting rest = fitting (two_numbers_and_text rest) (λ words. after (properties_
 abbrev pub listening : Option (List ℕ) → Asked
 listening rest = fitting (number_and_text rest) (λ words. after (filter_argument words.1) (λ tree. Ok (Commanded (Listen words.0 tree))))
 
+abbrev pub configuring : Option (List ℕ) → Asked
+configuring rest = fitting (word_and_text rest) (λ words. after (properties_argument words.1) (λ properties. Ok (Commanded (Configure words.0 properties))))
+
+abbrev pub configuring_factory : Option (List ℕ) → Asked
+configuring_factory rest = fitting (two_words_and_text rest) (λ words. after (properties_argument words.2) (λ properties. Ok (Commanded (ConfigureFactory words.0 words.1 properties))))
+
+abbrev pub unconfiguring : Option (List ℕ) → Asked
+unconfiguring rest = fitting (only_word rest) (λ pid. Ok (Commanded (Unconfigure pid)))
+
 -- the words with which lines of the milestones to come begin
 abbrev pub later_words : List (List ℕ)
-later_words = codes "config" ∷ codes "factory" ∷ codes "unconfig" ∷ codes "report" ∷ codes "routes" ∷ codes "call" ∷ codes "http" ∷ []
+later_words = codes "routes" ∷ codes "call" ∷ codes "http" ∷ []
 
 -- why a line is refused that begins with no word of those that are built
 abbrev pub other_fault : List ℕ → LineFault
 other_fault word = if list_any (λ later. bytes_eq word later) later_words then NotBuilt else UnknownCommand
 
--- what a line asks by its first word and what follows it, where the word is one of these: with a document, properties or a filter
+-- what a line asks by its first word and what follows it, where the word is one of these: with a PID
+abbrev pub configuring_line : List ℕ → Option (List ℕ) → Asked
+configuring_line word rest =
+    if bytes_eq word (codes "config") then configuring rest
+    else (if bytes_eq word (codes "factory") then configuring_factory rest
+    else (if bytes_eq word (codes "unconfig") then unconfiguring rest else Err (other_fault word)))
+
+-- with a document, properties or a filter
 abbrev pub carrying_line : List ℕ → Option (List ℕ) → Asked
 carrying_line word rest =
     if bytes_eq word (codes "install") then installing rest
@@ -76,7 +92,7 @@ carrying_line word rest =
     else (if bytes_eq word (codes "register") then registering rest
     else (if bytes_eq word (codes "set") then setting rest
     else (if bytes_eq word (codes "listen") then listening rest
-    else (if bytes_eq word (codes "find") then finding rest else Err (other_fault word))))))
+    else (if bytes_eq word (codes "find") then finding rest else configuring_line word rest)))))
 
 -- with a bundle and a name
 abbrev pub named_line : List ℕ → Option (List ℕ) → Asked
@@ -95,10 +111,11 @@ paired_line word rest =
 -- with a number that is told
 abbrev pub reading_line : List ℕ → Option (List ℕ) → Asked
 reading_line word rest =
-    if bytes_eq word (codes "held") then numbered (λ configuration. Held configuration) rest
+    if bytes_eq word (codes "report") then numbered (λ configuration. Report configuration) rest
+    else (if bytes_eq word (codes "held") then numbered (λ configuration. Held configuration) rest
     else (if bytes_eq word (codes "trace") then numbered (λ above. Trace above) rest
     else (if bytes_eq word (codes "bundle-events") then numbered (λ above. BundleEvents above) rest
-    else (if bytes_eq word (codes "finish") then numbered (λ turn. Finish turn) rest else paired_line word rest)))
+    else (if bytes_eq word (codes "finish") then numbered (λ turn. Finish turn) rest else paired_line word rest))))
 
 -- with a bundle or a listener
 abbrev pub bundle_line : List ℕ → Option (List ℕ) → Asked

@@ -51,6 +51,18 @@ two_numbers rest = after (number_at 1 rest) (λ first. after (number_at 2 first.
 abbrev pub number_and_word : Option (List ℕ) → Result (ℕ × List ℕ) Misfit
 number_and_word rest = after (number_at 1 rest) (λ first. after (word_at 2 first.1) (λ second. after (nothing_at 3 second.1) (λ _. Ok (first.0, second.0))))
 
+-- a word alone
+abbrev pub only_word : Option (List ℕ) → Result (List ℕ) Misfit
+only_word rest = after (word_at 1 rest) (λ first. after (nothing_at 2 first.1) (λ _. Ok first.0))
+
+-- a word and a text
+abbrev pub word_and_text : Option (List ℕ) → Result (List ℕ × List ℕ) Misfit
+word_and_text rest = after (word_at 1 rest) (λ first. after (text_at 2 first.1) (λ text. Ok (first.0, text)))
+
+-- two words and a text
+abbrev pub two_words_and_text : Option (List ℕ) → Result (List ℕ × List ℕ × List ℕ) Misfit
+two_words_and_text rest = after (word_at 1 rest) (λ first. after (word_at 2 first.1) (λ second. after (text_at 3 second.1) (λ text. Ok (first.0, second.0, text))))
+
 -- a number and a text
 abbrev pub number_and_text : Option (List ℕ) → Result (ℕ × List ℕ) Misfit
 number_and_text rest = after (number_at 1 rest) (λ first. after (text_at 2 first.1) (λ text. Ok (first.0, text)))

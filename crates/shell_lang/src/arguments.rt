@@ -6,7 +6,6 @@ ghost use Rattle.prop_map.specs.JsonProperties.{properties_of};
 ghost use Rattle.serde_json.specs.View.{view};
 
 use crate::LineFault;
-use crate::built::is_built;
 use bundle_doc::{BundleDoc, DocFault, read_bundle};
 use ldap_filter::{Filter, FilterFault};
 use prop_map::{OutOfMemory, PropFault, Properties, Str};
@@ -18,13 +17,7 @@ pub(crate) fn read_document(alloc: Global, text: &str) -> Result<BundleDoc, Line
     ensures { Reads (document_argument text.now) result }
 {
     match read_bundle(alloc, text.as_bytes()) {
-        Ok(doc) => {
-            if is_built(&doc) {
-                Ok(doc)
-            } else {
-                Err(LineFault::NotBuilt)
-            }
-        }
+        Ok(doc) => Ok(doc),
         Err(DocFault::OutOfMemory) => Err(LineFault::OutOfMemory),
         Err(fault) => Err(LineFault::Document { fault }),
     }

@@ -2,7 +2,6 @@
 #![tactic(auto)]
 
 mod arguments;
-mod built;
 mod core_fault_text;
 mod fault_text;
 mod interfaces;

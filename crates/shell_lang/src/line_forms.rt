@@ -1,13 +1,13 @@
 //! The forms of lines, by their first word.
 ghost use Rattle.std.specs.Prelude.{◌≡◌, option_map};
 ghost use Rattle.shell_lang.specs.LineFaults.{Reads};
-ghost use Rattle.shell_lang.specs.ShellLines.{alone, bundle_line, carrying_line, finding, installing, listening, named_line, other_fault, paired_line, reading_line, registering, setting, updating, worded_line};
+ghost use Rattle.shell_lang.specs.ShellLines.{alone, bundle_line, carrying_line, configuring, configuring_factory, configuring_line, finding, installing, listening, named_line, other_fault, paired_line, reading_line, registering, setting, unconfiguring, updating, worded_line};
 
 use crate::arguments::{owned, read_document, read_filter, read_properties};
 use crate::interfaces::interfaces_at;
 use crate::words::{
-    nothing_at, number_and_text, number_and_word, number_at, only_number, text_at, two_numbers,
-    two_numbers_and_text, word_at,
+    nothing_at, number_and_text, number_and_word, number_at, only_number, only_word, text_at,
+    two_numbers, two_numbers_and_text, two_words_and_text, word_and_text, word_at,
 };
 use crate::{LineFault, ShellLine};
 use scr_world::Command;
@@ -64,6 +64,9 @@ fn reading_line(alloc: Global, word: &str, rest: Option<&str>) -> Result<ShellLi
     ensures { Reads (reading_line word.now (option_map (λ t. t.now) rest.entry)) result }
 {
     match word {
+        "report" => Ok(ShellLine::Report {
+            configuration: only_number(rest)?,
+        }),
         "held" => Ok(ShellLine::Held {
             configuration: only_number(rest)?,
         }),
@@ -132,6 +135,17 @@ fn carrying_line(alloc: Global, word: &str, rest: Option<&str>) -> Result<ShellL
         "set" => setting(alloc, rest),
         "listen" => listening(alloc, rest),
         "find" => finding(alloc, rest),
+        _ => configuring_line(alloc, word, rest),
+    }
+}
+
+fn configuring_line(alloc: Global, word: &str, rest: Option<&str>) -> Result<ShellLine, LineFault>
+    ensures { Reads (configuring_line word.now (option_map (λ t. t.now) rest.entry)) result }
+{
+    match word {
+        "config" => configuring(alloc, rest),
+        "factory" => configuring_factory(alloc, rest),
+        "unconfig" => unconfiguring(alloc, rest),
         _ => Err(other_fault(word)),
     }
 }
@@ -195,14 +209,43 @@ fn finding(alloc: Global, rest: Option<&str>) -> Result<ShellLine, LineFault>
     Ok(ShellLine::Find { filter })
 }
 
+fn configuring(alloc: Global, rest: Option<&str>) -> Result<ShellLine, LineFault>
+    ensures { Reads (configuring (option_map (λ t. t.now) rest.entry)) result }
+{
+    let (pid, text) = word_and_text(rest)?;
+    let properties = read_properties(alloc, text)?;
+    let pid = owned(alloc, pid)?;
+    Ok(ShellLine::Command(Command::Configure { pid, properties }))
+}
+
+fn configuring_factory(alloc: Global, rest: Option<&str>) -> Result<ShellLine, LineFault>
+    ensures { Reads (configuring_factory (option_map (λ t. t.now) rest.entry)) result }
+{
+    let (factory, name, text) = two_words_and_text(rest)?;
+    let properties = read_properties(alloc, text)?;
+    let factory = owned(alloc, factory)?;
+    let name = owned(alloc, name)?;
+    Ok(ShellLine::Command(Command::ConfigureFactory {
+        factory,
+        name,
+        properties,
+    }))
+}
+
+fn unconfiguring(alloc: Global, rest: Option<&str>) -> Result<ShellLine, LineFault>
+    ensures { Reads (unconfiguring (option_map (λ t. t.now) rest.entry)) result }
+{
+    let pid = only_word(rest)?;
+    let pid = owned(alloc, pid)?;
+    Ok(ShellLine::Command(Command::Unconfigure { pid }))
+}
+
 // Why a line is refused that begins with no word of those that are built.
 fn other_fault(word: &str) -> LineFault
     ensures { result ≡ other_fault word.now }
 {
     match word {
-        "config" | "factory" | "unconfig" | "report" | "routes" | "call" | "http" => {
-            LineFault::NotBuilt
-        }
+        "routes" | "call" | "http" => LineFault::NotBuilt,
         _ => LineFault::UnknownCommand,
     }
 }

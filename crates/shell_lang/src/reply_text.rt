@@ -33,6 +33,7 @@ fn reply_text(alloc: Global, reply: &ShellReply) -> Result<String, OutOfMemory>
         ShellReply::Bundles(rows) => rows_text(alloc, rows.as_slice()),
         ShellReply::Services(rows) => rows_text(alloc, rows.as_slice()),
         ShellReply::Components(rows) => rows_text(alloc, rows.as_slice()),
+        ShellReply::Report(text) => format!(in alloc; "ok {}\n", text.as_str()),
         ShellReply::Held(rows) => rows_text(alloc, rows.as_slice()),
         ShellReply::Found(numbers) => rows_text(alloc, numbers.as_slice()),
         ShellReply::Events { before, events } => {

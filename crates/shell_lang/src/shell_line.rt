@@ -17,6 +17,11 @@ pub enum ShellLine {
     Services,
     /// The component configurations and their states.
     Components,
+    /// What is told of a component configuration.
+    Report {
+        /// Its number.
+        configuration: u64,
+    },
     /// What the instances of a component configuration hold.
     Held {
         /// Its number.

@@ -3,7 +3,7 @@
 use crate::LineFault;
 use bundle_life::BundleEvent;
 use callback_orders::Outcome;
-use prop_map::List;
+use prop_map::{List, Str};
 use scr_world::{BundleLine, ComponentLine, CoreFault, HeldLine, TurnLine};
 use service_listeners::ServiceEvent;
 use service_registry::ServiceRow;
@@ -49,6 +49,8 @@ pub enum ShellReply {
     Services(List<ServiceRow>),
     /// The component configurations.
     Components(List<ComponentLine>),
+    /// What is told of a component configuration, as JSON without blanks.
+    Report(Str),
     /// What instances hold.
     Held(List<HeldLine>),
     /// The numbers of services, the best first.

@@ -1,6 +1,6 @@
 //! The words of a line.
 ghost use Rattle.std.specs.Prelude.{◌≡◌, MatchResult, Ok, Err, option_map};
-ghost use Rattle.shell_lang.specs.Words.{behind_word, first_word, nothing_at, number_and_text, number_and_word, number_at, only_number, text_at, two_numbers, two_numbers_and_text, word_at};
+ghost use Rattle.shell_lang.specs.Words.{behind_word, first_word, nothing_at, number_and_text, number_and_word, number_at, only_number, only_word, text_at, two_numbers, two_numbers_and_text, two_words_and_text, word_and_text, word_at};
 
 use fault_count::decimal;
 
@@ -85,6 +85,34 @@ pub(crate) fn number_and_word(rest: Option<&str>) -> Result<(u64, &str), Misfit>
     let (word, rest) = word_at(2, rest)?;
     nothing_at(3, rest)?;
     Ok((number, word))
+}
+
+// A word alone.
+pub(crate) fn only_word(rest: Option<&str>) -> Result<&str, Misfit>
+    ensures { MatchResult result (λ word. only_word (option_map (λ t. t.now) rest.entry) ≡ Ok word.now) (λ misfit. only_word (option_map (λ t. t.now) rest.entry) ≡ Err misfit) }
+{
+    let (word, rest) = word_at(1, rest)?;
+    nothing_at(2, rest)?;
+    Ok(word)
+}
+
+// A word and a text to the end of the line.
+pub(crate) fn word_and_text(rest: Option<&str>) -> Result<(&str, &str), Misfit>
+    ensures { MatchResult result (λ w. word_and_text (option_map (λ t. t.now) rest.entry) ≡ Ok (w.0.now, w.1.now)) (λ misfit. word_and_text (option_map (λ t. t.now) rest.entry) ≡ Err misfit) }
+{
+    let (word, rest) = word_at(1, rest)?;
+    let text = text_at(2, rest)?;
+    Ok((word, text))
+}
+
+// Two words and a text to the end of the line.
+pub(crate) fn two_words_and_text(rest: Option<&str>) -> Result<(&str, &str, &str), Misfit>
+    ensures { MatchResult result (λ w. two_words_and_text (option_map (λ t. t.now) rest.entry) ≡ Ok (w.0.now, w.1.now, w.2.now)) (λ misfit. two_words_and_text (option_map (λ t. t.now) rest.entry) ≡ Err misfit) }
+{
+    let (first, rest) = word_at(1, rest)?;
+    let (second, rest) = word_at(2, rest)?;
+    let text = text_at(3, rest)?;
+    Ok((first, second, text))
 }
 
 // A number and a text to the end of the line.

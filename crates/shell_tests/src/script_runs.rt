@@ -104,6 +104,29 @@ fn each_write_fails_in_turn(rt: HostRuntime) {
     }
 }
 
+// Sets, reads and deletes a configuration.
+fn configures<'s>() -> Script<'s> {
+    Script {
+        lines: &[
+            r#"install {"location":"q","components":{"q":{"implementationClass":"Q","configurationPolicy":"require"}}}"#,
+            "start 1",
+            "config Q {}",
+            "components",
+            "report 2",
+            "unconfig Q",
+            "components",
+        ],
+        replies: b"ok bundle 1\nok\nok\nok 1\n1 Q 8\nrefused NoComponent 2\nok\nok 1\n1 Q 1\n",
+        reads: &[],
+        writes: &[],
+    }
+}
+
+#[test]
+fn a_configuration_comes_and_goes(rt: HostRuntime) {
+    assert!(rt; ran(rt.alloc(), LIMITS, &configures()) == Some((0, 65)));
+}
+
 #[test]
 fn a_full_journal_ends_a_script(rt: HostRuntime) {
     let script = Script {

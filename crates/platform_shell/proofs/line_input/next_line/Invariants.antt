@@ -1,10 +1,10 @@
 use Rattle.std.proofs.Common.{◌≡◌, ◌≤◌, ◌+◌, length, take, false, if◌then◌else◌}
-use Rattle.platform_shell.specs.Reading.{HasRead, SameBytes, NoLineFeed, coming}
+use Rattle.platform_shell.specs.Reading.{HasRead, SameBytes, NoLineFeed, not_yet_read}
 use Rattle.platform_shell.proofs.line_input.next_line.Given as goal
 
 abbrev pub invariant-loop-at : goal.invariant-loop-at
 invariant-loop-at g l = record {
-  same : SameBytes (coming l.initial.ahead.ended (g.In.Source.left l.initial.input)) (coming l.ahead.ended (g.In.Source.left l.input)) l.initial.ahead.bytes.items l.ahead.bytes.items;
+  same : SameBytes (not_yet_read l.initial.ahead.ended (g.In.Source.left l.initial.input)) (not_yet_read l.ahead.ended (g.In.Source.left l.input)) l.initial.ahead.bytes.items l.ahead.bytes.items;
   within : l.searched ≤ length l.ahead.bytes.items;
   none : NoLineFeed (take l.searched l.ahead.bytes.items);
   fewer : g.In.Source.number l.input + length l.ahead.bytes.items ≤ g.In.Source.number l.initial.input + length l.initial.ahead.bytes.items;

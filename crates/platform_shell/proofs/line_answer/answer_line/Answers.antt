@@ -1,0 +1,20 @@
+use Rattle.std.proofs.Common.{◌≡◌, ◌∙◌, ap, sym, subst, Err, Ok, refl, inr, List, ℕ}
+use Rattle.std.specs.Prelude.{Result}
+use Rattle.platform_shell.specs.declared.status.Status.{Status}
+use Rattle.platform_shell.specs.Answers.{AnswersLine}
+use Rattle.platform_shell.specs.Asks.{Setting}
+use Rattle.platform_shell.specs.Statuses.{write_faults_after}
+use Rattle.platform_shell.proofs.AnswerLemmas.{cut_answer}
+use Rattle.platform_shell.proofs.EndingLemmas.{no_write_fault_cut}
+use Rattle.platform_shell.proofs.line_answer.answer_line.Goals as goal
+
+pub returns-in-Err-clause-answered : goal.returns-in-Err-clause-answered
+returns-in-Err-clause-answered g c =
+    let s : Setting = record { is_manual = c.args.manual; refuses = g.K.Kinds.refuses } in
+    let written = g.Out.Sink.written c.args.output.now in
+    let P : Status → Type 0 = λ status. AnswersLine s c.args.asked (Err status) c.args.platform.now c.run_line.new.platform written written in
+    subst P (sym c.from.ensures) (cut_answer s c.args.asked c.in-Err.fault c.args.platform.now c.run_line.new.platform written c.in-Err.ensures)
+
+pub returns-in-Err-clause-faults : goal.returns-in-Err-clause-faults
+returns-in-Err-clause-faults g c =
+    let count = g.Out.Sink.fault_count c.args.output.now in sym (ap (write_faults_after count) c.from.ensures ∙ no_write_fault_cut count c.in-Err.fault)
