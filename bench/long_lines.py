@@ -186,4 +186,19 @@ ROWS += [
         "osgi_run",
         lambda size: ["factory p one " + text({f"k{number}": 1 for number in range(size // 12)})],
     ),
+    (
+        "a report with many keys",
+        "osgi_run",
+        lambda size: [
+            install(location(0, {"p": component(0, name="p")})),
+            "start 1",
+            "config p " + text({f"k{number}": 1 for number in range(size // 12)}),
+            "report 1",
+        ],
+    ),
+    (
+        "a report with many references",
+        "osgi_run",
+        lambda size: reference_names(size) + ["start 1", "report 1"],
+    ),
 ]
