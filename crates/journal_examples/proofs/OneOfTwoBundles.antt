@@ -59,26 +59,29 @@ past8 = record { step = Commanded (Update 1 doc3); closed = []; opened = []; sto
 abbrev past9 : History
 past9 = record { step = Commanded (Start 1); closed = []; opened = (record { configuration = 3; service = 3 } ∷ []); stopped = [] } ∷ past8
 
-abbrev all : List World
-all = worlds past9
+abbrev past10 : History
+past10 = record { step = Commanded (Unlisten 1); closed = []; opened = []; stopped = [] } ∷ past9
 
-is_legal : legal 4194304 past9 all ≡ true
+abbrev all : List World
+all = worlds past10
+
+is_legal : legal 4194304 past10 all ≡ true
 unfolding world_after_entry world_of world_after_step stage_in stage_of stopped_in stopped_by shut_between has_room satisfied_in
 is_legal = refl
 
-stands_legal : IsLegal 4194304 past9
-stands_legal = legal_means 4194304 past9 is_legal
+stands_legal : IsLegal 4194304 past10
+stands_legal = legal_means 4194304 past10 is_legal
 
-which_states : states all ≡ (((1, 4) ∷ (3, 4) ∷ []) ∷ ((1, 4) ∷ []) ∷ ((1, 4) ∷ []) ∷ ((1, 4) ∷ (2, 4) ∷ []) ∷ ((1, 4) ∷ (2, 4) ∷ []) ∷ ((1, 4) ∷ []) ∷ ((1, 4) ∷ []) ∷ [] ∷ [] ∷ [] ∷ [])
+which_states : states all ≡ (((1, 4) ∷ (3, 4) ∷ []) ∷ ((1, 4) ∷ (3, 4) ∷ []) ∷ ((1, 4) ∷ []) ∷ ((1, 4) ∷ []) ∷ ((1, 4) ∷ (2, 4) ∷ []) ∷ ((1, 4) ∷ (2, 4) ∷ []) ∷ ((1, 4) ∷ []) ∷ ((1, 4) ∷ []) ∷ [] ∷ [] ∷ [] ∷ [])
 unfolding world_after_entry world_of world_after_step stage_in stage_of stopped_in stopped_by shut_between has_room satisfied_in
 which_states = refl
 
 -- the listener of the stopped bundle has gone, and the other has heard all
-which_listeners : replies 4194304 all (asked 9 (Unlisten 1) ∷ asked 9 (Unlisten 2) ∷ []) ≡ (Ok IsDone ∷ Err (NoListener 2) ∷ [])
+which_listeners : replies 4194304 all (asked 9 (Unlisten 1) ∷ asked 9 (Unlisten 2) ∷ asked 10 (Unlisten 1) ∷ []) ≡ (Ok IsDone ∷ Err (NoListener 2) ∷ Err (NoListener 1) ∷ [])
 unfolding world_after_entry world_of world_after_step stage_in stage_of stopped_in stopped_by shut_between has_room satisfied_in
 which_listeners = refl
 
-which_events : events_at_end 1 all ≡ (record { value = 1; service = 2 } ∷ record { value = 4; service = 2 } ∷ record { value = 1; service = 3 } ∷ [])
+which_events : events_at_end 1 (worlds past9) ≡ (record { value = 1; service = 2 } ∷ record { value = 4; service = 2 } ∷ record { value = 1; service = 3 } ∷ [])
 unfolding world_after_entry world_of world_after_step stage_in stage_of stopped_in stopped_by shut_between has_room satisfied_in
 which_events = refl
 
@@ -86,6 +89,6 @@ which_found : found_at_end (tree_or_none (codes "(objectClass=*)")) all ≡ (1 �
 unfolding world_after_entry world_of world_after_step stage_in stage_of stopped_in stopped_by shut_between has_room satisfied_in
 which_found = refl
 
-laws_hold : laws past9 all ≡ true
+laws_hold : laws past10 all ≡ true
 unfolding world_after_entry world_of world_after_step stage_in stage_of stopped_in stopped_by shut_between has_room satisfied_in
 laws_hold = refl

@@ -6,7 +6,7 @@ use Rattle.bundle_doc.specs.declared.document.BundleDoc.{BundleDoc}
 use Rattle.journal_examples.proofs.Trees.{tree_or_none}
 use Rattle.callback_orders.specs.declared.callback.Callback.TheVariants.{Create, Activate, Deactivate, Destroy}
 use Rattle.callback_orders.specs.declared.callback.Outcome.TheVariants.{Done}
-use Rattle.scr_world.specs.declared.step.Step.TheVariants.{Command as Commanded, Begin, End, Drained, Got}
+use Rattle.scr_world.specs.declared.step.Step.TheVariants.{Command as Commanded, Begin, End, Drained, Got, Released}
 use Rattle.scr_world.specs.declared.command.Command.TheVariants.{Install, Start, Stop, Register, Get}
 use Rattle.scr_world.specs.Steps.{History}
 use Rattle.scr_world.specs.declared.world.World.{World}
@@ -165,6 +165,11 @@ no_token = refl
 room_for_create : option_map (λ s. map (λ limit. has_room limit (newest (worlds past6)) (needed_by s)) (7 ∷ 8 ∷ [])) (next_begin (newest (worlds past6))) ≡ Some (false ∷ true ∷ [])
 unfolding world_after_entry world_of world_after_step stage_in stage_of stopped_in stopped_by shut_between has_room satisfied_in
 room_for_create = refl
+
+-- what is reserved has its room in a journal that is full but for it: an end, a drain, a release
+room_for_reserved : (has_room 11 (newest (worlds past9)) (needed_by (End 2 Done)) ∷ has_room 13 stopping (needed_by (Drained 1)) ∷ has_room 13 active (needed_by (Released 10)) ∷ []) ≡ (true ∷ true ∷ true ∷ [])
+unfolding world_after_entry world_of world_after_step stage_in stage_of stopped_in stopped_by shut_between has_room satisfied_in
+room_for_reserved = refl
 
 -- a command changes something where it isn't refused, has an effect and finds room: what is reserved are a drain and a release
 which_change : map (changes 4194304 active) (Start 2 ∷ Stop 2 ∷ Start 9 ∷ []) ≡ (false ∷ true ∷ false ∷ [])
