@@ -96,8 +96,10 @@ fn what_is_not_in_effect_is_listed(rt: HostRuntime) -> Result<(), Fail> {
     let [shadowed, bad] = routes.failures() else {
         return Err("two failures".into());
     };
+    assert_eq!(rt; shadowed.service, 2);
     assert_eq!(rt; shadowed.pattern.as_str(), "/d");
     assert_eq!(rt; shadowed.cause, RouteCause::Shadowed);
+    assert_eq!(rt; bad.service, 2);
     assert_eq!(rt; bad.pattern.as_str(), "x");
     assert_eq!(rt; bad.cause, RouteCause::BadPattern);
     Ok(())
