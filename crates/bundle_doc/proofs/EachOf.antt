@@ -1,7 +1,7 @@
 -- A list that is read item by item, up to the first fault.
 use Rattle.std.proofs.Common.{◌≡◌, ◌<◌, ◌≤◌, ℕ, suc, ◌+◌, List, [], ◌∷◌, ◌++◌, length, get_or, drop, Result, Ok, Err, ap, sym, ◌∙◌, refl, append_assoc, append-nil, add-one, drop-cons}
 use Rattle.std.proofs.lemmas.List.{drop_all}
-use Rattle.component_dto.specs.Fields.{after}
+use Rattle.prop_map.specs.Words.{after}
 use Rattle.bundle_doc.specs.Documents.{each_of}
 
 -- the whole list is read as what was found so far and what the rest is read as

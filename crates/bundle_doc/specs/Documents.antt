@@ -10,7 +10,8 @@ use Rattle.component_dto.specs.declared.description.Description.{Description}
 use Rattle.component_dto.specs.declared.fault.DescriptionFault.{DescriptionFault}
 use Rattle.component_dto.specs.declared.fault.DescriptionFault.TheVariants.{MissingField as NoField, WrongType as OtherType, BadWord, BadProperty, FactoryComponent, PrototypeReference, SameReference, ImmediateScope, DelayedWithoutService, BadTarget, TooManyPids, OutOfMemory as NoMemory}
 use Rattle.component_dto.specs.Descriptions.{description_of}
-use Rattle.component_dto.specs.Fields.{after, filled, given, if_given, or_fault}
+use Rattle.prop_map.specs.Words.{after}
+use Rattle.component_dto.specs.Fields.{filled, given, if_given, or_fault}
 use Rattle.component_dto.specs.TextLists.{first_repeated}
 use Rattle.bundle_doc.specs.declared.document.BundleDoc.{BundleDoc}
 use Rattle.bundle_doc.specs.declared.fault.DocFault.{DocFault}

@@ -1,6 +1,6 @@
 -- Which entries of a document are its descriptions. Our own form.
 use Rattle.std.specs.Prelude.{ℕ, List, [], ◌∷◌, ◌++◌, filter, Result, Ok, Err, if◌then◌else◌}
-use Rattle.component_dto.specs.Fields.{after}
+use Rattle.prop_map.specs.Words.{after}
 use Rattle.component_dto.specs.TextLists.{has_text}
 use Rattle.bundle_doc.specs.declared.fault.DocFault.{DocFault}
 use Rattle.bundle_doc.specs.declared.fault.DocFault.TheVariants.{MissingEntry}

@@ -11,7 +11,8 @@ use Rattle.osgi_version.specs.Versions.{empty_version}
 use Rattle.osgi_version.specs.declared.fault.VersionFault.{VersionFault}
 use Rattle.osgi_version.specs.declared.fault.VersionFault.TheVariants.{BadVersion as BadAt, OutOfMemory as NoRoom}
 use Rattle.osgi_version.specs.declared.version.Version.{Version}
-use Rattle.component_dto.specs.Fields.{after, or_fault}
+use Rattle.prop_map.specs.Words.{after}
+use Rattle.component_dto.specs.Fields.{or_fault}
 use Rattle.bundle_doc.specs.declared.fault.DocFault.{DocFault}
 use Rattle.bundle_doc.specs.declared.fault.DocFault.TheVariants.{Header, OutOfMemory}
 use Rattle.bundle_doc.specs.declared.headers.Listed.{Listed}

@@ -1,7 +1,7 @@
 -- The names of entries in Service-Component (OSGi Compendium 8, section 112.4, component description), which may have a star in their last part.
 use Rattle.std.specs.Prelude.{ℕ, ◌-◌, ◌==◌, ◌&&◌, List, [], ◌∷◌, map, take, drop, length, Bool, not, if◌then◌else◌}
 use Rattle.std.specs.List.{list_any}
-use Rattle.bundle_headers.specs.Blanks.{trimmed}
+use Rattle.bundle_headers.specs.Blanks.{without_blanks}
 use Rattle.ldap_filter.specs.Matching.{begins, consists_of}
 
 abbrev pub has_byte : ℕ → List ℕ → Bool
@@ -19,7 +19,7 @@ parted byte (b ∷ bs) = if b == byte then [] ∷ parted byte bs else onto b (pa
 
 -- the items of a list with commas, without the blanks round them
 abbrev pub items_of : List ℕ → List (List ℕ)
-items_of text = map trimmed (parted 44 text)
+items_of text = map without_blanks (parted 44 text)
 
 -- what stands behind the last slash: all, where there is none
 abbrev pub last_part : List ℕ → List ℕ

@@ -2,7 +2,7 @@
 ghost use Rattle.std.specs.Prelude.{◌≡◌, [], IfOk, filter, map, option_map};
 ghost use Rattle.serde_json.specs.View.{members_view, view};
 ghost use Rattle.prop_map.specs.JsonProperties.{keys_of};
-ghost use Rattle.component_dto.specs.Fields.{after};
+ghost use Rattle.prop_map.specs.Words.{after};
 ghost use Rattle.bundle_doc.specs.Documents.{entries_of};
 ghost use Rattle.bundle_doc.specs.Entries.{chosen, taken, taken_behind, with_new};
 ghost use Rattle.bundle_doc.specs.Faults.{Reads};
@@ -12,7 +12,7 @@ use crate::DocFault;
 use crate::headers::Listed;
 use crate::names::{folder, is_pattern, last_part, matches, parted};
 use crate::text_list::TextList;
-use component_dto::{each_once, spelled};
+use component_dto::each_once;
 use prop_map::{Copies, List, OutOfMemory, Str};
 use serde_json::{Map, Value};
 use std::alloc::Global;
@@ -54,7 +54,7 @@ fn keys_among(alloc: Global, pairs: &[(&String, &Value)]) -> Result<List<Str>, O
 {
     let mut keys = Vec::new(alloc);
     for (key, _) in pairs {
-        keys.push(spelled(alloc, key.as_str())?)?;
+        keys.push(Str::spell(alloc, key.as_str())?)?;
     }
     Ok(List::of(keys))
 }

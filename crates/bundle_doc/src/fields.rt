@@ -5,7 +5,7 @@ ghost use Rattle.bundle_doc.specs.Documents.{needed_text_at, object_or_none, tex
 ghost use Rattle.bundle_doc.specs.Faults.{Reads};
 
 use crate::DocFault;
-use component_dto::{given, spelled};
+use component_dto::given;
 use prop_map::Str;
 use serde_json::Value;
 use std::alloc::Global;
@@ -20,9 +20,9 @@ pub(crate) fn text_at(alloc: Global, json: &Value, field: &str) -> Result<Option
     match given(json, field) {
         None => Ok(None),
         Some(value) => match value.as_str() {
-            Some(text) => Ok(Some(spelled(alloc, text)?)),
+            Some(text) => Ok(Some(Str::spell(alloc, text)?)),
             None => Err(DocFault::WrongType {
-                field: spelled(alloc, field)?,
+                field: Str::spell(alloc, field)?,
             }),
         },
     }
@@ -38,7 +38,7 @@ pub(crate) fn needed_text_at(alloc: Global, json: &Value, field: &str) -> Result
     match text_at(alloc, json, field)? {
         Some(text) if !text.as_str().is_empty() => Ok(text),
         _ => Err(DocFault::MissingField {
-            field: spelled(alloc, field)?,
+            field: Str::spell(alloc, field)?,
         }),
     }
 }
@@ -56,7 +56,7 @@ pub(crate) fn check_object(
 {
     match value {
         Some(value) if !value.is_object() => Err(DocFault::WrongType {
-            field: spelled(alloc, field)?,
+            field: Str::spell(alloc, field)?,
         }),
         _ => Ok(()),
     }

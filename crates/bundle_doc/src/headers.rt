@@ -9,7 +9,6 @@ use crate::DocFault;
 use crate::names::items_of;
 use crate::texts::{clauses_of, version_of};
 use bundle_headers::{Clauses, HeaderFault, Manifest};
-use component_dto::spelled;
 use osgi_version::Version;
 use prop_map::{Copies, List, OutOfMemory, Str};
 use std::alloc::Global;
@@ -100,7 +99,7 @@ fn copied(alloc: Global, text: Option<&str>) -> Result<Option<Str>, OutOfMemory>
     ensures { IfOk result (λ copied. copied ≡ option_map (λ t. t.now) text.entry) }
 {
     match text {
-        Some(text) => Ok(Some(spelled(alloc, text)?)),
+        Some(text) => Ok(Some(Str::spell(alloc, text)?)),
         None => Ok(None),
     }
 }

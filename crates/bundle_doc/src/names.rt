@@ -1,12 +1,11 @@
 //! The names of entries in a manifest, which may have a star in their last part.
 ghost use Rattle.std.specs.Prelude.{◌≡◌, ◌&&◌, ◌<◌, ◌==◌, ◌∷◌, [], IfOk, MatchOption, drop, length, map};
 ghost use Rattle.std.specs.List.{after_first, before_first, position_or_len};
-ghost use Rattle.bundle_headers.specs.Blanks.{trimmed};
+ghost use Rattle.bundle_headers.specs.Blanks.{without_blanks};
 ghost use Rattle.ldap_filter.specs.Matching.{begins};
 ghost use Rattle.bundle_doc.specs.Names.{folder, has_byte, is_pattern, items_of, last_part, parted, rest_matches};
 
-use bundle_headers::trimmed_text;
-use component_dto::spelled;
+use bundle_headers::text_without_blanks;
 use ldap_filter::consists_of;
 use prop_map::{List, OutOfMemory, Str};
 use std::alloc::Global;
@@ -20,11 +19,11 @@ pub(crate) fn items_of(alloc: Global, text: &str) -> Result<List<Str>, OutOfMemo
 }
 
 fn all_trimmed(alloc: Global, parts: &[Str]) -> Result<List<Str>, OutOfMemory>
-    ensures { IfOk result (λ items. items ≡ map trimmed parts.now) }
+    ensures { IfOk result (λ items. items ≡ map without_blanks parts.now) }
 {
     let mut items = Vec::new(alloc);
     for part in parts {
-        items.push(spelled(alloc, trimmed_text(part.as_str()))?)?;
+        items.push(Str::spell(alloc, text_without_blanks(part.as_str()))?)?;
     }
     Ok(List::of(items))
 }
@@ -37,10 +36,10 @@ pub(crate) fn parted(alloc: Global, text: &str, separator: char) -> Result<List<
     let mut parts = Vec::new(alloc);
     let mut rest = text;
     while let Some((part, behind)) = next_part(rest, separator) {
-        parts.push(spelled(alloc, part)?)?;
+        parts.push(Str::spell(alloc, part)?)?;
         rest = behind;
     }
-    parts.push(spelled(alloc, rest)?)?;
+    parts.push(Str::spell(alloc, rest)?)?;
     Ok(List::of(parts))
 }
 

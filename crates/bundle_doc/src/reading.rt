@@ -9,9 +9,7 @@ use crate::entries::{chosen, entries_of};
 use crate::fields::{check_object, needed_text_at, text_at};
 use crate::headers::headers_of;
 use crate::{BundleDoc, DocFault};
-use component_dto::{
-    Description, DescriptionFault, first_repeated, given, read_description, spelled,
-};
+use component_dto::{Description, DescriptionFault, first_repeated, given, read_description};
 use prop_map::{Copies, List, OutOfMemory, Str};
 use serde_json::{Category, Value};
 use std::alloc::Global;
@@ -51,7 +49,7 @@ fn document(alloc: Global, json: &Value) -> Result<BundleDoc, DocFault>
 {
     if !json.is_object() {
         return Err(DocFault::WrongType {
-            field: spelled(alloc, "document")?,
+            field: Str::spell(alloc, "document")?,
         });
     }
     let location = needed_text_at(alloc, json, "location")?;
@@ -119,7 +117,7 @@ fn check_names(alloc: Global, descriptions: &[Description]) -> Result<(), DocFau
     let names = names_of(alloc, descriptions)?;
     match first_repeated(alloc, &names)? {
         Some(name) => Err(DocFault::SameComponent {
-            name: spelled(alloc, name)?,
+            name: Str::spell(alloc, name)?,
         }),
         None => Ok(()),
     }

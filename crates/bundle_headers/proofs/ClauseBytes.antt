@@ -3,7 +3,7 @@ use Rattle.std.proofs.Common.{◌≡◌, ℕ, ◌&&◌, ◌||◌, ◌⊎◌, Lis
 use Rattle.std.specs.List.{list_all}
 use Rattle.std.proofs.lemmas.List.Folds.{list_all-append}
 use Rattle.osgi_version.proofs.Options.{chosen, map_gives, same_some}
-use Rattle.bundle_headers.specs.Blanks.{is_blank, trimmed}
+use Rattle.bundle_headers.specs.Blanks.{is_blank, without_blanks}
 use Rattle.bundle_headers.specs.ClauseSteps.{add_path, has_arguments, name_in, token, with_path}
 use Rattle.bundle_headers.specs.Clauses.{ends_part, is_token_byte, is_value_byte}
 use Rattle.bundle_headers.specs.declared.clause_reading.Front.{Front}
@@ -45,22 +45,22 @@ all_more p xs b all here = rw (list_all-append p xs (b ∷ []), all, here) refl
 pub not_blank_more : (xs : List ℕ) → is_blank (xs ++ 97 ∷ []) ≡ false
 not_blank_more xs = rw (list_all-append (λ b. eqb b 32) xs (97 ∷ [])) (elim (is_blank xs) as (λ t. (t && false) ≡ false) [ true ↦ refl | false ↦ refl ])
 
-pub token_gives : (bytes text : List ℕ) → token bytes ≡ Some text → (is_blank bytes ≡ false) × (text ≡ trimmed bytes)
-token_gives bytes text e = elim (chosen (is_blank bytes) None (Some (trimmed bytes)) (Some text) e) [
+pub token_gives : (bytes text : List ℕ) → token bytes ≡ Some text → (is_blank bytes ≡ false) × (text ≡ without_blanks bytes)
+token_gives bytes text e = elim (chosen (is_blank bytes) None (Some (without_blanks bytes)) (Some text) e) [
   | inl blank ↦ absurd (let none = blank.1 in cc)
   | inr other ↦ (other.0, sym (same_some other.1))
 ]
 
-pub token_here : (bytes text : List ℕ) → is_blank bytes ≡ false → text ≡ trimmed bytes → token bytes ≡ Some text
+pub token_here : (bytes text : List ℕ) → is_blank bytes ≡ false → text ≡ without_blanks bytes → token bytes ≡ Some text
 token_here bytes text e same = rw e (ap Some (sym same))
 
-pub name_gives : (s : Front) (bytes name : List ℕ) → name_in s bytes ≡ Some name → (eqb (length s.clause.paths) 0 ≡ false) × (is_blank bytes ≡ false) × (name ≡ trimmed bytes)
+pub name_gives : (s : Front) (bytes name : List ℕ) → name_in s bytes ≡ Some name → (eqb (length s.clause.paths) 0 ≡ false) × (is_blank bytes ≡ false) × (name ≡ without_blanks bytes)
 name_gives s bytes name e = elim (chosen (eqb (length s.clause.paths) 0) None (token bytes) (Some name) e) [
   | inl none ↦ absurd (let no_name = none.1 in cc)
   | inr some ↦ let is = token_gives bytes name some.1 in (some.0, is.0, is.1)
 ]
 
-pub path_gives : (s t : Front) (bytes : List ℕ) → with_path s bytes ≡ Some t → (path : List ℕ) × (has_arguments s.clause ≡ false) × (is_blank bytes ≡ false) × (path ≡ trimmed bytes) × (add_path s path ≡ t)
+pub path_gives : (s t : Front) (bytes : List ℕ) → with_path s bytes ≡ Some t → (path : List ℕ) × (has_arguments s.clause ≡ false) × (is_blank bytes ≡ false) × (path ≡ without_blanks bytes) × (add_path s path ≡ t)
 path_gives s t bytes e = elim (chosen (has_arguments s.clause) None (option_map (add_path s) (token bytes)) (Some t) e) [
   | inl refused ↦ absurd (let none = refused.1 in cc)
   | inr may ↦

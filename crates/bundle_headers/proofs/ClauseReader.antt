@@ -6,7 +6,7 @@ use Rattle.std.proofs.lemmas.List.Folds.{list_all-append}
 use Rattle.osgi_version.proofs.Options.{bind_gives, chosen, chosen_eq, map_gives, same_some}
 use Rattle.osgi_version.proofs.Readers.{IsReader, reads, run_keeps}
 use Rattle.osgi_version.specs.Readings.{run}
-use Rattle.bundle_headers.specs.Blanks.{is_blank, trimmed}
+use Rattle.bundle_headers.specs.Blanks.{is_blank, without_blanks}
 use Rattle.bundle_headers.specs.ClauseSteps.{add_path, after_part, clauses_at_end, clauses_of, clauses_start, clauses_step, has_arguments, name_in, open_other, open_step, reading, token, typed_step, value_step, quoted_step, behind_step, colon_step, with_argument, with_path}
 use Rattle.bundle_headers.specs.Clauses.{IsQuoted, IsQuotedValue, SpellsClauses, ends_part, is_quoted_byte, is_token_byte, is_value_byte, quoted_byte}
 use Rattle.bundle_headers.specs.declared.clause_reading.ClausesReading.{ClausesReading}
@@ -225,15 +225,15 @@ live_open : (s : Front) (raw text : List ℕ) → ReachedPart s (Open raw) text 
 live_open s raw text (front, lead, all, same) = elim (has_arguments s.clause) as (λ t. has_arguments s.clause ≡ t → Lives (reading s (Open raw))) [
   | true ↦ λ has.
       let path = has_path_where_arguments s front lead has in
-      (97 ∷ 61 ∷ 97 ∷ [], clauses_of (with_argument s Attribute (trimmed (raw ++ 97 ∷ [])) (97 ∷ [])), rw (path, not_blank_more raw) refl)
-  | false ↦ λ none. (97 ∷ [], clauses_of (add_path s (trimmed (raw ++ 97 ∷ []))), rw (none, not_blank_more raw) refl)
+      (97 ∷ 61 ∷ 97 ∷ [], clauses_of (with_argument s Attribute (without_blanks (raw ++ 97 ∷ [])) (97 ∷ [])), rw (path, not_blank_more raw) refl)
+  | false ↦ λ none. (97 ∷ [], clauses_of (add_path s (without_blanks (raw ++ 97 ∷ []))), rw (none, not_blank_more raw) refl)
 ] refl
 
 part_lives : (s : Front) (part : Part) (text : List ℕ) → ReachedPart s part text → Lives (reading s part)
 part_lives s (Open raw) text h = live_open s raw text h
 part_lives s (Colon name) text h = (61 ∷ 97 ∷ [], clauses_of (with_argument s Directive name (97 ∷ [])), refl)
 part_lives s (Typed name raw) text h = (97 ∷ 61 ∷ 97 ∷ [], clauses_of (with_argument s Attribute name (97 ∷ [])), rw (not_blank_more raw) refl)
-part_lives s (Value kind name raw) text h = (97 ∷ [], clauses_of (with_argument s kind name (trimmed (raw ++ 97 ∷ []))), rw (not_blank_more raw) refl)
+part_lives s (Value kind name raw) text h = (97 ∷ [], clauses_of (with_argument s kind name (without_blanks (raw ++ 97 ∷ []))), rw (not_blank_more raw) refl)
 part_lives s (Quoted kind name raw) text h = (34 ∷ [], clauses_of (with_argument s kind name raw), refl)
 part_lives s (Escaped kind name raw) text h = (97 ∷ 34 ∷ [], clauses_of (with_argument s kind name (raw ++ 97 ∷ [])), refl)
 part_lives s (Behind kind name value) text h = ([], clauses_of (with_argument s kind name value), refl)

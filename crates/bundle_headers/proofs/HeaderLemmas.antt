@@ -9,7 +9,7 @@ use Rattle.bundle_headers.specs.Headers.{is_begun, later_fault, name_length, nam
 use Rattle.bundle_headers.specs.declared.fault.HeaderFault.{HeaderFault}
 use Rattle.bundle_headers.specs.declared.fault.HeaderFault.TheVariants.{DuplicateHeader, NotUtf8}
 use Rattle.bundle_headers.specs.declared.folding.Folded.{Folded}
-use Rattle.bundle_headers.proofs.TextLemmas.{cut_after, cut_before, trimmed_text}
+use Rattle.bundle_headers.proofs.TextLemmas.{cut_after, cut_before, text_without_blanks}
 
 abbrev fault_at : Bool → Bool → Folded → ℕ → Option HeaderFault
 fault_at text repeats folded n = later_fault text repeats folded.first.number (place_in (folded.first ∷ folded.more) n)
@@ -62,4 +62,4 @@ pub value_text : (text : List ℕ) → is_begun text ≡ true → IsUtf8 text �
 value_text text e u =
     let rest = drop (name_length text + 2) text in
     let behind_colon = cut_after (name_of text) (32 ∷ drop (name_length text + 2) text) 58 (omega arith) (subst IsUtf8 (begun_split text e) u) in
-    trimmed_text (drop (name_length text + 2) text) (cut_after [] (drop (name_length text + 2) text) 32 (omega arith) behind_colon)
+    text_without_blanks (drop (name_length text + 2) text) (cut_after [] (drop (name_length text + 2) text) 32 (omega arith) behind_colon)

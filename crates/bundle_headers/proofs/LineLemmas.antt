@@ -2,7 +2,7 @@
 use Rattle.std.proofs.Common.{◌≡◌, ℕ, ◌+◌, ◌<◌, ◌&&◌, ◌||◌, List, [], ◌∷◌, ◌++◌, true, false, eqb, eqb-true, refl, sym, ap, ◌∙◌, arith, drop, length, suc, map, ◌⊎◌, inl, inr, append_assoc, ◌≤◌}
 use Rattle.std.proofs.lemmas.List.{append-nil, drop-drop, drop_all, length-drop}
 use Rattle.std.proofs.lemmas.Bool.{and_parts, lt-ltb, le-ltb}
-use Rattle.bundle_headers.specs.Lines.{begun_at, end_length, ended_at, ends_line, has_text, line_length, lines_from, marked, plain_line, section, starts_with_feed, up_to_empty}
+use Rattle.bundle_headers.specs.Lines.{begun_at, end_length, ended_at, ends_line, is_filled, line_length, lines_from, marked, plain_line, section, starts_with_feed, up_to_empty}
 use Rattle.bundle_headers.specs.declared.line.Line.{Line}
 
 -- the lines from a place on, of those that stand there
@@ -93,7 +93,7 @@ section_more bytes number start n e front h is_n some is_e told =
     let line = plain_line number start (start + n) in
     let first : lines_from number start (drop start bytes) ≡ plain_line number start (start + n) ∷ lines_from (number + 1) (start + (n + e)) (drop (start + (n + e)) bytes) =
     split ∙ rw (is_n, is_e, drop-drop (n + e) start bytes) refl in
-    let has : has_text (plain_line number start (start + n)) ≡ true = lt-ltb start (start + n) (omega arith) in
+    let has : is_filled (plain_line number start (start + n)) ≡ true = lt-ltb start (start + n) (omega arith) in
     let taken : shown bytes (plain_line number start (start + n) ∷ lines_from (number + 1) (start + (n + e)) (drop (start + (n + e)) bytes))
     ≡ marked bytes (plain_line number start (start + n)) ∷ shown bytes (lines_from (number + 1) (start + (n + e)) (drop (start + (n + e)) bytes)) = rw has refl in
     append_assoc front (marked bytes (plain_line number start (start + n)) ∷ []) (shown bytes (lines_from (number + 1) (start + (n + e)) (drop (start + (n + e)) bytes)))
@@ -104,7 +104,7 @@ pub section_ends : (bytes : List ℕ) (number start : ℕ) (front : List Line) �
     → front ++ shown bytes (lines_from number start (drop start bytes)) ≡ section bytes → front ≡ section bytes
 section_ends bytes number start front h none told =
     let split = lines_from-first number start (drop start bytes) (rw length-drop (omega arith)) in
-    let has : has_text (plain_line number start (start + line_length (drop start bytes))) ≡ false = le-ltb start (start + line_length (drop start bytes)) (omega arith) in
+    let has : is_filled (plain_line number start (start + line_length (drop start bytes))) ≡ false = le-ltb start (start + line_length (drop start bytes)) (omega arith) in
     let taken : shown bytes (first_and_rest number start (drop start bytes)) ≡ [] = rw has refl in
     sym (append-nil front) ∙ (ap (λ ls. front ++ ls) (sym taken ∙ sym (ap (shown bytes) split)) ∙ told)
 

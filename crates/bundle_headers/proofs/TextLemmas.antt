@@ -3,7 +3,7 @@ use Rattle.std.proofs.Common.{◌≡◌, ℕ, ◌+◌, ◌<◌, List, [], ◌∷
 use Rattle.std.proofs.lemmas.Bool.{and_parts}
 use Rattle.std.proofs.lemmas.List.{length-append, take_at, drop_at, append-nil}
 use Rattle.std.proofs.lemmas.Str.{IsCharBoundary-before_ascii, IsCharBoundary-after_ascii, IsUtf8-take, IsUtf8-drop}
-use Rattle.bundle_headers.specs.Blanks.{is_blank, trim_start, trim_end, trimmed}
+use Rattle.bundle_headers.specs.Blanks.{is_blank, trim_start, trim_end, without_blanks}
 
 at_seam : (xs ys : List ℕ) (b : ℕ) → get_or (xs ++ b ∷ ys) (length xs) 0 ≡ b
 at_seam [] ys b = refl
@@ -46,7 +46,7 @@ end_text_by front (b ∷ blanks) e u =
     let here = eqb-true b 32 (and_parts (eqb b 32) (is_blank blanks) e).0 in
     cut_before front blanks b (omega arith) u
 
-pub trimmed_text : (bs : List ℕ) → IsUtf8 bs → IsUtf8 (trimmed bs)
-trimmed_text bs u =
+pub text_without_blanks : (bs : List ℕ) → IsUtf8 bs → IsUtf8 (without_blanks bs)
+text_without_blanks bs u =
     let split = end_split (trim_start bs) in
-    end_text_by (trimmed bs) split.0 split.1 (subst IsUtf8 split.2 (start_text bs u))
+    end_text_by (without_blanks bs) split.0 split.1 (subst IsUtf8 split.2 (start_text bs u))

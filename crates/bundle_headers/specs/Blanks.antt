@@ -14,5 +14,5 @@ abbrev pub trim_end : List ℕ → List ℕ
 trim_end [] = []
 trim_end (b ∷ bs) = if is_blank (b ∷ bs) then [] else b ∷ trim_end bs
 
-abbrev pub trimmed : List ℕ → List ℕ
-trimmed bytes = trim_end (trim_start bytes)
+abbrev pub without_blanks : List ℕ → List ℕ
+without_blanks bytes = trim_end (trim_start bytes)

@@ -1,6 +1,6 @@
 -- The steps that the bytes of a list of clauses make.
 use Rattle.std.specs.Prelude.{ℕ, ◌==◌, ◌&&◌, Bool, not, List, [], ◌∷◌, ◌++◌, length, Option, Some, None, option_map, if◌then◌else◌}
-use Rattle.bundle_headers.specs.Blanks.{is_blank, trimmed}
+use Rattle.bundle_headers.specs.Blanks.{is_blank, without_blanks}
 use Rattle.bundle_headers.specs.Clauses.{ends_part, is_token_byte}
 use Rattle.bundle_headers.specs.declared.clause_reading.ClausesReading.{ClausesReading}
 use Rattle.bundle_headers.specs.declared.clause_reading.Front.{Front}
@@ -34,7 +34,7 @@ abbrev pub has_arguments : Clause → Bool
 has_arguments clause = not ((length clause.attributes == 0) && (length clause.directives == 0))
 
 abbrev pub token : List ℕ → Option (List ℕ)
-token bytes = if is_blank bytes then None else Some (trimmed bytes)
+token bytes = if is_blank bytes then None else Some (without_blanks bytes)
 
 abbrev pub add_path : Front → List ℕ → Front
 add_path front path = record front { clause = record front.clause { paths = front.clause.paths ++ path ∷ [] } }

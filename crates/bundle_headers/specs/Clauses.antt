@@ -1,7 +1,7 @@
 -- The texts of lists of clauses (OSGi Core 8, section 1.3.2 "General Syntax Definitions", and 3.2.4).
 use Rattle.std.specs.Prelude.{◌≡◌, ℕ, ◌<◌, ◌==◌, ◌||◌, ◌⊎◌, Bool, false, not, IsTrue, List, [], ◌∷◌, ◌++◌, length, map, flat_map, if◌then◌else◌, Result, Ok, Err}
 use Rattle.std.specs.List.{join_with_byte, list_all}
-use Rattle.bundle_headers.specs.Blanks.{is_blank, trimmed}
+use Rattle.bundle_headers.specs.Blanks.{is_blank, without_blanks}
 use Rattle.osgi_version.specs.Readings.{IsBadAt, IsRead}
 use Rattle.bundle_headers.specs.declared.clauses.Clause.{Clause}
 use Rattle.bundle_headers.specs.declared.clauses.Clauses.{Clauses}
@@ -25,7 +25,7 @@ abbrev pub IsTokenText : List ℕ → Type 0
 IsTokenText text = IsTrue (list_all is_token_byte text) × (is_blank text ≡ false)
 
 abbrev pub IsToken : List ℕ → List ℕ → Type 0
-IsToken text token = IsTokenText text × (token ≡ trimmed text)
+IsToken text token = IsTokenText text × (token ≡ without_blanks text)
 
 -- a byte between quotes: behind a backslash any, else neither a quote nor a backslash
 abbrev pub is_quoted_byte : Bool × ℕ → Bool
@@ -44,7 +44,7 @@ IsQuotedValue text value = (before : List ℕ) × (quote : List ℕ) × (behind 
     × (text ≡ before ++ (34 ∷ (quote ++ (34 ∷ behind))))
 
 abbrev pub IsPlainValue : List ℕ → List ℕ → Type 0
-IsPlainValue text value = IsTrue (list_all is_value_byte text) × (is_blank text ≡ false) × (value ≡ trimmed text)
+IsPlainValue text value = IsTrue (list_all is_value_byte text) × (is_blank text ≡ false) × (value ≡ without_blanks text)
 
 abbrev pub IsValue : List ℕ → List ℕ → Type 0
 IsValue text value = IsPlainValue text value ⊎ IsQuotedValue text value

@@ -4,7 +4,7 @@ use Rattle.std.specs.Char.{is_ascii_alphanumeric, to_ascii_lowercase}
 use Rattle.std.specs.List.{list_any}
 use Rattle.std.specs.Str.{bytes_eq, is_utf8}
 use Rattle.std.specs.Str.Lossy.{utf8_valid_len}
-use Rattle.bundle_headers.specs.Blanks.{trimmed}
+use Rattle.bundle_headers.specs.Blanks.{without_blanks}
 use Rattle.bundle_headers.specs.Folding.{joined, unfold_lines}
 use Rattle.bundle_headers.specs.Lines.{section}
 use Rattle.bundle_headers.specs.declared.fault.HeaderFault.{HeaderFault}
@@ -39,7 +39,7 @@ abbrev pub name_of : List ℕ → List ℕ
 name_of text = take (name_length text) text
 
 abbrev pub value_of : List ℕ → List ℕ
-value_of text = trimmed (drop (name_length text + 2) text)
+value_of text = without_blanks (drop (name_length text + 2) text)
 
 -- the same name, without ASCII case
 abbrev pub same_name : List ℕ → List ℕ → Bool

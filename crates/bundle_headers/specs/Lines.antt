@@ -29,8 +29,8 @@ lines_from number at (b ∷ bs) =
     if (b == 13) && starts_with_feed bs then ended_at at (lines_from number (at + 1) bs)
     else (if ends_line b then plain_line number at at ∷ lines_from (number + 1) (at + 1) bs else begun_at number at (lines_from number (at + 1) bs))
 
-abbrev pub has_text : Line → Bool
-has_text line = nat_lt line.start line.end
+abbrev pub is_filled : Line → Bool
+is_filled line = nat_lt line.start line.end
 
 -- a line that begins with a blank continues the one before, without that blank
 abbrev pub marked : List ℕ → Line → Line
@@ -38,7 +38,7 @@ marked bytes line = if slice_index bytes line.start == 32 then record line { con
 
 abbrev pub up_to_empty : List Line → List Line
 up_to_empty [] = []
-up_to_empty (line ∷ lines) = if has_text line then line ∷ up_to_empty lines else []
+up_to_empty (line ∷ lines) = if is_filled line then line ∷ up_to_empty lines else []
 
 -- the lines up to the first empty one
 abbrev pub section : List ℕ → List Line

@@ -1,21 +1,21 @@
 //! Blanks round a text.
 ghost use Rattle.std.specs.Prelude.{◌≡◌, IsUtf8};
-ghost use Rattle.bundle_headers.specs.Blanks.{is_blank, trim_end, trim_start, trimmed};
+ghost use Rattle.bundle_headers.specs.Blanks.{is_blank, trim_end, trim_start, without_blanks};
 
 use std::str;
 
 /// The bytes without the blanks before and behind them.
-pub(crate) fn trimmed(bytes: &[u8]) -> &[u8]
-    ensures { result.now ≡ trimmed bytes.now }
+pub(crate) fn without_blanks(bytes: &[u8]) -> &[u8]
+    ensures { result.now ≡ without_blanks bytes.now }
 {
     trim_end(trim_start(bytes))
 }
 
 /// The text without the blanks before and behind it. It takes no memory.
-pub fn trimmed_text(text: &str) -> &str
-    ensures { result.now ≡ trimmed text.now }
+pub fn text_without_blanks(text: &str) -> &str
+    ensures { result.now ≡ without_blanks text.now }
 {
-    text_of(trimmed(text.as_bytes()))
+    text_of(without_blanks(text.as_bytes()))
 }
 
 fn text_of(bytes: &[u8]) -> &str

@@ -4,7 +4,7 @@ ghost use Rattle.bundle_headers.specs.Blanks.{is_blank};
 ghost use Rattle.bundle_headers.specs.ClauseSteps.{after_part, behind_step, buffer_of, clauses_at_end, clauses_of, clauses_start, clauses_step, colon_step, empty_clause, has_arguments, name_in, open_step, quoted_step, token, typed_step, value_step, with_argument, with_path};
 ghost use Rattle.bundle_headers.specs.Clauses.{ends_part, is_token_byte};
 
-use crate::blanks::{is_blank, trimmed};
+use crate::blanks::{is_blank, without_blanks};
 use crate::header::str_of;
 use crate::{Clause, Clauses};
 use prop_map::{List, OutOfMemory, Str};
@@ -190,7 +190,7 @@ fn token(alloc: Global, bytes: List<u8>) -> Result<Option<Str>, OutOfMemory>
     if is_blank(bytes.as_slice()) {
         return Ok(None);
     }
-    Ok(Some(str_of(alloc, trimmed(bytes.as_slice()))?))
+    Ok(Some(str_of(alloc, without_blanks(bytes.as_slice()))?))
 }
 
 // The clauses with one more path, where one may stand here.

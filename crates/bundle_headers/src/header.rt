@@ -6,7 +6,7 @@ ghost use Rattle.std.specs.Str.{is_utf8};
 ghost use Rattle.std.specs.Str.Lossy.{utf8_valid_len};
 
 use crate::HeaderFault;
-use crate::blanks::trimmed;
+use crate::blanks::without_blanks;
 use crate::folding::Folded;
 use crate::headers::Headers;
 use crate::line::Line;
@@ -161,7 +161,7 @@ fn name_and_value(alloc: Global, text: &[u8]) -> Result<(Str, Str), OutOfMemory>
     let length = name_length(text);
     let (name, _) = text.split_at(length);
     let (_, value) = text.split_at(length + 2);
-    Ok((str_of(alloc, name)?, str_of(alloc, trimmed(value))?))
+    Ok((str_of(alloc, name)?, str_of(alloc, without_blanks(value))?))
 }
 
 /// A text of these bytes.

@@ -13,7 +13,7 @@ mod line;
 mod manifest;
 mod pairs;
 
-pub use blanks::trimmed_text;
+pub use blanks::text_without_blanks;
 pub use clauses::{Clause, Clauses};
 pub use fault::HeaderFault;
 pub use manifest::Manifest;

@@ -1,7 +1,6 @@
 pub mod BestOffers
 pub mod Machines
+pub mod OfferNames
 pub mod Rounds
-pub mod PlainVersions
-pub mod PaddedVersions
 pub mod VersionTexts
 pub mod WorkedWorlds

@@ -12,7 +12,7 @@ use Rattle.osgi_version.specs.declared.range.VersionRange.{VersionRange}
 use Rattle.osgi_version.specs.declared.version.Version.{Version}
 use Rattle.osgi_version.proofs.RangeReader.{range_reader}
 use Rattle.osgi_version.proofs.Readers.{IsReader, bad_at_end, bad_in, reads}
-use Rattle.bundle_wiring.proofs.PaddedVersions.{version_reader}
+use Rattle.osgi_version.proofs.VersionReader.{version_reader}
 use Rattle.bundle_wiring.specs.Readings.{IsReading}
 use Rattle.bundle_wiring.specs.Texts.{clauses_reading, range_reading, reach, reach_behind, reading_by, value_or_place, version_reading}
 

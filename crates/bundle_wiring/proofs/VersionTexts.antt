@@ -8,8 +8,11 @@ use Rattle.osgi_version.proofs.Readers.{run_more, run_none, run_whole}
 use Rattle.bundle_wiring.specs.Texts.{version_of}
 use Rattle.osgi_version.specs.Numbers.{with_digit}
 use Rattle.osgi_version.specs.Versions.{is_qualifier_byte}
-use Rattle.bundle_wiring.specs.Inside.{LiesWithin, after_dot, digit_step, part, reading_of, seen_step, seen_version, version_with, with_last}
-use Rattle.bundle_wiring.specs.VersionMachine.{Ahead, Inside, Behind as BehindAll, Number as InNumber, Qualifier as InQualifier, after_dot as dot_after, with_last as last_of, version_at_end, version_step}
+use Rattle.bundle_wiring.specs.Inside.{LiesWithin, after_dot, digit_step, numbers_before, part, reading_of, seen_step, seen_version, version_with, with_last}
+use Rattle.osgi_version.specs.ReadingStates.{behind, in_number, in_qualifier, inside}
+use Rattle.osgi_version.specs.Steps.{after_dot as dot_after, with_last as last_of}
+use Rattle.osgi_version.specs.VersionStart.{version_start}
+use Rattle.osgi_version.specs.VersionSteps.{version_at_end, version_step}
 use Rattle.bundle_wiring.specs.declared.version_text.Before.{Before}
 use Rattle.bundle_wiring.specs.declared.version_text.Before.TheVariants.{Major, Minor, Micro}
 use Rattle.bundle_wiring.specs.declared.version_text.Numbers.{Numbers}
@@ -47,7 +50,7 @@ empty_part : (text : List ℕ) (at : ℕ) → part text at at ≡ []
 empty_part text at = part_is at at text (omega arith) ∙ drop_front at text
 
 -- a version whose number goes on
-digit_goes : (text : List ℕ) (at : ℕ) (before : Before) (o : Option ℕ) → option_map (reading_of text at) (option_map (Number before) o) ≡ option_map Inside (option_map (InNumber before) o)
+digit_goes : (text : List ℕ) (at : ℕ) (before : Before) (o : Option ℕ) → option_map (reading_of text at) (option_map (Number before) o) ≡ option_map inside (option_map (in_number (numbers_before before)) o)
 digit_goes text at before None = refl
 digit_goes text at before (Some n) = refl
 
@@ -60,22 +63,22 @@ with_both P true x y h k = h
 with_both P false x y h k = k
 
 qualifier_if : (text : List ℕ) (at : ℕ) (ns : Numbers) (start : ℕ) (q r : List ℕ) (c : Bool) → part text start at ≡ r
-    → option_map (reading_of text at) (if c then Some (Qualifier ns start) else None) ≡ option_map Inside (if c then Some (InQualifier (record (version_with ns q) { qualifier = r })) else None)
-qualifier_if text at ns start q r true e = ap (λ s. Some (Inside (InQualifier (version_with ns s)))) e
+    → option_map (reading_of text at) (if c then Some (Qualifier ns start) else None) ≡ option_map inside (if c then Some (in_qualifier (record (version_with ns q) { qualifier = r })) else None)
+qualifier_if text at ns start q r true e = ap (λ s. Some (inside (in_qualifier (version_with ns s)))) e
 qualifier_if text at ns start q r false e = refl
 
-dot_if : (text : List ℕ) (at : ℕ) (before : Before) (n : ℕ) → option_map (reading_of text at) (Some (after_dot before n)) ≡ option_map Inside (Some (dot_after before n))
+dot_if : (text : List ℕ) (at : ℕ) (before : Before) (n : ℕ) → option_map (reading_of text at) (Some (after_dot before n)) ≡ option_map inside (Some (dot_after (numbers_before before) n))
 dot_if text at Major n = refl
 dot_if text at (Minor a) n = refl
 dot_if text at (Micro a b) n = refl
 
-last_same : (before : Before) (n : ℕ) → version_with (with_last before n) [] ≡ last_of before n
+last_same : (before : Before) (n : ℕ) → version_with (with_last before n) [] ≡ last_of (numbers_before before) n
 last_same Major n = refl
 last_same (Minor a) n = refl
 last_same (Micro a b) n = refl
 
 number_if : (text : List ℕ) (at b : ℕ) (before : Before) (n : ℕ) (c : Bool)
-    → option_map (reading_of text at) (if c then Some (after_dot before n) else digit_step before n b) ≡ option_map Inside (if c then Some (dot_after before n) else option_map (InNumber before) (with_digit n b))
+    → option_map (reading_of text at) (if c then Some (after_dot before n) else digit_step before n b) ≡ option_map inside (if c then Some (dot_after (numbers_before before) n) else option_map (in_number (numbers_before before)) (with_digit n b))
 number_if text at b before n true = dot_if text at before n
 number_if text at b before n false = digit_goes text at before (with_digit n b)
 
@@ -85,7 +88,7 @@ pub step_goes : (text : List ℕ) (at : ℕ) (s : Seen) (b : ℕ) → LiesWithin
 step_goes text at Blanks b lies k e = map_if (option_map (reading_of text (at + 1))) (b == 32) _ _ _ _ refl (digit_goes text (at + 1) Major (with_digit 0 b))
 step_goes text at (NumberDue before) b lies k e = map_if (option_map (reading_of text (at + 1))) (b == 32) _ _ _ _ refl (digit_goes text (at + 1) before (with_digit 0 b))
 step_goes text at (Number before n) b lies k e =
-    map_if (option_map (reading_of text (at + 1))) (b == 32) _ _ _ _ (ap (λ v. Some (BehindAll v)) (last_same before n)) (number_if text (at + 1) b before n (b == 46))
+    map_if (option_map (reading_of text (at + 1))) (b == 32) _ _ _ _ (ap (λ v. Some (behind v)) (last_same before n)) (number_if text (at + 1) b before n (b == 46))
 step_goes text at (QualifierDue ns) b lies k e =
     map_if (option_map (reading_of text (at + 1))) (b == 32) _ _ _ _ refl
     (qualifier_if text (at + 1) ns at [] (b ∷ []) (is_qualifier_byte b) (part_more text at at (omega arith) k ∙ ap (λ q. q ++ get_or text at 0 ∷ []) (empty_part text at) ∙ ap (λ c. c ∷ []) e))
@@ -129,21 +132,21 @@ end_same text at (Qualifier ns start) = refl
 end_same text at (Behind ns start end) = refl
 
 abbrev pub Led : List ℕ → ℕ → Seen → Type 0
-Led text at s = run version_step Ahead (take at text) ≡ Some (reading_of text at s)
+Led text at s = run version_step version_start (take at text) ≡ Some (reading_of text at s)
 
 pub led_on : (text : List ℕ) (at : ℕ) (s : Seen) (b : ℕ) (next : Seen) → at < length text → get_or text at 0 ≡ b → LiesWithin at s → Led text at s → seen_step at s b ≡ Some next → Led text (at + 1) next
 led_on text at s b next k e lies led is =
-    run_more version_step Ahead (reading_of text at s) text at k led
+    run_more version_step version_start (reading_of text at s) text at k led
     ∙ (ap (version_step (reading_of text at s)) e ∙ (sym (step_goes text at s b lies k e) ∙ ap (option_map (reading_of text (at + 1))) is))
 
 pub stopped : (text : List ℕ) (at : ℕ) (s : Seen) (b : ℕ) → at < length text → get_or text at 0 ≡ b → LiesWithin at s → Led text at s → seen_step at s b ≡ None → version_of text ≡ None
 stopped text at s b k e lies led is =
-    let ends : run version_step Ahead (take (at + 1) text) ≡ None =
-    run_more version_step Ahead (reading_of text at s) text at k led
+    let ends : run version_step version_start (take (at + 1) text) ≡ None =
+    run_more version_step version_start (reading_of text at s) text at k led
     ∙ (ap (version_step (reading_of text at s)) e ∙ (sym (step_goes text at s b lies k e) ∙ ap (option_map (reading_of text (at + 1))) is)) in
     let split : text ≡ take (at + 1) text ++ drop (at + 1) text = sym (take-append-drop (at + 1) text) in
-    ap (option_and_then version_at_end) (ap (run version_step Ahead) split ∙ run_none version_step Ahead (take (at + 1) text) (drop (at + 1) text) ends)
+    ap (option_and_then version_at_end) (ap (run version_step version_start) split ∙ run_none version_step version_start (take (at + 1) text) (drop (at + 1) text) ends)
 
 pub ended_with : (text : List ℕ) (at : ℕ) (s : Seen) → length text ≤ at → Led text at s → version_of text ≡ seen_version text at s
 ended_with text at s k led =
-    ap (option_and_then version_at_end) (run_whole version_step Ahead (reading_of text at s) text text at k refl led) ∙ end_same text at s
+    ap (option_and_then version_at_end) (run_whole version_step version_start (reading_of text at s) text text at k refl led) ∙ end_same text at s

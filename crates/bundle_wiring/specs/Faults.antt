@@ -8,11 +8,6 @@ abbrev pub Reads : {T : Type 0} → Result T WireFault → Result T WireFault �
 Reads (Ok value) meaning = meaning ≡ Ok value
 Reads (Err fault) meaning = fault ≢ OutOfMemory → meaning ≡ Err fault
 
--- the value, and then what is read with it; or the first fault
-abbrev pub after : {A B : Type 0} → Result A WireFault → (A → Result B WireFault) → Result B WireFault
-after (Ok a) next = next a
-after (Err fault) next = Err fault
-
 -- a place as a fault
 abbrev pub fault_at : {A : Type 0} → (ℕ → WireFault) → Result A ℕ → Result A WireFault
 fault_at fault (Ok a) = Ok a

@@ -3,7 +3,8 @@ use Rattle.std.specs.Prelude.{ℕ, ◌≤◌, ◌==◌, List, [], slice_range, O
 use Rattle.osgi_version.specs.Numbers.{with_digit}
 use Rattle.osgi_version.specs.Versions.{is_qualifier_byte}
 use Rattle.osgi_version.specs.declared.version.Version.{Version}
-use Rattle.bundle_wiring.specs.VersionMachine.{Padded, Ahead, Inside, Behind as BehindAll, NumberDue as DueNumber, Number as InNumber, QualifierDue as DueQualifier, Qualifier as InQualifier}
+use Rattle.osgi_version.specs.ReadingStates.{NumbersBefore, VersionState, behind, in_number, in_qualifier, inside, major_before, minor_before, none_before, number_due, qualifier_due}
+use Rattle.osgi_version.specs.VersionStart.{version_start}
 use Rattle.bundle_wiring.specs.declared.version_text.Numbers.{Numbers}
 use Rattle.bundle_wiring.specs.declared.version_text.Before.{Before}
 use Rattle.bundle_wiring.specs.declared.version_text.Before.TheVariants.{Major, Minor, Micro}
@@ -53,14 +54,19 @@ version_with ns qualifier = record { major = ns.major; minor = ns.minor; micro =
 abbrev pub part : List ℕ → ℕ → ℕ → List ℕ
 part text start end = slice_range text start end
 
+abbrev pub numbers_before : Before → NumbersBefore
+numbers_before Major = none_before
+numbers_before (Minor a) = major_before a
+numbers_before (Micro a b) = minor_before a b
+
 -- where the machine of `osgi_version` stands behind the first bytes of a text
-abbrev pub reading_of : List ℕ → ℕ → Seen → Padded
-reading_of text at Blanks = Ahead
-reading_of text at (NumberDue before) = Inside (DueNumber before)
-reading_of text at (Number before n) = Inside (InNumber before n)
-reading_of text at (QualifierDue ns) = Inside (DueQualifier (version_with ns []))
-reading_of text at (Qualifier ns start) = Inside (InQualifier (version_with ns (part text start at)))
-reading_of text at (Behind ns start end) = BehindAll (version_with ns (part text start end))
+abbrev pub reading_of : List ℕ → ℕ → Seen → VersionState
+reading_of text at Blanks = version_start
+reading_of text at (NumberDue before) = inside (number_due (numbers_before before))
+reading_of text at (Number before n) = inside (in_number (numbers_before before) n)
+reading_of text at (QualifierDue ns) = inside (qualifier_due (version_with ns []))
+reading_of text at (Qualifier ns start) = inside (in_qualifier (version_with ns (part text start at)))
+reading_of text at (Behind ns start end) = behind (version_with ns (part text start end))
 
 -- the version that was read, where it may end here
 abbrev pub seen_version : List ℕ → ℕ → Seen → Option Version

@@ -6,6 +6,5 @@ pub mod Readings
 pub mod Resolution
 pub mod Rounds
 pub mod Texts
-pub mod VersionMachine
 pub mod Versioned
 pub mod Wirings

@@ -9,7 +9,8 @@ use Rattle.osgi_version.proofs.RangeReader.{range_reader}
 use Rattle.osgi_version.proofs.Readers.{IsReader}
 use Rattle.osgi_version.specs.declared.range.VersionRange.{VersionRange}
 use Rattle.osgi_version.specs.declared.version.Version.{Version}
-use Rattle.bundle_wiring.specs.VersionMachine.{Ahead, version_at_end, version_step}
+use Rattle.osgi_version.specs.VersionStart.{version_start}
+use Rattle.osgi_version.specs.VersionSteps.{version_at_end, version_step}
 
 -- none behind a step that isn't made, else one more than behind it
 abbrev pub reach_behind : {S : Type 0} → (S → ℕ) → Option S → ℕ
@@ -30,10 +31,10 @@ abbrev pub reading_by : {S V : Type 0} → (S → ℕ → Option S) → (S → O
 reading_by step at_end start text = value_or_place (reach step start text) (option_and_then at_end (run step start text))
 
 abbrev pub version_of : List ℕ → Option Version
-version_of text = option_and_then version_at_end (run version_step Ahead text)
+version_of text = option_and_then version_at_end (run version_step version_start text)
 
 abbrev pub version_reading : List ℕ → Result Version ℕ
-version_reading text = reading_by version_step version_at_end Ahead text
+version_reading text = reading_by version_step version_at_end version_start text
 
 -- where the machine of a reader begins
 abbrev pub start_of : {S V : Type 0} {step : S → ℕ → Option S} {at_end : S → Option V} {start : S} {Spelled : List ℕ → V → Type 0} → IsReader step at_end start Spelled → S

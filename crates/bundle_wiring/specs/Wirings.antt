@@ -14,7 +14,8 @@ use Rattle.prop_map.specs.declared.properties.Property.{Property}
 use Rattle.prop_map.specs.declared.value.Value.TheVariants.{Text}
 use Rattle.prop_map.specs.Maps.{put}
 use Rattle.text_index.specs.Texts.{has_text}
-use Rattle.bundle_wiring.specs.Faults.{after, fault_at}
+use Rattle.prop_map.specs.Words.{after}
+use Rattle.bundle_wiring.specs.Faults.{fault_at}
 use Rattle.bundle_wiring.specs.Texts.{clauses_reading, range_reading, version_reading}
 use Rattle.bundle_wiring.specs.declared.fault.WireFault.{WireFault}
 use Rattle.bundle_wiring.specs.declared.fault.WireFault.TheVariants.{BadClause, BadFilter, BadVersion, DuplicateImport}

@@ -1,10 +1,14 @@
 //! The bundles that resolve together (OSGi Core 8, chapter 3 "Module Layer", "Resolving Process").
-ghost use Rattle.bundle_wiring.specs.Resolution.{Bundle, IsResolution, has_candidate, is_met, meets, platform_offer, platform_offers, version_of_numbers};
+ghost use Rattle.bundle_wiring.specs.Placing.{is_met_by, name_cmp, placed_of, some_placed};
+ghost use Rattle.bundle_wiring.specs.Resolution.{Bundle, IsResolution, is_met, meets, platform_offer, platform_offers, version_of_numbers};
 ghost use Rattle.bundle_wiring.specs.Rounds.{IsGreatestSet};
 ghost use Rattle.std.specs.List.{list_any};
+ghost use Rattle.std.specs.List.Sorted.{IsSorted};
 ghost use Rattle.std.specs.Prelude.{◌≡◌, IfOk, filter, map};
 
 use crate::matching::meets;
+use crate::offer_names::{named, offers_by_name};
+use crate::placed_offers::PlacedOffer;
 use crate::wires::wires_of;
 use crate::{Offer, Resolved, WireNeed, Wiring};
 use osgi_version::{Qualifier, Version};
@@ -46,7 +50,7 @@ fn numbers_of(alloc: Global, set: &[&(u64, Wiring)]) -> Result<Vec<u64>, OutOfMe
 // Bundles whose needs aren't met go, round by round, until all that are left have theirs met.
 fn greatest<'b>(
     alloc: Global,
-    platform: &[Offer],
+    platform: &'b [Offer],
     bundles: &'b [(u64, Wiring)],
 ) -> Result<Vec<&'b (u64, Wiring)>, OutOfMemory>
     requires { platform.now ≡ platform_offers }
@@ -78,55 +82,56 @@ fn all_of<'b>(
 // The bundles of a set whose needs are met in it.
 fn met_in<'b>(
     alloc: Global,
-    platform: &[Offer],
+    platform: &'b [Offer],
     set: &[&'b (u64, Wiring)],
 ) -> Result<Vec<&'b (u64, Wiring)>, OutOfMemory>
     requires { platform.now ≡ platform_offers }
     ensures { IfOk result (λ met. map (λ b. b.now) met.items ≡ filter (is_met (map (λ b. b.now) set.now)) (map (λ b. b.now) set.now)) }
 {
+    let offers = offers_by_name(alloc, platform, set)?;
+    met_by(alloc, offers.as_slice(), set)
+}
+
+fn met_by<'b>(
+    alloc: Global,
+    offers: &[PlacedOffer],
+    set: &[&'b (u64, Wiring)],
+) -> Result<Vec<&'b (u64, Wiring)>, OutOfMemory>
+    requires { IsSorted name_cmp offers.now }
+    ensures { IfOk result (λ met. map (λ b. b.now) met.items ≡ filter (is_met_by (map placed_of offers.now)) (map (λ b. b.now) set.now)) }
+{
     let mut met = Vec::new(alloc);
     for bundle in set {
-        if is_met(platform, set, bundle) {
+        if is_met(offers, bundle) {
             met.push(*bundle)?;
         }
     }
     Ok(met)
 }
 
-fn is_met(platform: &[Offer], set: &[&(u64, Wiring)], bundle: &(u64, Wiring)) -> bool
-    requires { platform.now ≡ platform_offers }
-    ensures { result ≡ is_met (map (λ b. b.now) set.now) bundle.now }
+fn is_met(offers: &[PlacedOffer], bundle: &(u64, Wiring)) -> bool
+    requires { IsSorted name_cmp offers.now }
+    ensures { result ≡ is_met_by (map placed_of offers.now) bundle.now }
 {
     for need in bundle.1.needs.as_slice() {
-        if !need.optional && !has_candidate(platform, set, need) {
+        if !need.optional && !has_candidate(offers, need) {
             return false;
         }
     }
     true
 }
 
-fn has_candidate(platform: &[Offer], set: &[&(u64, Wiring)], need: &WireNeed) -> bool
-    requires { platform.now ≡ platform_offers }
-    ensures { result ≡ has_candidate (map (λ b. b.now) set.now) need.now }
+fn has_candidate(offers: &[PlacedOffer], need: &WireNeed) -> bool
+    requires { IsSorted name_cmp offers.now }
+    ensures { result ≡ some_placed (map placed_of offers.now) need.now }
 {
-    some_meets(platform, need) || some_offers(set, need)
+    some_meets(named(offers, need.name.as_str()), need)
 }
 
-fn some_offers(set: &[&(u64, Wiring)], need: &WireNeed) -> bool
-    ensures { result ≡ list_any (λ (b : Bundle). list_any (meets need.now) b.1.offers) (map (λ b. b.now) set.now) }
+fn some_meets(offers: &[PlacedOffer], need: &WireNeed) -> bool
+    ensures { result ≡ list_any (λ o. meets need.now o.offer.now) offers.now }
 {
-    for bundle in set {
-        if some_meets(bundle.1.offers.as_slice(), need) {
-            return true;
-        }
-    }
-    false
-}
-
-fn some_meets(offers: &[Offer], need: &WireNeed) -> bool
-    ensures { result ≡ list_any (meets need.now) offers.now }
-{
-    offers.iter().any(|offer| meets(need, offer))
+    offers.iter().any(|offer| meets(need, offer.offer))
 }
 
 fn platform_offers(alloc: Global) -> Result<Vec<Offer>, OutOfMemory>

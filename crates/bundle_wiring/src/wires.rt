@@ -1,22 +1,18 @@
 //! The wires of bundles that resolve together.
 ghost use Rattle.bundle_wiring.specs.Best.{IsBest};
-ghost use Rattle.bundle_wiring.specs.Placing.{placed_of};
-ghost use Rattle.bundle_wiring.specs.Resolution.{Placed, all_placed, best, better_of, candidates, placed_cmp, placed_from, platform_offers, wire_of, wires_from, wires_of};
+ghost use Rattle.bundle_wiring.specs.Placing.{name_cmp, placed_of};
+ghost use Rattle.bundle_wiring.specs.Resolution.{Bundle, Placed, best, better_of, candidates, placed_cmp, platform_offers, wire_of, wires_from, wires_of};
+ghost use Rattle.std.specs.List.{flat_map};
+ghost use Rattle.std.specs.List.Sorted.{IsSorted};
 ghost use Rattle.std.specs.Prelude.{◌≡◌, ◌++◌, List, [], Some, None, map, option_map, IfOk, OnOk};
 
 use crate::matching::meets;
+use crate::offer_names::{named, offers_by_name};
+use crate::placed_offers::PlacedOffer;
 use crate::{Offer, Wire, WireNeed, Wiring};
 use prop_map::OutOfMemory;
 use std::alloc::Global;
 use std::cmp::Ordering;
-
-/// An offer, the number of the bundle that makes it, and its place among those of the bundle.
-#[derive(Clone, Copy)]
-pub(crate) struct PlacedOffer<'b> {
-    pub(crate) to: u64,
-    pub(crate) place: usize,
-    pub(crate) offer: &'b Offer,
-}
 
 /// For contracts alone: the best of several offers is one of them, and none of them is better. Only of none there is no
 /// best.
@@ -29,54 +25,31 @@ pub fn note_best()
 ///
 /// # Errors
 /// Only want of memory.
-pub(crate) fn wires_of(
+pub(crate) fn wires_of<'b>(
     alloc: Global,
-    platform: &[Offer],
-    set: &[&(u64, Wiring)],
+    platform: &'b [Offer],
+    set: &[&'b (u64, Wiring)],
 ) -> Result<Vec<Wire>, OutOfMemory>
     requires { platform.now ≡ platform_offers }
     ensures { IfOk result (λ wires. wires.items ≡ wires_of (map (λ b. b.now) set.now)) }
 {
-    let offers = all_placed(alloc, platform, set)?;
+    let offers = offers_by_name(alloc, platform, set)?;
+    wires_by(alloc, offers.as_slice(), set)
+}
+
+fn wires_by(
+    alloc: Global,
+    offers: &[PlacedOffer],
+    set: &[&(u64, Wiring)],
+) -> Result<Vec<Wire>, OutOfMemory>
+    requires { IsSorted name_cmp offers.now }
+    ensures { IfOk result (λ wires. wires.items ≡ flat_map (λ (b : Bundle). wires_from (map placed_of offers.now) b.0 0 b.1.needs) (map (λ b. b.now) set.now)) }
+{
     let mut wires = Vec::new(alloc);
     for bundle in set {
-        push_wires(
-            &mut wires,
-            offers.as_slice(),
-            bundle.0,
-            bundle.1.needs.as_slice(),
-        )?;
+        push_wires(&mut wires, offers, bundle.0, bundle.1.needs.as_slice())?;
     }
     Ok(wires)
-}
-
-fn all_placed<'b>(
-    alloc: Global,
-    platform: &'b [Offer],
-    set: &[&'b (u64, Wiring)],
-) -> Result<Vec<PlacedOffer<'b>>, OutOfMemory>
-    requires { platform.now ≡ platform_offers }
-    ensures { IfOk result (λ offers. map placed_of offers.items ≡ all_placed (map (λ b. b.now) set.now)) }
-{
-    let mut offers = Vec::new(alloc);
-    push_placed(&mut offers, 0, platform)?;
-    for bundle in set {
-        push_placed(&mut offers, bundle.0, bundle.1.offers.as_slice())?;
-    }
-    Ok(offers)
-}
-
-fn push_placed<'b>(
-    placed: &mut Vec<PlacedOffer<'b>>,
-    to: u64,
-    offers: &'b [Offer],
-) -> Result<(), OutOfMemory>
-    ensures { OnOk result (map placed_of placed.new.items ≡ map placed_of placed.old.items ++ placed_from to 0 offers.now) }
-{
-    for (place, offer) in offers.iter().enumerate() {
-        placed.push(PlacedOffer { to, place, offer })?;
-    }
-    Ok(())
 }
 
 fn push_wires(
@@ -85,6 +58,7 @@ fn push_wires(
     from: u64,
     needs: &[WireNeed],
 ) -> Result<(), OutOfMemory>
+    requires { IsSorted name_cmp offers.now }
     ensures { OnOk result (wires.new.items ≡ wires.old.items ++ wires_from (map placed_of offers.now) from 0 needs.now) }
 {
     for (place, need) in needs.iter().enumerate() {
@@ -100,9 +74,10 @@ fn push_wire(
     place: usize,
     need: &WireNeed,
 ) -> Result<(), OutOfMemory>
+    requires { IsSorted name_cmp offers.now }
     ensures { OnOk result (wires.new.items ≡ wires.old.items ++ wire_of from place (best (candidates (map placed_of offers.now) need.now))) }
 {
-    if let Some(best) = best(offers, need) {
+    if let Some(best) = best_named(offers, need) {
         wires.push(Wire {
             from,
             need: place,
@@ -111,6 +86,14 @@ fn push_wire(
         })?;
     }
     Ok(())
+}
+
+// The best candidate for a need, sought among the offers of its name alone.
+fn best_named<'b>(offers: &[PlacedOffer<'b>], need: &WireNeed) -> Option<PlacedOffer<'b>>
+    requires { IsSorted name_cmp offers.now }
+    ensures { option_map placed_of result ≡ best (candidates (map placed_of offers.now) need.now) }
+{
+    best(named(offers, need.name.as_str()), need)
 }
 
 // The best candidate for a need.

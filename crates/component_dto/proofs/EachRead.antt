@@ -4,7 +4,8 @@ use Rattle.std.proofs.lemmas.List.{drop_all}
 use Rattle.serde_json.specs.Data.{Data}
 use Rattle.serde_json.specs.View.{view, items_view}
 use Rattle.serde_json.specs.declared.value.Value.{Value}
-use Rattle.component_dto.specs.Fields.{after, each_read}
+use Rattle.prop_map.specs.Words.{after}
+use Rattle.component_dto.specs.Fields.{each_read}
 
 -- the whole list is read as what was found so far and what the rest is read as
 pub record SoFar {T F : Type 0} (reading : Data → Result T F) (items : List Value) (found : List T) (at : ℕ) : Type 0 where

@@ -18,7 +18,8 @@ use Rattle.component_dto.specs.declared.fault.DescriptionFault.TheVariants.{Wron
 use Rattle.component_dto.specs.declared.given_fields.GivenFields.{GivenFields}
 use Rattle.component_dto.specs.declared.given_fields.LifeFields.{LifeFields}
 use Rattle.component_dto.specs.declared.references.ReferenceFields.{ReferenceFields}
-use Rattle.component_dto.specs.Fields.{after, flag_at, given, if_given, needed_text_at, or_empty, text_at, texts_at, word_at}
+use Rattle.prop_map.specs.Words.{after}
+use Rattle.component_dto.specs.Fields.{flag_at, given, if_given, needed_text_at, or_empty, text_at, texts_at, word_at}
 use Rattle.component_dto.specs.References.{references_at}
 use Rattle.component_dto.specs.Rules.{is_immediate, is_implicit, rules}
 use Rattle.component_dto.specs.TextLists.{each_once}

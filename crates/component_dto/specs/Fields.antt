@@ -3,6 +3,7 @@ use Rattle.std.specs.Prelude.{ℕ, List, [], ◌∷◌, Bool, Option, Some, None
 use Rattle.serde_json.specs.Data.{Data, null, boolean, number, string, array, object, Items, no_items, item}
 use Rattle.serde_json.specs.Find.{get, as_bool, as_str, as_array}
 use Rattle.prop_map.specs.JsonProperties.{each}
+use Rattle.prop_map.specs.Words.{after}
 use Rattle.component_dto.specs.declared.fault.DescriptionFault.{DescriptionFault}
 use Rattle.component_dto.specs.declared.fault.DescriptionFault.TheVariants.{MissingField, WrongType, BadWord}
 
@@ -18,11 +19,6 @@ not_null (object ms) = Some (object ms)
 -- the value of a field, where it is there and isn't null
 abbrev pub given : List ℕ → Data → Option Data
 given field d = option_and_then not_null (get field d)
-
--- what follows, unless there is a fault
-abbrev pub after : {A B F : Type 0} → Result A F → (A → Result B F) → Result B F
-after (Ok x) next = next x
-after (Err fault) next = Err fault
 
 -- what is there, or this fault
 abbrev pub or_fault : {T F : Type 0} → F → Option T → Result T F

@@ -11,7 +11,8 @@ use Rattle.component_dto.specs.declared.fault.DescriptionFault.{DescriptionFault
 use Rattle.component_dto.specs.declared.fault.DescriptionFault.TheVariants.{WrongType}
 use Rattle.component_dto.specs.declared.references.ReferenceFields.{ReferenceFields}
 use Rattle.component_dto.specs.declared.references.ReferenceScope.TheVariants.{Bundle}
-use Rattle.component_dto.specs.Fields.{after, each_read, filled, given, if_given, needed_text_at, or_empty, or_fault, text_at, word_at}
+use Rattle.prop_map.specs.Words.{after}
+use Rattle.component_dto.specs.Fields.{each_read, filled, given, if_given, needed_text_at, or_empty, or_fault, text_at, word_at}
 use Rattle.component_dto.specs.Words.{cardinality_of, policy_of, policy_option_of, reference_scope_of}
 
 -- the fields of a reference in order, with their defaults, or the first that is at fault

@@ -1,6 +1,6 @@
 -- The rules on a description's fields that say how they go together. Our own words.
 use Rattle.std.specs.Prelude.{ℕ, ◌==◌, ◌&&◌, nat_lt, List, [], ◌∷◌, length, map, codes, Bool, true, false, not, Option, Some, None, option_map, if◌then◌else◌, Result, Ok, Err}
-use Rattle.std.specs.Option.{is_some, unwrap_or}
+use Rattle.std.specs.Option.{is_some, option_or, unwrap_or}
 use Rattle.std.specs.Str.{bytes_eq}
 use Rattle.component_dto.specs.declared.description.Scope.{Scope}
 use Rattle.component_dto.specs.declared.description.Scope.TheVariants.{Singleton, Bundle, Prototype}
@@ -10,7 +10,7 @@ use Rattle.component_dto.specs.declared.given_fields.GivenFields.{GivenFields}
 use Rattle.component_dto.specs.declared.references.ReferenceFields.{ReferenceFields}
 use Rattle.component_dto.specs.declared.references.ReferenceScope.{ReferenceScope}
 use Rattle.component_dto.specs.declared.references.ReferenceScope.TheVariants.{Bundle as ForBundle, Prototype as ForUse, PrototypeRequired}
-use Rattle.component_dto.specs.Fields.{after}
+use Rattle.prop_map.specs.Words.{after}
 use Rattle.component_dto.specs.Targets.{bad_target}
 use Rattle.component_dto.specs.TextLists.{first_repeated}
 
@@ -57,14 +57,10 @@ refused broken fault = if broken then Err fault else Ok tt
 abbrev pub is_never_made : GivenFields → Bool
 is_never_made f = not (unwrap_or f.immediate true) && (length f.service_interfaces == 0)
 
-abbrev pub first_some : {T : Type 0} → Option T → Option T → Option T
-first_some None other = other
-first_some (Some x) other = Some x
-
 -- what is wrong with the first target that is no filter
 abbrev pub bad_target_of : List ReferenceFields → Option DescriptionFault
 bad_target_of [] = None
-bad_target_of (r ∷ rs) = first_some (option_map (BadTarget r.reference.name) (bad_target r.reference.target)) (bad_target_of rs)
+bad_target_of (r ∷ rs) = option_or (option_map (BadTarget r.reference.name) (bad_target r.reference.target)) (bad_target_of rs)
 
 -- the rules in order: the first that is broken tells
 abbrev pub rules : GivenFields → Result (Unit {0}) DescriptionFault

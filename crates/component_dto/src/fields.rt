@@ -7,7 +7,6 @@ ghost use Rattle.component_dto.specs.Faults.{Reads};
 ghost use Rattle.component_dto.specs.Fields.{flag_at, given, needed_text_at, text_at, texts_at, texts_in, word_at, word_in};
 
 use crate::DescriptionFault;
-use crate::text_lists::spelled;
 use crate::words::Word;
 use prop_map::{List, OutOfMemory, Str};
 use serde_json::Value;
@@ -37,9 +36,9 @@ pub(crate) fn text_at(
     match given(json, field) {
         None => Ok(None),
         Some(value) => match value.as_str() {
-            Some(text) => Ok(Some(spelled(alloc, text)?)),
+            Some(text) => Ok(Some(Str::spell(alloc, text)?)),
             None => Err(DescriptionFault::WrongType {
-                field: spelled(alloc, field)?,
+                field: Str::spell(alloc, field)?,
             }),
         },
     }
@@ -59,7 +58,7 @@ pub(crate) fn needed_text_at(
     match text_at(alloc, json, field)? {
         Some(text) if !text.as_str().is_empty() => Ok(text),
         _ => Err(DescriptionFault::MissingField {
-            field: spelled(alloc, field)?,
+            field: Str::spell(alloc, field)?,
         }),
     }
 }
@@ -80,7 +79,7 @@ pub(crate) fn flag_at(
         Some(value) => match value.as_bool() {
             Some(flag) => Ok(Some(flag)),
             None => Err(DescriptionFault::WrongType {
-                field: spelled(alloc, field)?,
+                field: Str::spell(alloc, field)?,
             }),
         },
     }
@@ -112,7 +111,7 @@ fn texts_in(alloc: Global, value: &Value, field: &str) -> Result<List<Str>, Desc
         }
     }
     Err(DescriptionFault::WrongType {
-        field: spelled(alloc, field)?,
+        field: Str::spell(alloc, field)?,
     })
 }
 
@@ -122,7 +121,7 @@ fn each_text(alloc: Global, items: &[Value]) -> Result<Option<List<Str>>, OutOfM
     let mut found = Vec::new(alloc);
     for item in items {
         match item.as_str() {
-            Some(text) => found.push(spelled(alloc, text)?)?,
+            Some(text) => found.push(Str::spell(alloc, text)?)?,
             None => return Ok(None),
         }
     }
@@ -153,11 +152,11 @@ fn word_in<W: Word>(alloc: Global, value: &Value, field: &str) -> Result<W, Desc
         Some(text) => match W::of_word(text) {
             Some(word) => Ok(word),
             None => Err(DescriptionFault::BadWord {
-                field: spelled(alloc, field)?,
+                field: Str::spell(alloc, field)?,
             }),
         },
         None => Err(DescriptionFault::WrongType {
-            field: spelled(alloc, field)?,
+            field: Str::spell(alloc, field)?,
         }),
     }
 }

@@ -8,7 +8,7 @@ ghost use Rattle.component_dto.specs.Faults.{Reads};
 use crate::configuration_pids::pids_of;
 use crate::fields::{flag_at, given, needed_text_at, text_at, texts_at, word_at};
 use crate::references::{ReferenceFields, references_at};
-use crate::text_lists::{each_once, spelled};
+use crate::text_lists::each_once;
 use crate::{ConfigurationPolicy, DescriptionFault, Scope};
 use prop_map::{Copies, List, OutOfMemory, PropFault, Properties, Str};
 use serde_json::Value;
@@ -118,7 +118,7 @@ fn properties_in(alloc: Global, value: &Value, field: &str) -> Result<Properties
         Ok(properties) => Ok(properties),
         Err(PropFault::OutOfMemory) => Err(DescriptionFault::OutOfMemory),
         Err(PropFault::NotObject) => Err(DescriptionFault::WrongType {
-            field: spelled(alloc, field)?,
+            field: Str::spell(alloc, field)?,
         }),
         Err(fault) => Err(DescriptionFault::BadProperty { fault }),
     }

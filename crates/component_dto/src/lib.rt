@@ -17,4 +17,4 @@ pub use description::{ConfigurationPolicy, Description, Reference, Scope};
 pub use fault::DescriptionFault;
 pub use fields::given;
 pub use reading::read_description;
-pub use text_lists::{each_once, first_repeated, spelled};
+pub use text_lists::{each_once, first_repeated};

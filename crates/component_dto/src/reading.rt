@@ -8,9 +8,8 @@ ghost use Rattle.component_dto.specs.declared.references.ReferenceFields.{Refere
 use crate::given_fields::{GivenFields, given_fields};
 use crate::references::ReferenceFields;
 use crate::rules::is_implicit;
-use crate::text_lists::spelled;
 use crate::{Description, DescriptionFault, Reference};
-use prop_map::{List, OutOfMemory};
+use prop_map::{List, OutOfMemory, Str};
 use serde_json::Value;
 use std::alloc::Global;
 
@@ -35,7 +34,7 @@ pub fn read_description(alloc: Global, json: &Value) -> Result<Description, Desc
 {
     if !json.is_object() {
         return Err(DescriptionFault::WrongType {
-            field: spelled(alloc, "component")?,
+            field: Str::spell(alloc, "component")?,
         });
     }
     let fields = given_fields(alloc, json)?;

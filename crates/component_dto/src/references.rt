@@ -6,7 +6,6 @@ ghost use Rattle.component_dto.specs.Fields.{each_read, filled};
 ghost use Rattle.component_dto.specs.References.{are_objects, reference_fields, references_at, references_in};
 
 use crate::fields::{given, needed_text_at, text_at, word_at};
-use crate::text_lists::spelled;
 use crate::{DescriptionFault, Reference};
 use prop_map::{Cardinality, Copies, List, Policy, PolicyOption, Str};
 use serde_json::Value;
@@ -57,7 +56,7 @@ fn references_in(
     match value.as_array() {
         Some(items) if are_objects(items.as_slice()) => each_reference(alloc, items.as_slice()),
         _ => Err(DescriptionFault::WrongType {
-            field: spelled(alloc, field)?,
+            field: Str::spell(alloc, field)?,
         }),
     }
 }

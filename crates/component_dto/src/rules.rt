@@ -7,7 +7,7 @@ ghost use Rattle.component_dto.specs.TextLists.{first_repeated};
 use crate::given_fields::GivenFields;
 use crate::references::{ReferenceFields, ReferenceScope};
 use crate::targets::bad_target;
-use crate::text_lists::{first_repeated, spelled};
+use crate::text_lists::first_repeated;
 use crate::{DescriptionFault, Scope};
 use prop_map::{Copies, OutOfMemory, Str};
 use std::alloc::Global;
@@ -109,7 +109,7 @@ fn same_name(alloc: Global, references: &[ReferenceFields]) -> Result<Option<Str
 {
     let names = names_of(alloc, references)?;
     match first_repeated(alloc, &names)? {
-        Some(name) => Ok(Some(spelled(alloc, name)?)),
+        Some(name) => Ok(Some(Str::spell(alloc, name)?)),
         None => Ok(None),
     }
 }

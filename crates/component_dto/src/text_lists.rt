@@ -6,16 +6,6 @@ use prop_map::{List, OutOfMemory, Str};
 use std::alloc::Global;
 use text_index::TextSet;
 
-/// A text in memory of its own.
-///
-/// # Errors
-/// Only want of memory.
-pub fn spelled(alloc: Global, text: &str) -> Result<Str, OutOfMemory>
-    ensures { IfOk result (λ spelled. spelled ≡ text.now) }
-{
-    Ok(Str::of(String::from_str(alloc, text)?))
-}
-
 /// The texts, each once, at its first place. It compares each with no more of them than the logarithm of their number.
 ///
 /// # Errors

@@ -45,21 +45,15 @@ fn tell(site: &Site, word: &str) -> Result<(), KindFault>
     }
 }
 
-fn copied(alloc: Global, text: &str) -> Result<Str, OutOfMemory>
-    ensures { IfOk result (λ copy. copy ≡ text.now) }
-{
-    Ok(Str::of(String::from_str(alloc, text)?))
-}
-
 fn pass_on(alloc: Global, site: &Site, request: &str) -> Result<Next<Relay>, OutOfMemory>
     ensures { IfOk result (λ next. IsMove (λ work. unanswered work.site work.request) (unanswered site.now request.now) (Calls (codes "next") request.now) next) }
 {
     Ok(Next::Call {
-        reference: copied(alloc, "next")?,
-        request: copied(alloc, request)?,
+        reference: Str::spell(alloc, "next")?,
+        request: Str::spell(alloc, request)?,
         work: Relay {
             site: site.copy(alloc)?,
-            request: copied(alloc, request)?,
+            request: Str::spell(alloc, request)?,
         },
     })
 }
@@ -69,10 +63,10 @@ fn relayed(alloc: Global, reply: &NestedReply) -> Result<Str, OutOfMemory>
 {
     match reply {
         NestedReply::Text(text) => Ok(Str::of(format!(in alloc; "<{}>", text.as_str())?)),
-        NestedReply::NoService => copied(alloc, "no-service"),
-        NestedReply::NoObject => copied(alloc, "no-object"),
-        NestedReply::Gone => copied(alloc, "gone"),
-        NestedReply::Refused => copied(alloc, "refused"),
+        NestedReply::NoService => Str::spell(alloc, "no-service"),
+        NestedReply::NoObject => Str::spell(alloc, "no-object"),
+        NestedReply::Gone => Str::spell(alloc, "gone"),
+        NestedReply::Refused => Str::spell(alloc, "refused"),
     }
 }
 
@@ -148,11 +142,11 @@ impl Kinds for Demonstration {
         tell(site, "call")?;
         match site.class.as_str() {
             "demo.Echo" => Ok(Next::Answer {
-                text: copied(alloc, request)?,
+                text: Str::spell(alloc, request)?,
             }),
             "demo.Relay" => Ok(pass_on(alloc, site, request)?),
             _ => Ok(Next::Answer {
-                text: copied(alloc, text_at(site, "text"))?,
+                text: Str::spell(alloc, text_at(site, "text"))?,
             }),
         }
     }

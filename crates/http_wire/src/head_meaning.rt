@@ -76,7 +76,7 @@ fn plan_of(bytes: &[u8], fields: &[HeaderSpan]) -> Plan
 }
 
 /// What the head with these parts asks for.
-pub(crate) fn told(
+pub(crate) fn head_answer(
     alloc: Global,
     bytes: &[u8],
     parts: &RequestSpans,

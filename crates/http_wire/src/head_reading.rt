@@ -7,7 +7,7 @@ ghost use Rattle.http_wire.specs.HeadMeaning.{ReadsHead};
 ghost use Rattle.http_wire.specs.Heads.{GoesOn};
 
 use crate::continuation::{MOST_BYTES, MOST_FIELDS, begins_head, goes_on, shortest};
-use crate::head_meaning::told;
+use crate::head_meaning::head_answer;
 use crate::messages::HeadRead;
 use httparse::Status;
 use httparse::spans::{EMPTY_HEADER_SPAN, HeaderSpan, RequestSpans, parse_request};
@@ -97,7 +97,7 @@ pub fn read_head(alloc: Global, bytes: &[u8]) -> Result<HeadRead, OutOfMemory>
     let seen = &bytes[..bytes.len().min(MOST_BYTES)];
     let mut room = [EMPTY_HEADER_SPAN; MOST_FIELDS];
     match find_head(seen, &mut room) {
-        Ok(parts) => told(alloc, seen, &parts, &room[..parts.headers]),
+        Ok(parts) => head_answer(alloc, seen, &parts, &room[..parts.headers]),
         Err(more) => without_head(alloc, seen, more),
     }
 }

@@ -29,7 +29,7 @@ pub fn levels(alloc: Global, descriptions: &[Description]) -> Result<List<u32>, 
     }
     let links = links_of(alloc, descriptions)?;
     let heights = heights_of(alloc, &links.onward, descriptions.len())?;
-    match known(alloc, &heights, descriptions.len())? {
+    match level_known_for(alloc, &heights, descriptions.len())? {
         Some(levels) => Ok(List::of(levels)),
         None => Err(LevelFault::Cycle {
             path: told_names(alloc, descriptions, &links)?,
@@ -38,7 +38,7 @@ pub fn levels(alloc: Global, descriptions: &[Description]) -> Result<List<u32>, 
 }
 
 // The first heights, where all of them are known.
-fn known(
+fn level_known_for(
     alloc: Global,
     heights: &[Option<u32>],
     count: usize,

@@ -1,6 +1,7 @@
 pub mod Numbers
 pub mod RangeSteps
 pub mod Ranges
+pub mod ReadingStates
 pub mod Readings
 pub mod Same
 pub mod Steps

@@ -11,6 +11,7 @@ use Rattle.prop_map.specs.declared.prop_fault.PropFault.{PropFault}
 use Rattle.prop_map.specs.declared.prop_fault.PropFault.TheVariants.{NotObject, FloatValue, NestedValue, MixedList, SameKey}
 use Rattle.prop_map.specs.Keys.{same_key}
 use Rattle.prop_map.specs.Maps.{put}
+use Rattle.prop_map.specs.Words.{after}
 
 -- a whole number in 64 bits with a sign; any other number is none
 abbrev pub whole : Data → Option ℤ
@@ -20,11 +21,6 @@ whole d = option_and_then as_i64 (as_number d)
 abbrev pub each : {T : Type 0} → (Data → Option T) → Items → Option (List T)
 each meaning no_items = Some []
 each meaning (item d ds) = option_and_then (λ x. option_map (λ xs. x ∷ xs) (each meaning ds)) (meaning d)
-
--- what follows, unless there is a fault
-abbrev pub after : {A B : Type 0} → (A → Result B PropFault) → Result A PropFault → Result B PropFault
-after next (Ok x) = next x
-after next (Err fault) = Err fault
 
 abbrev pub sound_number : List ℕ → Option ℤ → Result (Unit {0}) PropFault
 sound_number key (Some n) = Ok tt
@@ -42,7 +38,7 @@ sound_item key (object ms) = Err (NestedValue key)
 -- the items are sound, or what is wrong with the first that isn't
 abbrev pub sound_items : List ℕ → Items → Result (Unit {0}) PropFault
 sound_items key no_items = Ok tt
-sound_items key (item d ds) = after (λ _. sound_items key ds) (sound_item key d)
+sound_items key (item d ds) = after (sound_item key d) (λ _. sound_items key ds)
 
 -- a list of flags, else one of two kinds
 abbrev pub flags_or_mixed : List ℕ → Option (List Bool) → Result Value PropFault
@@ -65,7 +61,7 @@ sound_list key ds = texts_or (wholes_or (flags_or_mixed key (each as_bool ds)) (
 
 -- the value that a list is; an item at fault comes before the kinds
 abbrev pub list_value : List ℕ → Items → Result Value PropFault
-list_value key ds = after (λ _. sound_list key ds) (sound_items key ds)
+list_value key ds = after (sound_items key ds) (λ _. sound_list key ds)
 
 abbrev pub whole_or_float : List ℕ → Option ℤ → Result Value PropFault
 whole_or_float key (Some n) = Ok (Whole n)
@@ -75,9 +71,9 @@ whole_or_float key None = Err (FloatValue key)
 abbrev pub value_of : List ℕ → Data → Result (Option Value) PropFault
 value_of key null = Ok None
 value_of key (boolean b) = Ok (Some (Flag b))
-value_of key (number n) = after (λ value. Ok (Some value)) (whole_or_float key (as_i64 n))
+value_of key (number n) = after (whole_or_float key (as_i64 n)) (λ value. Ok (Some value))
 value_of key (string s) = Ok (Some (Text s))
-value_of key (array ds) = after (λ value. Ok (Some value)) (list_value key ds)
+value_of key (array ds) = after (list_value key ds) (λ value. Ok (Some value))
 value_of key (object ms) = Err (NestedValue key)
 
 -- the keys of an object
@@ -113,7 +109,7 @@ alone keys key (Some value) = if is_repeated keys key then Err (SameKey key) els
 
 -- the value that a member gives; what is wrong with the value comes before what is wrong with the key
 abbrev pub given_value : List (List ℕ) → List ℕ → Data → Result (Option Value) PropFault
-given_value keys key d = after (alone keys key) (value_of key d)
+given_value keys key d = after (value_of key d) (alone keys key)
 
 -- a map with a value put, if there is one
 abbrev pub put_given : List Property → List ℕ → Option Value → List Property
@@ -123,7 +119,7 @@ put_given before key (Some value) = put before key value
 -- the members in byte order of their keys, up to the first that is at fault, in an object that gives these keys
 abbrev pub with_members : List (List ℕ) → List Property → Members → Result (List Property) PropFault
 with_members keys before no_members = Ok before
-with_members keys before (member key d ms) = after (λ value. with_members keys (put_given before key value) ms) (given_value keys key d)
+with_members keys before (member key d ms) = after (given_value keys key d) (λ value. with_members keys (put_given before key value) ms)
 
 -- the properties that an object gives, or its first fault
 abbrev pub properties_of : Data → Result (List Property) PropFault

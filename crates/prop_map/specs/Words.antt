@@ -1,5 +1,5 @@
 -- Words on lists of numbers, texts and rows that the definitions of several crates share. Our own.
-use Rattle.std.specs.Prelude.{ℕ, ◌==◌, ◌&&◌, List, [], ◌∷◌, Bool, true, false, Option, Some, None, if◌then◌else◌}
+use Rattle.std.specs.Prelude.{ℕ, ◌==◌, ◌&&◌, List, [], ◌∷◌, Bool, true, false, Option, Some, None, Result, Ok, Err, if◌then◌else◌}
 use Rattle.std.specs.Cmp.Lexicographic.{slice_cmp}
 use Rattle.std.specs.List.{list_any, list_all, enumerate_from}
 use Rattle.std.specs.Ordering.{nat_cmp, is_lt}
@@ -35,6 +35,15 @@ abbrev pub first_some : {X : Type 0} → List (Option X) → Option X
 first_some [] = None
 first_some (Some x ∷ rest) = Some x
 first_some (None ∷ rest) = first_some rest
+
+-- what follows, unless there is a fault
+abbrev pub after : {A B F : Type 0} → Result A F → (A → Result B F) → Result B F
+after (Ok x) next = next x
+after (Err fault) next = Err fault
+
+-- one where it is so, else none
+abbrev pub one_if : Bool → ℕ
+one_if so = if so then 1 else 0
 
 -- a text comes before another in byte order
 abbrev pub text_before : List ℕ → List ℕ → Bool

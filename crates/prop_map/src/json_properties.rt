@@ -23,7 +23,7 @@ fn texts(alloc: Global, items: &[Json]) -> Result<Option<List<Str>>, OutOfMemory
     let mut found = Vec::new(alloc);
     for item in items {
         match item.as_str() {
-            Some(text) => found.push(Str::of(String::from_str(alloc, text)?))?,
+            Some(text) => found.push(Str::spell(alloc, text)?)?,
             None => return Ok(None),
         }
     }
@@ -56,12 +56,6 @@ fn flags(alloc: Global, items: &[Json]) -> Result<Option<List<bool>>, OutOfMemor
     Ok(Some(List::of(found)))
 }
 
-fn spelled(alloc: Global, key: &str) -> Result<Str, OutOfMemory>
-    ensures { IfOk result (λ text. text ≡ key.now) }
-{
-    Ok(Str::of(String::from_str(alloc, key)?))
-}
-
 fn check_item(alloc: Global, key: &str, item: &Json) -> Result<(), PropFault>
     ensures { Reads result (sound_item key.now (view item.now)) }
 {
@@ -70,11 +64,11 @@ fn check_item(alloc: Global, key: &str, item: &Json) -> Result<(), PropFault>
         Json::Number(_) => match item.as_i64() {
             Some(_) => Ok(()),
             None => Err(PropFault::FloatValue {
-                key: spelled(alloc, key)?,
+                key: Str::spell(alloc, key)?,
             }),
         },
         _ => Err(PropFault::NestedValue {
-            key: spelled(alloc, key)?,
+            key: Str::spell(alloc, key)?,
         }),
     }
 }
@@ -100,7 +94,7 @@ fn sound_list(alloc: Global, key: &str, items: &[Json]) -> Result<Value, PropFau
     match flags(alloc, items)? {
         Some(found) => Ok(Value::Flags(found)),
         None => Err(PropFault::MixedList {
-            key: spelled(alloc, key)?,
+            key: Str::spell(alloc, key)?,
         }),
     }
 }
@@ -121,13 +115,13 @@ fn value_of(alloc: Global, key: &str, json: &Json) -> Result<Option<Value>, Prop
         Json::Number(_) => match json.as_i64() {
             Some(number) => Ok(Some(Value::Whole(number))),
             None => Err(PropFault::FloatValue {
-                key: spelled(alloc, key)?,
+                key: Str::spell(alloc, key)?,
             }),
         },
-        Json::String(text) => Ok(Some(Value::Text(spelled(alloc, text.as_str())?))),
+        Json::String(text) => Ok(Some(Value::Text(Str::spell(alloc, text.as_str())?))),
         Json::Array(items) => Ok(Some(list_value(alloc, key, items.as_slice())?)),
         Json::Object(_) => Err(PropFault::NestedValue {
-            key: spelled(alloc, key)?,
+            key: Str::spell(alloc, key)?,
         }),
     }
 }
@@ -152,7 +146,7 @@ fn alone(
 {
     if value.is_some() && has_another(alloc, spellings, key)? {
         return Err(PropFault::SameKey {
-            key: spelled(alloc, key)?,
+            key: Str::spell(alloc, key)?,
         });
     }
     Ok(value)
@@ -197,7 +191,7 @@ fn put_value(
     ensures by_key { OnOk result (IsByKey found.new.entries) }
 {
     let fold = folded(alloc, key)?;
-    let key = spelled(alloc, key)?;
+    let key = Str::spell(alloc, key)?;
     put_property(found, fold, Property { key, value })
 }
 

@@ -51,6 +51,16 @@ impl Str {
         }
     }
 
+    /// The text, in memory of its own.
+    ///
+    /// # Errors
+    /// Only want of memory.
+    pub fn spell(alloc: Global, text: &str) -> Result<Str, OutOfMemory>
+        ensures { IfOk result (λ spelled. spelled ≡ text.now) }
+    {
+        Ok(Str::of(String::from_str(alloc, text)?))
+    }
+
     /// The text, to be shared: its copies take no memory.
     ///
     /// # Errors
@@ -92,7 +102,7 @@ fn shared_of(alloc: Global, text: String) -> Result<Str, OutOfMemory>
 impl Copies for Str {
     fn copy(&self, alloc: Global) -> Result<Str, OutOfMemory> {
         match &self.text {
-            Kept::Own(text) => Ok(Str::of(String::from_str(alloc, text.as_str())?)),
+            Kept::Own(text) => Str::spell(alloc, text.as_str()),
             Kept::Together(text) => Ok(Str {
                 text: Kept::Together(Arc::try_clone(text)?),
             }),

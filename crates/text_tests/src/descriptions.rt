@@ -1,6 +1,4 @@
-use component_dto::{
-    Description, DescriptionFault, first_repeated, given, read_description, spelled,
-};
+use component_dto::{Description, DescriptionFault, first_repeated, given, read_description};
 use prop_map::Copies;
 use serde_json::Value;
 use std::alloc::Global;
@@ -35,12 +33,16 @@ fn small_words_of_descriptions_answer(rt: HostRuntime) -> Result<(), Fail> {
     let json = Value::from_str(alloc, "{\"a\":1}").ok().ok_or("json")?;
     assert!(rt; given(&json, "a").is_some());
     assert_eq!(rt; first_repeated(alloc, &["a", "b", "b"])?, Some("b"));
-    assert_eq!(rt; spelled(alloc, "a")?.as_str(), "a");
     Ok(())
 }
 
+fn shown_fault(alloc: Global, text: &str) -> Result<String, Fail> {
+    let fault = read(alloc, text).err().ok_or("a fault")?;
+    Ok(format!(in alloc; "{fault}")?)
+}
+
 #[test]
-fn faults_of_descriptions_are_printed(rt: HostRuntime) -> Result<(), Fail> {
+fn faults_of_fields_are_printed(rt: HostRuntime) -> Result<(), Fail> {
     for (text, expected) in [
         ("{}", "implementationClass is missing"),
         ("{\"name\":1}", "name is of a wrong type"),
@@ -49,6 +51,15 @@ fn faults_of_descriptions_are_printed(rt: HostRuntime) -> Result<(), Fail> {
             "{\"implementationClass\":\"C\",\"properties\":{\"f\":1.5}}",
             "the number at f is no whole number in 64 bits",
         ),
+    ] {
+        assert_eq!(rt; shown_fault(rt.alloc(), text)?.as_str(), expected, "{text}");
+    }
+    Ok(())
+}
+
+#[test]
+fn faults_of_whole_descriptions_are_printed(rt: HostRuntime) -> Result<(), Fail> {
+    for (text, expected) in [
         (
             "{\"implementationClass\":\"C\",\"factory\":\"f\"}",
             "factory components are not supported",
@@ -78,9 +89,7 @@ fn faults_of_descriptions_are_printed(rt: HostRuntime) -> Result<(), Fail> {
             "more than four configuration PIDs",
         ),
     ] {
-        let fault = read(rt.alloc(), text).err().ok_or("a fault")?;
-        let shown = format!(in rt.alloc(); "{fault}")?;
-        assert_eq!(rt; shown.as_str(), expected, "{text}");
+        assert_eq!(rt; shown_fault(rt.alloc(), text)?.as_str(), expected, "{text}");
     }
     Ok(())
 }

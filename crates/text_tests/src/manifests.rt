@@ -1,4 +1,4 @@
-use bundle_headers::{Clauses, HeaderFault, Manifest, trimmed_text};
+use bundle_headers::{Clauses, HeaderFault, Manifest, text_without_blanks};
 use prop_map::Copies;
 use std::alloc::Global;
 use std::test::Fail;
@@ -8,7 +8,7 @@ fn a_manifest_is_read_copied_and_asked(rt: HostRuntime) -> Result<(), Fail> {
     let alloc = rt.alloc();
     let manifest = Manifest::parse(alloc, b"A: b\r\n c\r\n")?;
     assert_eq!(rt; manifest.copy(alloc)?.get("a"), Some("bc"));
-    assert_eq!(rt; trimmed_text(" a b "), "a b");
+    assert_eq!(rt; text_without_blanks(" a b "), "a b");
     Ok(())
 }
 

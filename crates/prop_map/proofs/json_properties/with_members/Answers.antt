@@ -2,7 +2,8 @@ use Rattle.std.proofs.Common.{rules, ◌≡◌, ◌<◌, ◌+◌, ap, sym, ◌�
 use Rattle.std.specs.BTreeMap.{values}
 use Rattle.serde_json.specs.View.{view}
 use Rattle.prop_map.specs.declared.value.Value.{Value}
-use Rattle.prop_map.specs.JsonProperties.{after, given_value, put_given}
+use Rattle.prop_map.specs.JsonProperties.{given_value, put_given}
+use Rattle.prop_map.specs.Words.{after}
 use Rattle.prop_map.specs.Readings.{Tells}
 use Rattle.prop_map.proofs.MemberSteps.{told, left, member_at}
 use Rattle.prop_map.proofs.json_properties.with_members.Goals as goal
@@ -28,7 +29,7 @@ loop-key-preserved c = (
       let next = λ (value : Option Value). left keys (values c.loop-key.found) c.args.entries.now c.loop-key.key-index (c.loop-key.key-index + 1) (put_given (values c.loop-key.found) (string_bytes c.loop-key-item.result.0.now) value) in
       ap (λ ps. left keys (values c.loop-key.found) c.args.entries.now c.loop-key.key-index (c.loop-key.key-index + 1) ps)
       (c.in_ok-put_given-in-Ok.ensures.value ∙ ap (λ k. put_given (values c.loop-key.found) k c.in-Ok.value) key-is-2)
-      ∙ sym (ap (after next) (ap (λ k. given_value keys k (view c.loop-key-item.result.1.now)) (sym key-is) ∙ c.in-Ok.ensures keys are))
+      ∙ sym (ap (λ r. after r next) (ap (λ k. given_value keys k (view c.loop-key-item.result.1.now)) (sym key-is) ∙ c.in-Ok.ensures keys are))
       ∙ sym (member_at keys (values c.loop-key.found) c.args.entries.now c.loop-key.key-index c.loop-key-item.result within item-is)
       ∙ c.loop-key.invariant.1 keys are,
 )

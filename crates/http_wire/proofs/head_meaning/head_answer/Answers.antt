@@ -1,6 +1,6 @@
 use Rattle.std.proofs.Common.{◌∙◌, sym, subst, inl, inr, List, ℕ}
 use Rattle.http_wire.specs.TargetPath.{IsPath}
-use Rattle.http_wire.proofs.head_meaning.told.Goals as goal
+use Rattle.http_wire.proofs.head_meaning.head_answer.Goals as goal
 
 pub returns-in_default : goal.returns-in_default
 returns-in_default c h shows =

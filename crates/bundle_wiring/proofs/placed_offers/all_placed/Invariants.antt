@@ -2,7 +2,7 @@ use Rattle.std.proofs.Common.{◌≡◌, ◌++◌, drop, flat_map}
 use Rattle.std.specs.Prelude.{map}
 use Rattle.bundle_wiring.specs.Placing.{placed_of}
 use Rattle.bundle_wiring.specs.Resolution.{Bundle, placed_from, all_placed}
-use Rattle.bundle_wiring.proofs.wires.all_placed.Given as goal
+use Rattle.bundle_wiring.proofs.placed_offers.all_placed.Given as goal
 
 abbrev pub invariant-loop-bundle : goal.invariant-loop-bundle
 invariant-loop-bundle l =
