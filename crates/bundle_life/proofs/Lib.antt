@@ -1,3 +1,3 @@
-pub mod NumberLaws
+pub mod Installs
 pub mod RowLaws
 pub mod Steps

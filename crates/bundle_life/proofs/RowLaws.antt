@@ -18,6 +18,7 @@ use Rattle.bundle_life.specs.declared.bundle.BundleState.{BundleState}
 use Rattle.bundle_life.specs.declared.bundle.BundleState.TheVariants.{Installed, Resolved, Stopping, Active}
 use Rattle.bundle_life.specs.Lives.{in_state, is_active, is_stopping, renamed, state_is}
 use Rattle.bundle_life.specs.Numbers.{AreNumbered, IsGiven, has_number, stops}
+use Rattle.prop_map.specs.Words.{one_if}
 use Rattle.bundle_life.specs.Undoing.{owing}
 
 -- ---- numbers
@@ -71,9 +72,6 @@ pub state_nowhere : (test : BundleState → Bool) (number : ℕ) (rows : List Bu
 state_nowhere test number rows none = ap (λ (o : Option BundleLife). option_map_or (λ (b : BundleLife). test b.state) o false) (find_none (has_number number) rows none)
 
 -- ---- how many are STOPPING
-
-abbrev one_if : Bool → ℕ
-one_if b = cond b 1 0
 
 counts_set : (rows : List BundleLife) (k : ℕ) (y d : BundleLife) → k < length rows → count_by stops (set rows k y) + one_if (stops (get_or rows k d)) ≡ count_by stops rows + one_if (stops y)
 counts_set rows k y d within = sum_by-set (λ (b : BundleLife). cond (stops b) 1 0) rows k y d within

@@ -16,7 +16,7 @@ use Rattle.bundle_life.specs.Lives.{BundleTable, after_start, after_uninstall, a
 use Rattle.bundle_life.specs.Numbers.{AreNumbered, IsGiven, NumberedRows, has_number, stops, without_number}
 use Rattle.bundle_life.specs.Refusals.{started_once, stop_begun_once}
 use Rattle.bundle_life.specs.Undoing.{IsKeptOf, IsStepped, IsUndoneBy, Kept, owing, with_kept}
-use Rattle.bundle_life.proofs.NumberLaws.{put_back, stands, without_twice}
+use Rattle.row_places.proofs.NumberLaws.{put_back, stands, without_twice}
 use Rattle.bundle_life.proofs.RowLaws.{active_isnt}
 
 -- ---- the rows of the others

@@ -1,10 +1,11 @@
 -- What undoes a step of a bundle. Our own.
 use Rattle.std.specs.Ordering.{is_lt, nat_cmp}
-use Rattle.std.specs.Prelude.{◌≡◌, ◌<◌, ◌≤◌, ◌+◌, ℕ, List, ◌++◌, Bool, Some, length, take, if◌then◌else◌}
+use Rattle.std.specs.List.{slice_get}
+use Rattle.std.specs.Prelude.{◌≡◌, ◌==◌, ◌&&◌, ◌<◌, ◌≤◌, ◌+◌, ◌-◌, ℕ, List, ◌++◌, Bool, false, Option, Some, length, take, if◌then◌else◌}
 use Rattle.prop_map.specs.Words.{insert_by}
 use Rattle.bundle_life.specs.declared.bundle.BundleEvent.{BundleEvent}
 use Rattle.bundle_life.specs.declared.bundle.BundleLife.{BundleLife}
-use Rattle.bundle_life.specs.Lives.{BundleTable, bundle_of, is_stopping, state_is}
+use Rattle.bundle_life.specs.Lives.{BundleTable, bundle_of, is_installed, is_stopping, state_is}
 use Rattle.bundle_life.specs.Numbers.{AreNumbered, IsGiven, stops, without_number}
 
 -- what is kept of a bundle before a step: its row, how many events there were, and for how many rows there is room
@@ -51,3 +52,11 @@ pub record IsKeptOf (kept : Kept) (t : BundleTable) : Type 0 where
 -- a step of the bundle that was kept, which it undoes to be put back
 abbrev pub IsUndoneBy : Kept → BundleTable → BundleTable → Type 0
 IsUndoneBy kept before now = CanPutBack kept now × IsStepped kept.row.number before now
+
+-- the bundle and the event that came last are those of an install
+abbrev pub is_install : ℕ → Option BundleLife → Option BundleEvent → Bool
+is_install numbered (Some b) (Some e) = b.number == numbered && is_installed b.state && e.bundle == numbered && e.value == 1
+is_install numbered _ _ = false
+
+abbrev pub last_of : {X : Type 0} → List X → Option X
+last_of xs = slice_get xs (length xs - 1)

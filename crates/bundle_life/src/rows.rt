@@ -7,12 +7,12 @@ ghost use Rattle.row_places.specs.RowPlaces.{IsOnlyPlace, IsPlaceOrGap};
 ghost use Rattle.std.specs.List.{count_by};
 ghost use Rattle.std.specs.Option.{option_copied};
 ghost use Rattle.std.specs.Ordering.{nat_cmp};
-ghost use Rattle.std.specs.Prelude.{◌≡◌, ◌<◌, ◌≤◌, ◌+◌, ◌++◌, ℕ, [], ◌∷◌, length, map, IfOk, IsFalse, IsTrue, MatchResult, None, OnErr, OnOk, Some};
+ghost use Rattle.std.specs.Prelude.{◌≡◌, ◌<◌, ◌≤◌, ◌+◌, ◌++◌, ℕ, [], ◌∷◌, length, map, IfOk, IsFalse, IsTrue, IfSome, MatchResult, None, OnErr, OnOk, Some};
 
-use crate::kept::RowRoom;
 use crate::{BundleLife, BundleState};
 use osgi_version::Version;
 use prop_map::{Copies, OutOfMemory, Str};
+use row_places::RowRoom;
 use std::alloc::{AllocError, Global};
 use std::marker::Model;
 
@@ -118,6 +118,7 @@ impl BundleRows {
         ensures taken { (before : NumberedRows) (row : BundleLife) → self.old ≡ record { rows = before.rows ++ row ∷ []; numbered = before.numbered + 1 } → IsFalse (stops row) → (self.new ≡ before) × (result ≡ Some row) }
         ensures empty { self.old.rows ≡ [] → (self.new ≡ self.old) × (result ≡ None) }
         ensures kept { result ≡ None → self.new ≡ self.old }
+        ensures parts { IfSome result (λ row. (self.old.rows ≡ self.new.rows ++ row ∷ []) × (self.old.numbered ≡ self.new.numbered + 1)) }
         ensures stopping { count_by stops self.new.rows ≡ count_by stops self.old.rows }
     {
         if self.list.as_slice().last()?.state == BundleState::Stopping {
@@ -154,7 +155,7 @@ impl BundleRows {
     }
 
     /// Puts a row in the place of the one of its number, or where it belongs, for which there is room. It takes no memory.
-    pub(crate) fn put_back(&mut self, row: BundleLife, room: RowRoom)
+    pub(crate) fn put_back(&mut self, row: BundleLife, room: RowRoom<BundleLife>)
         requires given { IsGiven self.old.numbered row }
         requires room { length (without_number row.number self.old.rows) < room }
         ensures rows { self.new ≡ record self.old { rows = with_row row self.old.rows } }
@@ -207,7 +208,7 @@ fn place_or_gap(rows: &[BundleLife], number: u64) -> Result<usize, usize>
 }
 
 // Puts a row in the place of the one of its number, or where it belongs, for which there is room.
-fn put_into(rows: &mut Vec<BundleLife>, row: BundleLife, room: RowRoom)
+fn put_into(rows: &mut Vec<BundleLife>, row: BundleLife, room: RowRoom<BundleLife>)
     requires order { AreRising rows.old.items }
     requires room { length (without_number row.number rows.old.items) < room }
     ensures now { rows.new.items ≡ with_row row rows.old.items }

@@ -2,21 +2,22 @@
 ghost use Rattle.bundle_life.specs.Numbers.{saved_of, stops};
 ghost use Rattle.bundle_life.specs.Lives.{BundleTable, after_install, after_uninstall, after_update, bundle_at, bundle_of, events_of, in_state, is_active, is_stopping, namesake, new_row, no_bundles, state_is, state_number, stop_completed, unresolving};
 ghost use Rattle.bundle_life.specs.Refusals.{IsRefusedBy, install_answer, install_refusal, installed_once, no_bundle, start_refusal, started_once, stop_begun_once, stop_refusal, uninstall_refusal, update_refusal};
-ghost use Rattle.bundle_life.specs.Undoing.{CanPutBack, IsKeptOf, IsStepped, IsUndoneBy, Kept, with_kept};
+ghost use Rattle.bundle_life.specs.Undoing.{CanPutBack, IsKeptOf, IsStepped, IsUndoneBy, Kept, is_install, last_of, with_kept};
 ghost use Rattle.bundle_life.specs.declared.bundle.BundleEvent.{BundleEvent};
 ghost use Rattle.bundle_life.specs.declared.bundle.BundleLife.{BundleLife};
 ghost use Rattle.bundle_life.specs.declared.bundle.BundleState.TheVariants.{Active};
 ghost use Rattle.std.specs.List.{count_by};
 ghost use Rattle.std.specs.Option.{option_copied};
-ghost use Rattle.std.specs.Prelude.{◌≡◌, ◌≤◌, ◌+◌, ◌++◌, [], ◌∷◌, ◌↔◌, ℕ, List, drop, length, map, option_map, IfOk, IsFalse, IsTrue, None, OnErr, OnOk, Some};
+ghost use Rattle.std.specs.Prelude.{◌≡◌, ◌≤◌, ◌+◌, ◌++◌, [], ◌∷◌, ◌↔◌, ℕ, List, drop, length, map, option_map, IfOk, IfSome, IsFalse, IsTrue, None, OnErr, OnOk, Some};
 ghost use Rattle.osgi_version.specs.declared.version.Version.{Version};
 
 use crate::events::BundleEvents;
-use crate::kept::{KeptBundle, RowRoom};
+use crate::kept::KeptBundle;
 use crate::rows::{BundleRows, at_location, namesake_of};
 use crate::{BundleEvent, BundleLife, BundleState, LifeFault, Saved};
 use osgi_version::Version;
 use prop_map::{Copies, OutOfMemory, Str};
+use row_places::RowRoom;
 use std::alloc::Global;
 use std::marker::Model;
 
@@ -301,18 +302,34 @@ impl Bundles {
         Ok(())
     }
 
-    /// Takes the install that came last back, as if the bundle had never come: its row, its number and its INSTALLED. It
-    /// takes no memory.
+    /// Takes the install that came last back, as if the bundle had never come: its row, its number and its INSTALLED.
+    /// Nothing changes where the last change was no install. It takes no memory.
     pub fn undo_install(&mut self) -> Option<BundleLife>
         ensures taken { (before : BundleTable) (location name : List ℕ) (version : Version) →
             self.old ≡ after_install location name version before →
             (self.new ≡ before) × (result ≡ Some (new_row (before.numbered + 1) location name version)) }
         ensures empty { self.old.rows ≡ [] → (self.new ≡ self.old) × (result ≡ None) }
+        ensures installed { IfSome result (λ row. self.old ≡ after_install row.location row.name row.version self.new) }
+        ensures none { result ≡ None → self.new ≡ self.old }
     {
+        if !self.ends_in_install() {
+            return None;
+        }
         let row = self.rows.take_back()?;
         let events = self.events.length().saturating_sub(1);
         self.events.take_back(events, false, false);
         Some(row)
+    }
+
+    // Whether the row and the event that came last are those of an install.
+    fn ends_in_install(&self) -> bool
+        ensures { result ≡ is_install self.now.numbered (last_of self.now.rows) (last_of self.now.events) }
+    {
+        is_install(
+            self.numbered(),
+            self.rows.as_slice().last(),
+            self.events.after(0).last(),
+        )
     }
 
     /// A bundle as it is, to be kept before a step that may have to be undone, with room to put it back.
@@ -405,6 +422,21 @@ impl Bundles {
             Some(BundleState::Resolved) => self.events.add(&[event(last.bundle, 64), last], 0),
             _ => self.events.add(&[last], 0),
         }
+    }
+}
+
+// Whether this row and this event are those of an install, the last one of so many numbers.
+fn is_install(numbered: u64, row: Option<&BundleLife>, event: Option<&BundleEvent>) -> bool
+    ensures { result ≡ is_install numbered (option_copied row.entry) (option_copied event.entry) }
+{
+    match (row, event) {
+        (Some(row), Some(event)) => {
+            row.number == numbered
+                && matches!(row.state, BundleState::Installed)
+                && event.bundle == numbered
+                && event.value == 1
+        }
+        _ => false,
     }
 }
 

@@ -6,8 +6,9 @@ ghost use Rattle.config_admin.specs.Undoing.{overwritten, with_exchanged};
 ghost use Rattle.std.specs.Prelude.{◌≡◌, ◌<◌, length, IfOk, OnErr, OnOk, Some};
 
 use crate::rows::place_of;
-use crate::{ConfigFault, Configuration, Overwritten, RowRoom};
+use crate::{ConfigFault, Configuration, Overwritten};
 use prop_map::{Copies, OutOfMemory};
+use row_places::RowRoom;
 use std::alloc::Global;
 use std::mem;
 
@@ -77,7 +78,11 @@ pub(crate) fn leave_out(rows: &mut Vec<Configuration>, pid: &str)
 }
 
 /// Puts a configuration in the place of the one of its PID, or where it belongs, for which there is room.
-pub(crate) fn put_into(rows: &mut Vec<Configuration>, configuration: Configuration, room: RowRoom)
+pub(crate) fn put_into(
+    rows: &mut Vec<Configuration>,
+    configuration: Configuration,
+    room: RowRoom<Configuration>,
+)
     requires order { AreByPid rows.old.items }
     requires room { length rows.old.items < room }
     ensures now { rows.new.items ≡ with_configuration configuration rows.old.items }

@@ -12,8 +12,9 @@ use crate::configuration::{factory_configuration, own_configuration};
 use crate::refusals::{set_factory_refusal, set_refusal};
 use crate::row_changes::{exchange, leave_out, put, put_into, take_out};
 use crate::rows::{named_by, of_pid};
-use crate::{ConfigFault, Configuration, Overwritten, RowRoom, Saved};
+use crate::{ConfigFault, Configuration, Overwritten, Saved};
 use prop_map::{Copies, OutOfMemory, Properties};
+use row_places::RowRoom;
 use std::alloc::Global;
 use std::marker::Model;
 
@@ -213,14 +214,14 @@ impl Configurations {
     ///
     /// # Errors
     /// Only want of memory.
-    pub fn room(&self, alloc: Global) -> Result<RowRoom, OutOfMemory>
+    pub fn room(&self, alloc: Global) -> Result<RowRoom<Configuration>, OutOfMemory>
         ensures { IfOk result (λ room. room ≡ length self.now) }
     {
         RowRoom::of(alloc, self.rows.len())
     }
 
     /// Puts a configuration that was removed back at its place. It takes no memory.
-    pub fn put_back(&mut self, configuration: Configuration, room: RowRoom)
+    pub fn put_back(&mut self, configuration: Configuration, room: RowRoom<Configuration>)
         requires room { length self.old < room }
         ensures back { self.new ≡ with_configuration configuration self.old }
         ensures undone { (configurations : List Configuration) →

@@ -1,4 +1,3 @@
 pub mod CutRows
-pub mod NumberLaws
 pub mod ToldRows
 pub mod Untold

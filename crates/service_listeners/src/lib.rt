@@ -5,7 +5,6 @@
 mod cutting;
 mod listen_fault;
 mod listener;
-mod row_room;
 mod rows;
 mod saved;
 mod table;
@@ -13,6 +12,5 @@ mod telling;
 
 pub use listen_fault::ListenFault;
 pub use listener::{Listener, ServiceEvent};
-pub use row_room::RowRoom;
 pub use saved::Saved;
 pub use table::Listeners;

@@ -8,9 +8,10 @@ ghost use Rattle.std.specs.Option.{option_copied};
 ghost use Rattle.std.specs.Ordering.{nat_cmp};
 ghost use Rattle.std.specs.Prelude.{◌≡◌, ◌<◌, ◌≤◌, ◌==◌, ◌++◌, ℕ, [], ◌∷◌, drop, filter, length, map, not, take, MatchResult, OnErr, OnOk};
 
+use crate::Listener;
 use crate::telling::{tell_one, untell_one};
-use crate::{Listener, RowRoom};
 use prop_map::OutOfMemory;
+use row_places::RowRoom;
 use service_registry::ServiceRow;
 use std::alloc::Global;
 
@@ -33,7 +34,7 @@ fn place_or_gap(rows: &[Listener], number: u64) -> Result<usize, usize>
 }
 
 /// Puts a listener in the place of the one of its number, or where it belongs, for which there is room.
-pub(crate) fn put_into(rows: &mut Vec<Listener>, listener: Listener, room: RowRoom)
+pub(crate) fn put_into(rows: &mut Vec<Listener>, listener: Listener, room: RowRoom<Listener>)
     requires order { AreRising rows.old.items }
     requires room { length rows.old.items < room }
     ensures now { rows.new.items ≡ with_row listener rows.old.items }

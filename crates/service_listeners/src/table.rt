@@ -6,14 +6,15 @@ ghost use Rattle.service_listeners.specs.Refusals.{IsRefusedBy, listen_refusal, 
 ghost use Rattle.service_listeners.specs.Saves.{HaveGrown, cut_to, saved_of};
 ghost use Rattle.service_listeners.specs.Undoing.{with_listener, without_change};
 ghost use Rattle.service_listeners.specs.declared.listener.Listener.{Listener};
-ghost use Rattle.std.specs.Option.{option_copied, option_map_or};
-ghost use Rattle.std.specs.Prelude.{◌≡◌, ◌<◌, ◌≤◌, ◌+◌, ◌↔◌, [], ◌∷◌, ◌++◌, drop, length, IfOk, IsTrue, None, OnErr, OnOk, Some};
+ghost use Rattle.std.specs.Option.{option_copied, option_map_or, option_to_list};
+ghost use Rattle.std.specs.Prelude.{◌≡◌, ◌<◌, ◌≤◌, ◌+◌, ◌-◌, ◌↔◌, [], ◌∷◌, ◌++◌, drop, length, IfOk, IsTrue, MatchOption, None, OnErr, OnOk, Some};
 
 use crate::cutting::{counts_told, cut_rows};
 use crate::rows::{keep_others, place_of, put_into, tell_from, untell_from};
-use crate::{ListenFault, Listener, RowRoom, Saved, ServiceEvent};
+use crate::{ListenFault, Listener, Saved, ServiceEvent};
 use ldap_filter::Filter;
 use prop_map::{List, OutOfMemory};
+use row_places::RowRoom;
 use service_registry::ServiceRow;
 use std::alloc::{AllocError, Global};
 use std::marker::Model;
@@ -145,14 +146,14 @@ impl Listeners {
     ///
     /// # Errors
     /// Only want of memory.
-    pub fn room(&self, alloc: Global) -> Result<RowRoom, OutOfMemory>
+    pub fn room(&self, alloc: Global) -> Result<RowRoom<Listener>, OutOfMemory>
         ensures { IfOk result (λ room. room ≡ length self.now.rows) }
     {
         RowRoom::of(alloc, self.rows.len())
     }
 
     /// Puts a listener that was removed back at its place, with what it was told. It takes no memory.
-    pub fn put_back(&mut self, listener: Listener, room: RowRoom)
+    pub fn put_back(&mut self, listener: Listener, room: RowRoom<Listener>)
         requires given { IsGiven self.old.numbered listener }
         requires room { length self.old.rows < room }
         ensures back { self.new ≡ with_listener listener self.old }
@@ -191,10 +192,13 @@ impl Listeners {
         }
     }
 
-    /// Takes the listener that came last back, as if it had never come. It takes no memory.
+    /// Takes the last listener that stands back, and the number that was given last: where nothing changed since it came, it
+    /// is as if it had never come. It takes no memory.
     pub fn undo_listen(&mut self) -> Option<Listener>
         ensures taken { (before : ListenerTable) (row : Listener) → self.old ≡ record { rows = before.rows ++ row ∷ []; numbered = before.numbered + 1 } → (self.new ≡ before) × (result ≡ Some row) }
         ensures empty { self.old.rows ≡ [] → (self.new ≡ self.old) × (result ≡ None) }
+        ensures row { self.old.rows ≡ self.new.rows ++ option_to_list result }
+        ensures number { MatchOption result (self.new.numbered ≡ self.old.numbered) (λ _. self.new.numbered ≡ self.old.numbered - 1) }
     {
         let row = self.rows.pop()?;
         self.numbered = self.numbered.saturating_sub(1);

@@ -1,7 +1,7 @@
 //! The table of services.
 ghost use Rattle.service_registry.specs.Registries.{IsNumbered, IsRefusedBy, Registered, none_registered, refusal, registered, row_of, set_row, unregistered, with_numbers_given, with_properties};
 ghost use Rattle.service_registry.specs.Services.{best_first, best_of, has_interface, ids};
-ghost use Rattle.service_registry.specs.Undoing.{with_row, with_row_back};
+ghost use Rattle.service_registry.specs.Undoing.{IsLeft, with_row, with_row_back};
 ghost use Rattle.prop_map.specs.declared.properties.Property.{Property};
 ghost use Rattle.service_registry.specs.declared.fault.RegistryFault.TheVariants.{OutOfMemory};
 ghost use Rattle.service_registry.specs.declared.row.ServiceRow.{ServiceRow};
@@ -12,8 +12,9 @@ ghost use Rattle.std.specs.Result.{result_err};
 use crate::new_rows::{new_row, set_row};
 use crate::places::{highest_number, own_place, place_of, place_or_gap};
 use crate::search::{best_with, numbers_with};
-use crate::{RegistryFault, RowRoom, Saved, ServiceRow};
+use crate::{RegistryFault, Saved, ServiceRow};
 use prop_map::{Copies, OutOfMemory, Properties, Str};
+use row_places::RowRoom;
 use std::alloc::{AllocError, Global};
 use std::marker::Model;
 use std::mem;
@@ -202,7 +203,7 @@ impl Registry {
     ///
     /// # Errors
     /// Only want of memory.
-    pub fn room(&self, alloc: Global) -> Result<RowRoom, OutOfMemory>
+    pub fn room(&self, alloc: Global) -> Result<RowRoom<ServiceRow>, OutOfMemory>
         ensures { IfOk result (λ room. room ≡ length self.now.rows) }
     {
         RowRoom::of(alloc, self.rows.len())
@@ -210,7 +211,7 @@ impl Registry {
 
     /// Puts a row that was unregistered back at its place. It takes no memory. Where its number was never given, or a row
     /// has it, nothing changes.
-    pub fn put_back(&mut self, row: ServiceRow, room: RowRoom)
+    pub fn put_back(&mut self, row: ServiceRow, room: RowRoom<ServiceRow>)
         requires room { length self.old.rows < room }
         ensures back { self.new ≡ with_row_back row self.old }
         ensures undone { (before : Registered) → IsNumbered before → row_of before.rows row.id ≡ Some row → self.old ≡ unregistered row.id before → self.new ≡ before }
@@ -243,6 +244,7 @@ impl Registry {
     /// of rows that stand stay given.
     pub fn give_back(&mut self, count: u64)
         ensures rows { self.new.rows ≡ self.old.rows }
+        ensures left { IsLeft count self.old self.new.numbered }
         ensures undone { (before : Registered) → IsNumbered before → self.old ≡ with_numbers_given count before → self.new ≡ before }
     {
         let least = highest_number(self.rows.as_slice());

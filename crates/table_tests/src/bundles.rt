@@ -86,6 +86,16 @@ fn an_install_is_taken_back(rt: HostRuntime) -> Result<(), Fail> {
     Ok(())
 }
 
+#[test]
+fn a_start_is_no_install_to_take_back(rt: HostRuntime) -> Result<(), Fail> {
+    let mut bundles = with_one(rt.alloc())?.ok_or("a bundle")?;
+    assert!(rt; bundles.start(1).is_ok());
+    assert!(rt; bundles.undo_install().is_none());
+    assert!(rt; bundles.numbered() == 1);
+    assert!(rt; are_events(&bundles, 0, &[1, 32, 128, 2]));
+    Ok(())
+}
+
 // A stop of bundle 1, and as it was again.
 fn stop_undone(alloc: Global, bundles: &mut Bundles) -> Result<(), LifeFault> {
     Bundles::note_put_back();

@@ -91,6 +91,15 @@ fn each_change_is_undone(rt: HostRuntime) -> Result<(), Fail> {
     Ok(())
 }
 
+#[test]
+fn the_number_of_a_standing_row_stays_given(rt: HostRuntime) -> Result<(), Fail> {
+    let mut registry = registry(rt.alloc(), &[1, 2]).ok().ok_or("a registry")?;
+    assert!(rt; registry.give(4)? == 2);
+    registry.give_back(9);
+    assert!(rt; registry.numbered() == 2);
+    Ok(())
+}
+
 // A dynamic reference x to services X.
 fn reference(
     alloc: Global,

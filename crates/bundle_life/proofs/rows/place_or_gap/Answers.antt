@@ -3,7 +3,7 @@ use Rattle.std.proofs.Common.{rules}
 use Rattle.std.proofs.lemmas.Fn.{always_returns_same}
 use Rattle.std.specs.Ordering.{nat_cmp}
 use Rattle.bundle_life.specs.declared.bundle.BundleLife.{BundleLife}
-use Rattle.bundle_life.proofs.NumberLaws.{placed_by}
+use Rattle.row_places.proofs.NumberLaws.{placed_by}
 use Rattle.bundle_life.proofs.rows.place_or_gap.Goals as goal
 
 pub returns-clause-place : goal.returns-clause-place

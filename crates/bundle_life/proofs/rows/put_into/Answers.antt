@@ -7,7 +7,7 @@ use Rattle.row_places.specs.RowPlaces.{IsPlaceOrGap}
 use Rattle.row_places.proofs.RowPlaceLaws.{filter_none}
 use Rattle.bundle_life.specs.declared.bundle.BundleLife.{BundleLife}
 use Rattle.bundle_life.specs.Numbers.{AreNumbered, IsGiven, has_number, stops, without_number}
-use Rattle.bundle_life.proofs.NumberLaws.{all_with, none_has, only_has, put_new, put_there, rising_with}
+use Rattle.row_places.proofs.NumberLaws.{all_with, none_has, only_has, put_new, put_there, rising_with}
 use Rattle.bundle_life.proofs.RowLaws.{count_exchanged, count_inserted}
 use Rattle.bundle_life.proofs.rows.put_into.Goals as goal
 

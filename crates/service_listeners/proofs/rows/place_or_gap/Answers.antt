@@ -3,7 +3,7 @@ use Rattle.std.proofs.Common.{rules}
 use Rattle.std.proofs.lemmas.Fn.{always_returns_same}
 use Rattle.std.specs.Ordering.{nat_cmp}
 use Rattle.service_listeners.specs.declared.listener.Listener.{Listener}
-use Rattle.service_listeners.proofs.NumberLaws.{placed_by}
+use Rattle.row_places.proofs.NumberLaws.{placed_by}
 use Rattle.service_listeners.proofs.rows.place_or_gap.Goals as goal
 
 pub returns-clause-place : goal.returns-clause-place

@@ -4,7 +4,7 @@ use Rattle.std.specs.Ordering.{nat_cmp}
 use Rattle.row_places.specs.RowPlaces.{IsPlaceOrGap}
 use Rattle.service_listeners.specs.declared.listener.Listener.{Listener}
 use Rattle.service_listeners.specs.Numbers.{AreNumbered, IsGiven}
-use Rattle.service_listeners.proofs.NumberLaws.{all_with, put_new, put_there, rising_with}
+use Rattle.row_places.proofs.NumberLaws.{all_with, put_new, put_there, rising_with}
 use Rattle.service_listeners.proofs.rows.put_into.Goals as goal
 
 pub returns-in-Ok-clause-now : goal.returns-in-Ok-clause-now

@@ -3,7 +3,7 @@ use Rattle.std.proofs.Common.{◌≡◌, ap, sym, ◌∙◌, subst, length, Some
 use Rattle.bundle_life.specs.declared.bundle.BundleLife.{BundleLife}
 use Rattle.bundle_life.specs.Lives.{BundleTable, bundle_of}
 use Rattle.bundle_life.specs.Numbers.{AreNumbered}
-use Rattle.bundle_life.proofs.NumberLaws.{stands}
+use Rattle.row_places.proofs.NumberLaws.{stands}
 use Rattle.bundle_life.proofs.table.Bundles.keep.Goals as goal
 
 pub returns-in_ok-of-in-Some-clause-number : goal.returns-in_ok-of-in-Some-clause-number

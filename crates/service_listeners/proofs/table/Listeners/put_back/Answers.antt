@@ -4,7 +4,7 @@ use Rattle.service_listeners.specs.declared.listener.Listener.{Listener}
 use Rattle.service_listeners.specs.Listening.{ListenerTable}
 use Rattle.service_listeners.specs.Numbers.{IsGiven}
 use Rattle.service_listeners.specs.Undoing.{with_listener}
-use Rattle.service_listeners.proofs.NumberLaws.{taken_back}
+use Rattle.row_places.proofs.NumberLaws.{taken_back}
 use Rattle.service_listeners.proofs.table.Listeners.put_back.Goals as goal
 
 pub invariant_of-self : goal.invariant_of-self

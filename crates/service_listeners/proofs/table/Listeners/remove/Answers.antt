@@ -7,7 +7,7 @@ use Rattle.service_listeners.specs.declared.listener.Listener.{Listener}
 use Rattle.service_listeners.specs.declared.listen_fault.ListenFault.TheVariants.{NoListener}
 use Rattle.service_listeners.specs.Numbers.{IsGiven, has_number}
 use Rattle.service_listeners.specs.Refusals.{refuse_if}
-use Rattle.service_listeners.proofs.NumberLaws.{numbers_tell}
+use Rattle.row_places.proofs.NumberLaws.{numbers_tell}
 use Rattle.service_listeners.proofs.table.Listeners.remove.Goals as goal
 
 pub remove-requires : goal.remove-requires

@@ -3,8 +3,20 @@ use Rattle.std.proofs.Common.{◌≡◌, ◌≤◌, ◌+◌, arith, ap, sym, sub
 use Rattle.std.specs.List.{All}
 use Rattle.service_registry.specs.declared.row.ServiceRow.{ServiceRow}
 use Rattle.service_registry.specs.Registries.{Registered, with_numbers_given}
+use Rattle.service_registry.specs.Undoing.{IsLeft}
 use Rattle.service_registry.proofs.Found.{as_table}
 use Rattle.service_registry.proofs.registry.Registry.give_back.Goals as goal
+
+pub returns-clause-left : goal.returns-clause-left
+returns-clause-left c =
+    let value = c.as_slice.ensures.value in
+    let all = subst (λ l. All (λ (r : ServiceRow). r.id ≤ c.highest_number-least.result) l) value c.highest_number-least.ensures.all in
+    subst (λ (t : Registered). IsLeft c.args.count t c.max-self-inside.result) c.self.view_is (
+      (omega (arith, c.saturating_sub.ensures, c.max-self-inside.ensures), λ k d within. omega (arith, all k d within, c.max-self-inside.ensures)),
+      λ given covers.
+          let low = c.highest_number-least.ensures.least given (subst (λ l. All (λ (r : ServiceRow). r.id ≤ given) l) (sym value) covers.1) in
+          omega (arith, low, covers.0, c.saturating_sub.ensures, c.max-self-inside.ensures),
+    )
 
 pub returns-clause-undone : goal.returns-clause-undone
 returns-clause-undone c before numbered was =

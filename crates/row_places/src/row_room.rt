@@ -1,18 +1,17 @@
-//! Room for rows, taken before a row is taken out, so that it can be put back without memory.
+//! Room for the rows of a table, taken before a row is taken out, so that it can be put back without memory.
 ghost use Rattle.std.specs.Prelude.{◌≡◌, ◌≤◌, ◌<◌, IfOk, insert, vec_len};
 
-use crate::ServiceRow;
 use prop_map::OutOfMemory;
 use std::alloc::Global;
 use std::marker::Model;
 
 /// Room for rows. Contracts see for how many.
 #[derive(Drop)]
-pub struct RowRoom {
-    rows: Vec<ServiceRow>,
+pub struct RowRoom<T> {
+    rows: Vec<T>,
 }
 
-impl Model for RowRoom {
+impl<T> Model for RowRoom<T> {
     ghost use Rattle.std.specs.Prelude.{◌≡◌, ℕ, vec_capacity, vec_len};
 
     ghost Value = { ℕ };
@@ -22,9 +21,12 @@ impl Model for RowRoom {
     ghost invariant = { λ r. vec_len r.rows ≡ 0 };
 }
 
-impl RowRoom {
+impl<T: Drop> RowRoom<T> {
     /// Room for so many rows.
-    pub(crate) fn of(alloc: Global, count: usize) -> Result<RowRoom, OutOfMemory>
+    ///
+    /// # Errors
+    /// Only want of memory.
+    pub fn of(alloc: Global, count: usize) -> Result<RowRoom<T>, OutOfMemory>
         ensures { IfOk result (λ room. room ≡ count) }
     {
         Ok(RowRoom {
@@ -32,8 +34,9 @@ impl RowRoom {
         })
     }
 
-    /// Puts a row at a place among others. Where there is no room beside them they move into this one.
-    pub(crate) fn insert(self, rows: &mut Vec<ServiceRow>, place: usize, row: ServiceRow)
+    /// Puts a row at a place among others. Where there is no room beside them they move into this one. It
+    /// takes no memory.
+    pub fn insert(self, rows: &mut Vec<T>, place: usize, row: T)
         requires within { place ≤ vec_len rows.old }
         requires room { vec_len rows.old < self }
         ensures { rows.new.items ≡ insert rows.old.items place row }
