@@ -17,7 +17,8 @@ use Rattle.callback_orders.specs.declared.instance_view.Wish.{Wish}
 use Rattle.callback_orders.specs.declared.word.Called.{Called}
 use Rattle.callback_orders.specs.Sequences.{alternate, bound_by, created, is_bound, is_sequence, have_ended, may_come, one_at_a_time}
 use Rattle.callback_orders.specs.References.{differs, holds_all, is_desired, is_held, to_bind, to_unbind, to_tell, to_let_go}
-use Rattle.callback_orders.specs.Due.{bind_at, unbind_at, tell_at, let_go_at, bind_or_unbind, due_in_making, due_in_phase, due_while_active, due_while_ending, due_of, modified_if_stale, with_places}
+use Rattle.callback_orders.specs.Due.{bind_at, unbind_at, tell_at, let_go_at, bind_or_unbind, due_in_making, due_in_phase, due_while_active, due_while_ending, due_of, modified_if_stale}
+use Rattle.prop_map.specs.Words.{with_places}
 use Rattle.callback_orders.specs.Lives.{HoldsThese, IsViewOf, MayComeNext, callback_of, held_for, is_living, names_one_of, phase_of, speaks_of}
 use Rattle.callback_orders.proofs.EachLemmas.{OfSome, Each, of_some-map, of_some-map_or, of_some-or, each-append, each-map, each-filter_map, first_some-each, last_or-each, last_or-none, find-each, find-passes, filter-each, each-weaker}
 use Rattle.callback_orders.proofs.RoundLemmas.{bound_end}
@@ -157,10 +158,10 @@ in_phase : (calls : List Called) (phase : Phase) (callback : Callback) → phase
 in_phase calls phase callback e h = subst (λ (x : Phase). may_follow x callback ≡ true) e h
 
 making_comes : (names : List (List ℕ)) (calls : List Called) (i : ℕ) (rs : List ReferenceView) → have_ended calls ≡ true → Making ≡ phase_of calls
-    → Each (AtPlace names calls) (with_places rs) → OfSome (DueComes names calls) (due_in_making i rs)
+    → Each (AtPlace names calls) (with_places 0 rs) → OfSome (DueComes names calls) (due_in_making i rs)
 making_comes names calls i rs e m at =
-    of_some-map_or (AtPlace names calls) (DueComes names calls) (bind_or_unbind i) (find (λ (r : ℕ × ReferenceView). differs r.1) (with_places rs)) (Some (ActivateDue i))
-    (find-each (AtPlace names calls) (λ (r : ℕ × ReferenceView). differs r.1) (with_places rs) at)
+    of_some-map_or (AtPlace names calls) (DueComes names calls) (bind_or_unbind i) (find (λ (r : ℕ × ReferenceView). differs r.1) (with_places 0 rs)) (Some (ActivateDue i))
+    (find-each (AtPlace names calls) (λ (r : ℕ × ReferenceView). differs r.1) (with_places 0 rs) at)
     (λ p a. of_some-or (DueComes names calls) (bind_at i p) (unbind_at i p)
     (bind_comes names calls i p e (λ r s. in_phase calls Making (Bind r s) m refl) a)
     (unbind_comes names calls i p (to_unbind p.1) e (λ r s. in_phase calls Making (Unbind r s) m refl) a (unbind-held p.1)))
@@ -171,20 +172,20 @@ stale_comes names calls i true m = record { follows = in_phase calls Active Modi
 stale_comes names calls i false m = tt
 
 active_comes : (names : List (List ℕ)) (calls : List Called) (v : InstanceView) → have_ended calls ≡ true → Active ≡ phase_of calls
-    → Each (AtPlace names calls) (with_places v.references) → OfSome (DueComes names calls) (due_while_active v)
+    → Each (AtPlace names calls) (with_places 0 v.references) → OfSome (DueComes names calls) (due_while_active v)
 active_comes names calls v e m at =
     let Good = DueComes names calls in
-    let binds = map (bind_at v.instance) (with_places v.references) in
-    let unbinds = map (unbind_at v.instance) (with_places v.references) in
-    let tells = map (tell_at v.instance) (with_places v.references) in
+    let binds = map (bind_at v.instance) (with_places 0 v.references) in
+    let unbinds = map (unbind_at v.instance) (with_places 0 v.references) in
+    let tells = map (tell_at v.instance) (with_places 0 v.references) in
     first_some-each Good (binds ++ unbinds ++ tells ++ modified_if_stale v ∷ [])
     (each-append (OfSome Good) (binds ++ unbinds ++ tells) (modified_if_stale v ∷ [])
     (each-append (OfSome Good) (binds ++ unbinds) tells
     (each-append (OfSome Good) binds unbinds
-    (each-map (AtPlace names calls) (OfSome Good) (bind_at v.instance) (with_places v.references) at (λ p a. bind_comes names calls v.instance p e (λ r s. in_phase calls Active (Bind r s) m refl) a))
-    (each-map (AtPlace names calls) (OfSome Good) (unbind_at v.instance) (with_places v.references) at
+    (each-map (AtPlace names calls) (OfSome Good) (bind_at v.instance) (with_places 0 v.references) at (λ p a. bind_comes names calls v.instance p e (λ r s. in_phase calls Active (Bind r s) m refl) a))
+    (each-map (AtPlace names calls) (OfSome Good) (unbind_at v.instance) (with_places 0 v.references) at
     (λ p a. unbind_comes names calls v.instance p (to_unbind p.1) e (λ r s. in_phase calls Active (Unbind r s) m refl) a (unbind-held p.1))))
-    (each-map (AtPlace names calls) (OfSome Good) (tell_at v.instance) (with_places v.references) at (λ p a. tell_comes names calls v.instance p e (λ r s. in_phase calls Active (Updated r s) m refl) a)))
+    (each-map (AtPlace names calls) (OfSome Good) (tell_at v.instance) (with_places 0 v.references) at (λ p a. tell_comes names calls v.instance p e (λ r s. in_phase calls Active (Updated r s) m refl) a)))
     (stale_comes names calls v.instance v.stale m, tt))
 
 -- where no reference has anything to let go, nothing is held
@@ -211,18 +212,18 @@ holds_none calls i k (r ∷ rs) (n ∷ names) h e =
 
 ended_comes : (names : List (List ℕ)) (calls : List Called) (i : ℕ) (rs : List ReferenceView) → have_ended calls ≡ true → speaks_of names calls ≡ true → Holding calls rs names
     → ((r : List ℕ) (s : ℕ) → may_follow (phase_of calls) (Unbind r s) ≡ true) → may_follow (phase_of calls) Destroy ≡ true
-    → Each (AtPlace names calls) (with_places rs) → OfSome (DueComes names calls) (last_or (Some (DestroyDue i)) (filter_map (let_go_at i) (with_places rs)))
+    → Each (AtPlace names calls) (with_places 0 rs) → OfSome (DueComes names calls) (last_or (Some (DestroyDue i)) (filter_map (let_go_at i) (with_places 0 rs)))
 ended_comes names calls i rs e sp h f g at =
-    last_or-none (DueComes names calls) (DestroyDue i) (filter_map (let_go_at i) (with_places rs))
+    last_or-none (DueComes names calls) (DestroyDue i) (filter_map (let_go_at i) (with_places 0 rs))
     (λ k. record { follows = g; comes = destroy_may_come calls names e sp (holds_none calls i 0 rs names h k); named = refl })
-    (each-filter_map (AtPlace names calls) (DueComes names calls) (let_go_at i) (with_places rs) at (λ p a. unbind_comes names calls i p (to_let_go p.1) e f a (let_go-held p.1)))
+    (each-filter_map (AtPlace names calls) (DueComes names calls) (let_go_at i) (with_places 0 rs) at (λ p a. unbind_comes names calls i p (to_let_go p.1) e f a (let_go-held p.1)))
 
 deactivate_comes : (names : List (List ℕ)) (calls : List Called) (i : ℕ) (t : Bool) → Active ≡ phase_of calls → OfSome (DueComes names calls) (if t then Some (DeactivateDue i) else None)
 deactivate_comes names calls i true m = record { follows = in_phase calls Active Deactivate m refl; comes = refl; named = refl }
 deactivate_comes names calls i false m = tt
 
 ending_comes : (names : List (List ℕ)) (calls : List Called) (v : InstanceView) (phase : Phase) → have_ended calls ≡ true → phase ≡ phase_of calls → speaks_of names calls ≡ true
-    → Holding calls v.references names → Each (AtPlace names calls) (with_places v.references) → OfSome (DueComes names calls) (due_while_ending v phase)
+    → Holding calls v.references names → Each (AtPlace names calls) (with_places 0 v.references) → OfSome (DueComes names calls) (due_while_ending v phase)
 ending_comes names calls v Active e m sp h at = deactivate_comes names calls v.instance (v.unheld && v.drained) m
 ending_comes names calls v Making e m sp h at =
     ended_comes names calls v.instance v.references e sp h (λ r s. in_phase calls Making (Unbind r s) m refl) (in_phase calls Making Destroy m refl) at
@@ -230,7 +231,7 @@ ending_comes names calls v Left e m sp h at =
     ended_comes names calls v.instance v.references e sp h (λ r s. in_phase calls Left (Unbind r s) m refl) (in_phase calls Left Destroy m refl) at
 
 going_on_comes : (names : List (List ℕ)) (calls : List Called) (v : InstanceView) (phase : Phase) → have_ended calls ≡ true → phase ≡ phase_of calls
-    → Each (AtPlace names calls) (with_places v.references) → OfSome (DueComes names calls) (due_in_phase v phase)
+    → Each (AtPlace names calls) (with_places 0 v.references) → OfSome (DueComes names calls) (due_in_phase v phase)
 going_on_comes names calls v Making e m at = making_comes names calls v.instance v.references e m at
 going_on_comes names calls v Active e m at = active_comes names calls v e m at
 going_on_comes names calls v Left e m at = tt
@@ -241,7 +242,7 @@ either_comes P false o p h k = k
 
 due_comes : (names : List (List ℕ)) (calls : List Called) (v : InstanceView) → have_ended calls ≡ true → IsViewOf names calls v → OfSome (DueComes names calls) (due_of v)
 due_comes names calls v e w =
-    let at : Each (AtPlace names calls) (with_places v.references) = at_places calls v.references [] names names 0 w.held refl refl in
+    let at : Each (AtPlace names calls) (with_places 0 v.references) = at_places calls v.references [] names names 0 w.held refl refl in
     either_comes (DueComes names calls) v.outstanding None (if v.ending then due_while_ending v v.phase else due_in_phase v v.phase) tt
     (either_comes (DueComes names calls) v.ending (due_while_ending v v.phase) (due_in_phase v v.phase)
     (ending_comes names calls v v.phase e w.phase w.spoken w.held at) (going_on_comes names calls v v.phase e w.phase at))

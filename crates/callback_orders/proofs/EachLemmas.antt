@@ -3,7 +3,7 @@ use Rattle.std.proofs.Common.{◌≡◌, List, [], ◌∷◌, ◌++◌, Bool, tr
 use Rattle.std.specs.Prelude.{map, filter, find, filter_map, option_map, Option, Some, None, if◌then◌else◌}
 use Rattle.std.specs.List.{cons_option, last_or}
 use Rattle.std.specs.Option.{option_map_or, option_or}
-use Rattle.callback_orders.specs.Due.{first_some}
+use Rattle.prop_map.specs.Words.{first_some}
 
 -- what holds of the value, where there is one; what holds of each item
 abbrev pub OfSome : {X : Type 0} → (X → Type 0) → Option X → Type 0
@@ -45,7 +45,8 @@ each-filter_map P Q f (x ∷ xs) h k = each-cons Q (f x) (filter_map f xs) (k x 
 
 pub first_some-each : {X : Type 0} (P : X → Type 0) (xs : List (Option X)) → Each (OfSome P) xs → OfSome P (first_some xs)
 first_some-each P [] h = tt
-first_some-each P (x ∷ xs) h = of_some-or P x (first_some xs) h.0 (first_some-each P xs h.1)
+first_some-each P (None ∷ xs) h = first_some-each P xs h.1
+first_some-each P (Some x ∷ xs) h = h.0
 
 pub last_or-each : {X : Type 0} (P : X → Type 0) (o : Option X) (xs : List X) → OfSome P o → Each P xs → OfSome P (last_or o xs)
 last_or-each P o [] h k = h

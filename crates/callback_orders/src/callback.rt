@@ -1,4 +1,6 @@
 //! What an instance of a component is told (OSGi Compendium 8, section 112.5 "Component Life Cycle").
+ghost use Rattle.callback_orders.specs.Grammar.{is_activate, is_create, is_destroy};
+ghost use Rattle.std.specs.Prelude.{◌≡◌};
 
 use prop_map::{Copies, OutOfMemory, Str};
 use std::alloc::Global;
@@ -48,6 +50,29 @@ pub enum Outcome {
     Refused,
     /// The component's code found no memory.
     NoMemory,
+}
+
+impl Callback {
+    /// Whether it is the first callback of an instance, Create. It takes no memory.
+    pub fn is_create(&self) -> bool
+        ensures { result ≡ is_create self.now }
+    {
+        matches!(self, Callback::Create)
+    }
+
+    /// Whether it is Activate. It takes no memory.
+    pub fn is_activate(&self) -> bool
+        ensures { result ≡ is_activate self.now }
+    {
+        matches!(self, Callback::Activate)
+    }
+
+    /// Whether it is the last callback of an instance, Destroy. It takes no memory.
+    pub fn is_destroy(&self) -> bool
+        ensures { result ≡ is_destroy self.now }
+    {
+        matches!(self, Callback::Destroy)
+    }
 }
 
 impl Copies for Callback {

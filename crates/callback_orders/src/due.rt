@@ -1,5 +1,6 @@
 //! The due callback of an instance, and the first due callback of all (OSGi Compendium 8, section 112.5 "Component Life Cycle").
-ghost use Rattle.callback_orders.specs.Due.{bind_at, bind_or_unbind, tell_at, unbind_at, due_in_making, due_while_active, modified_if_stale, due_while_ending, due_of, first_due, first_some, with_places, let_go_at};
+ghost use Rattle.callback_orders.specs.Due.{bind_at, bind_or_unbind, tell_at, unbind_at, due_in_making, due_while_active, modified_if_stale, due_while_ending, due_of, first_due, let_go_at};
+ghost use Rattle.prop_map.specs.Words.{first_some, with_places};
 ghost use Rattle.std.specs.List.{last_or};
 ghost use Rattle.std.specs.Prelude.{◌≡◌, filter_map, map};
 
@@ -64,7 +65,7 @@ pub enum DueRef {
 }
 
 fn first_bind(instance: u64, references: &[ReferenceView]) -> Option<DueRef>
-    ensures { result ≡ first_some (map (bind_at instance) (with_places references.now)) }
+    ensures { result ≡ first_some (map (bind_at instance) (with_places 0 references.now)) }
 {
     for (reference, view) in references.iter().enumerate() {
         if let Some(service) = to_bind(view) {
@@ -79,7 +80,7 @@ fn first_bind(instance: u64, references: &[ReferenceView]) -> Option<DueRef>
 }
 
 fn first_unbind(instance: u64, references: &[ReferenceView]) -> Option<DueRef>
-    ensures { result ≡ first_some (map (unbind_at instance) (with_places references.now)) }
+    ensures { result ≡ first_some (map (unbind_at instance) (with_places 0 references.now)) }
 {
     for (reference, view) in references.iter().enumerate() {
         if let Some(service) = to_unbind(view) {
@@ -94,7 +95,7 @@ fn first_unbind(instance: u64, references: &[ReferenceView]) -> Option<DueRef>
 }
 
 fn first_updated(instance: u64, references: &[ReferenceView]) -> Option<DueRef>
-    ensures { result ≡ first_some (map (tell_at instance) (with_places references.now)) }
+    ensures { result ≡ first_some (map (tell_at instance) (with_places 0 references.now)) }
 {
     for (reference, view) in references.iter().enumerate() {
         if let Some(service) = to_tell(view) {
@@ -110,7 +111,7 @@ fn first_updated(instance: u64, references: &[ReferenceView]) -> Option<DueRef>
 
 // The last held service goes first; an instance that holds nothing ceases.
 fn last_unbind_or_destroy(instance: u64, references: &[ReferenceView]) -> Option<DueRef>
-    ensures { result ≡ last_or (Some (DueRef.Destroy instance)) (filter_map (let_go_at instance) (with_places references.now)) }
+    ensures { result ≡ last_or (Some (DueRef.Destroy instance)) (filter_map (let_go_at instance) (with_places 0 references.now)) }
 {
     let mut due = Some(DueRef::Destroy { instance });
     for (reference, view) in references.iter().enumerate() {

@@ -1,6 +1,6 @@
 -- The component configurations of a platform by themselves: what the lives of their instances and the plain pass make of them. OSGi Compendium 8, chapter 112,
 -- "Satisfied"; the states are those of `ComponentConfigurationDTO`.
-use Rattle.std.specs.Prelude.{◌≡◌, ◌<◌, ◌≤◌, ℕ, ◌+◌, ◌==◌, ◌&&◌, ◌||◌, List, [], ◌∷◌, ◌++◌, map, Bool, false, not, filter, find, flat_map, length, Option, option_map, if◌then◌else◌}
+use Rattle.std.specs.Prelude.{◌≡◌, ◌<◌, ◌≤◌, ℕ, ◌+◌, ◌==◌, ◌&&◌, ◌||◌, List, [], ◌∷◌, ◌++◌, map, Bool, false, not, filter, flat_map, length, Option, option_map, if◌then◌else◌}
 use Rattle.std.specs.List.{Contains, list_any}
 use Rattle.component_dto.specs.declared.description.Description.{Description}
 use Rattle.level_order.specs.Levels.{AreLevels}
@@ -16,7 +16,7 @@ use Rattle.component_state.specs.declared.plain_passes.PassEnd.{PassEnd}
 use Rattle.component_state.specs.declared.rows.BundleRow.{BundleRow}
 use Rattle.component_state.specs.declared.rows.WorldRows.{WorldRows}
 use Rattle.component_state.specs.ComponentConfigurations.{component_configurations, components_after, new_components}
-use Rattle.component_state.specs.Components.{lacks_configuration}
+use Rattle.component_state.specs.Components.{existing_of, lacks_configuration}
 use Rattle.component_state.specs.Marks.{failed_after}
 use Rattle.component_state.specs.Passes.{HasPassed, Stage, next_from, opening}
 use Rattle.component_state.specs.Periods.{is_open}
@@ -75,7 +75,7 @@ state_in s c =
 
 -- none where there is no such component configuration
 abbrev pub state_of : States → ℕ → Option ℕ
-state_of s configuration = option_map (state_in s) (find (λ (c : Component). (c.number == configuration) && c.exists) s.components)
+state_of s configuration = option_map (state_in s) (existing_of s.components configuration)
 
 -- ---- the plain pass
 

@@ -102,7 +102,7 @@ fn push_for_bundle<'d>(
 ) -> Result<(), OutOfMemory>
     ensures { OnOk result (found.new.items ≡ found.old.items ++ components_for_bundle configurations.now bundle.now) }
 {
-    if bundle.is_active() {
+    if bundle.is_active_bundle() {
         push_enabled(alloc, bundle, configurations, found)
     } else {
         Ok(())

@@ -4,11 +4,10 @@ ghost use Rattle.std.specs.Prelude.{◌≡◌, IfOk, OnErr, OnOk};
 
 use crate::components::{existing_of, lacks_configuration};
 use crate::instance_lives::{copied, has_active, set_active, without};
-use crate::number_lists::has;
 use crate::open_marks::mark;
 use crate::periods::is_open;
 use crate::{Choice, Component, LivingInstance, OpenPeriod, Origin, SavedStates};
-use prop_map::{Copies, List, OutOfMemory};
+use prop_map::{Copies, List, OutOfMemory, has};
 use std::alloc::Global;
 use std::marker::Model;
 

@@ -1,8 +1,7 @@
 //! Component configurations by their numbers, and what their policy asks for (OSGi Compendium 8, chapter 112).
-ghost use Rattle.component_state.specs.Components.{component_of, exists, is_changed_at, lacks_configuration, needs_of, provides_no_service};
+ghost use Rattle.component_state.specs.Components.{component_of, existing_of, exists, is_changed_at, lacks_configuration, needs_of, provides_no_service};
 ghost use Rattle.std.specs.Option.{option_copied};
-ghost use Rattle.component_state.specs.declared.component.Component.{Component};
-ghost use Rattle.std.specs.Prelude.{◌≡◌, ◌==◌, ◌&&◌, IfOk, find};
+ghost use Rattle.std.specs.Prelude.{◌≡◌, IfOk};
 
 use crate::Component;
 use component_dto::ConfigurationPolicy;
@@ -45,8 +44,9 @@ pub fn needs_of(alloc: Global, component: &Component) -> Result<List<Need>, OutO
     )
 }
 
-// Whether its policy asks for a configuration, and one of its PIDs has none that counts.
-pub(crate) fn lacks_configuration(component: &Component) -> bool
+/// Whether the policy of a component configuration asks for a configuration, and one of its PIDs has none that counts. It takes
+/// no memory.
+pub fn lacks_configuration(component: &Component) -> bool
     ensures { result ≡ lacks_configuration component.now }
 {
     matches!(
@@ -77,9 +77,9 @@ pub(crate) fn is_changed_at(place: u64, component: &Component) -> bool
     }
 }
 
-// The component configuration of a number, if there is one that hasn't ceased.
-pub(crate) fn existing_of(components: &[Component], number: u64) -> Option<&Component>
-    ensures { option_copied result ≡ find (λ (c : Component). (c.number == number) && c.exists) components.now }
+/// The component configuration of a number, if there is one that hasn't ceased.
+pub fn existing_of(components: &[Component], number: u64) -> Option<&Component>
+    ensures { option_copied result ≡ existing_of components.now number }
 {
     components
         .iter()

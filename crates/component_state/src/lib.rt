@@ -36,7 +36,7 @@ pub use component_configurations::{
 };
 pub use component_rows::components_after;
 pub use component_states::ComponentStates;
-pub use components::{component_of, exists, needs_of};
+pub use components::{component_of, existing_of, exists, lacks_configuration, needs_of};
 pub use living_instance::LivingInstance;
 pub use marks::failed_after;
 pub use one_pass::note_one_pass;

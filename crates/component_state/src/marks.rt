@@ -6,8 +6,7 @@ ghost use Rattle.std.specs.Prelude.{◌≡◌, ◌&&◌, IfOk, filter};
 
 use crate::Component;
 use crate::components::{exists, is_changed_at};
-use crate::number_lists::has;
-use prop_map::OutOfMemory;
+use prop_map::{OutOfMemory, has};
 use std::alloc::Global;
 
 /// The numbers of the component configurations that are failed after the entry at a place: those that were failed and

@@ -3,12 +3,7 @@ ghost use Rattle.prop_map.specs.Words.{has, same_set};
 ghost use Rattle.std.specs.List.{list_all};
 ghost use Rattle.std.specs.Prelude.{◌≡◌};
 
-// Whether the number is in the list.
-pub(crate) fn has(numbers: &[u64], number: u64) -> bool
-    ensures { result ≡ has numbers.now number }
-{
-    numbers.iter().any(|other| *other == number)
-}
+use prop_map::has;
 
 // Whether the numbers of one list are those of the other, as sets.
 pub(crate) fn same_set(left: &[u64], right: &[u64]) -> bool

@@ -12,10 +12,10 @@ ghost use Rattle.std.specs.Prelude.{◌≡◌, ◌==◌, IfOk, map};
 
 use crate::choices::choice_at;
 use crate::components::is_changed_at;
-use crate::number_lists::{has, has_all, same_set};
+use crate::number_lists::{has_all, same_set};
 use crate::periods::is_current;
 use crate::{Choice, Component, OpenPeriod, Origin, Stage};
-use prop_map::{OutOfMemory, Policy, PolicyOption};
+use prop_map::{OutOfMemory, Policy, PolicyOption, has};
 use reference_match::{Need, chosen, standing_targets};
 use std::alloc::Global;
 

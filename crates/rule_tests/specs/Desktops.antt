@@ -10,7 +10,7 @@ use Rattle.turn_runner.specs.Outcomes.{needs_object}
 
 -- the turns to come, how many more may begin, the turn under way, the objects of the instances, the turns that ended, and whether a drain is due
 pub record Desktop (O : Type 0) : Type 0 where
-  pub coming : List TurnWork
+  pub turns_to_come : List TurnWork
   pub room : ℕ
   pub under_way : Option TurnWork
   pub held : List (Held O)
@@ -34,7 +34,7 @@ first_fits held (work ∷ later) = fits held work
 
 -- the first turn to come is due where no turn is under way and it fits
 abbrev pub is_due : {O : Type 0} → Desktop O → Bool
-is_due desk = is_none desk.under_way && first_fits desk.held desk.coming
+is_due desk = is_none desk.under_way && first_fits desk.held desk.turns_to_come
 
 abbrev pub with_number : ℕ → Option TurnWork → Option TurnWork
 with_number number None = None
@@ -42,7 +42,7 @@ with_number number (Some work) = if work.number == number then Some work else No
 
 -- the first turn to come begins
 abbrev pub Begins : {O : Type 0} → Desktop O → TurnWork → Desktop O → Type 0
-Begins before work after = (before.coming ≡ work ∷ after.coming) × (after ≡ record before { coming = after.coming; room = before.room - 1; under_way = Some work })
+Begins before work after = (before.turns_to_come ≡ work ∷ after.turns_to_come) × (after ≡ record before { turns_to_come = after.turns_to_come; room = before.room - 1; under_way = Some work })
 
 -- the turn under way ends, and a drain is due
 abbrev pub EndsAs : {O : Type 0} → Desktop O → ℕ → Outcome → Desktop O → Type 0

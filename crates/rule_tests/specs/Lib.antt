@@ -1,2 +1,1 @@
-pub mod NumberedKinds
 pub mod Desktops

@@ -1,5 +1,5 @@
-//! Tests of the rules: the order of callbacks, component code, turns, and component configurations. Component code and a
-//! desk for tests stand here too.
+//! Tests of the rules: the order of callbacks, component code, turns, and component configurations. A desk for tests stands
+//! here too.
 #![tactic(auto)]
 
 #[cfg(test)]
@@ -11,7 +11,6 @@ mod due_callbacks;
 mod memory_desk;
 #[cfg(test)]
 mod nested_calls;
-mod numbered_kind;
 #[cfg(test)]
 mod passes;
 #[cfg(test)]
@@ -20,4 +19,3 @@ mod samples;
 mod turns;
 
 pub use memory_desk::{Ended, Held, MemoryDesk};
-pub use numbered_kind::{Numbered, NumberedKind, Relay};

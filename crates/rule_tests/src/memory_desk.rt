@@ -36,7 +36,7 @@ pub struct Held<O> {
 /// has an object exactly where it needs one. A given number of turns may begin.
 #[derive(Drop)]
 pub struct MemoryDesk<O> {
-    coming: VecDeque<TurnWork>,
+    turns_to_come: VecDeque<TurnWork>,
     room: u64,
     under_way: Option<TurnWork>,
     held: Vec<Held<O>>,
@@ -49,7 +49,7 @@ impl<O> Model for MemoryDesk<O> {
 
     ghost Value = { Desktop O };
 
-    ghost view = { λ d. record { coming = d.coming.items; room = d.room; under_way = d.under_way; held = d.held.items; ended = d.ended.items; drain = d.drain } };
+    ghost view = { λ d. record { turns_to_come = d.turns_to_come.items; room = d.room; under_way = d.under_way; held = d.held.items; ended = d.ended.items; drain = d.drain } };
 }
 
 fn is_holder<O>(held: &[Held<O>], instance: u64) -> bool
@@ -86,11 +86,11 @@ fn keep<O: Drop>(held: &mut Vec<Held<O>>, instance: u64, made: Option<Arc<O>>)
 
 impl<O> MemoryDesk<O> {
     /// A desk with these turns to come, the first one first, of which so many may begin. It has no objects.
-    pub fn new(alloc: Global, coming: VecDeque<TurnWork>, room: u64) -> MemoryDesk<O>
-        ensures { result ≡ record { coming = coming.items; room = room; under_way = None; held = []; ended = []; drain = true } }
+    pub fn new(alloc: Global, turns_to_come: VecDeque<TurnWork>, room: u64) -> MemoryDesk<O>
+        ensures { result ≡ record { turns_to_come = turns_to_come.items; room = room; under_way = None; held = []; ended = []; drain = true } }
     {
         MemoryDesk {
-            coming,
+            turns_to_come,
             room,
             under_way: None,
             held: Vec::new(alloc),
@@ -118,7 +118,7 @@ impl<O> MemoryDesk<O> {
         if self.under_way.is_some() {
             return false;
         }
-        match self.coming.front() {
+        match self.turns_to_come.front() {
             Some(work) => self.fits(work),
             None => false,
         }
@@ -151,11 +151,11 @@ impl<O: Drop> Desk<O> for MemoryDesk<O> {
         if self.room == 0 {
             return Err(DeskFault::JournalFull);
         }
-        let kept = match self.coming.front() {
+        let kept = match self.turns_to_come.front() {
             Some(work) => work.copy(alloc)?,
             None => unreachable!(),
         };
-        let taken = self.coming.pop_front();
+        let taken = self.turns_to_come.pop_front();
         self.under_way = Some(kept);
         self.room -= 1;
         Ok(taken)

@@ -1,10 +1,10 @@
 //! Turns one by one and until nothing is due.
 ghost use Rattle.std.specs.Prelude.{◌≡◌, IfOk};
 
+use crate::MemoryDesk;
 use crate::samples::{site, text};
-use crate::{MemoryDesk, NumberedKind};
 use callback_orders::{Callback, Outcome};
-use kind_trait::Kinds;
+use demonstration_kinds::Demonstration;
 use std::alloc::{AllocError, Global};
 use std::collections::VecDeque;
 use std::test::Fail;
@@ -18,27 +18,23 @@ fn work(alloc: Global, number: u64, callback: Callback) -> Result<TurnWork, Allo
         number,
         callback,
         instance: 1,
-        name: text(alloc, "numbered")?,
-        site: site(alloc, "demo.Numbered", "refuses", "activate")?,
+        name: text(alloc, "echo")?,
+        site: site(alloc, "demo.Echo", "refuse", "activate")?,
     })
 }
 
-fn settled<K: Kinds>(
-    alloc: Global,
-    kinds: &K,
-    desk: &mut MemoryDesk<K::Object>,
-) -> Result<u64, SettleFault> {
-    settle(alloc, desk, kinds, 4)
+fn settled(alloc: Global, desk: &mut MemoryDesk<()>) -> Result<u64, SettleFault> {
+    settle(alloc, desk, &Demonstration, 4)
 }
 
 #[test]
 fn turns_run_until_nothing_is_due(rt: HostRuntime) -> Result<(), Fail> {
     let alloc = rt.alloc();
-    let mut coming = VecDeque::new(alloc);
-    coming.push_back(work(alloc, 1, Callback::Create)?)?;
-    coming.push_back(work(alloc, 2, Callback::Activate)?)?;
-    let mut desk = MemoryDesk::new(alloc, coming, 4);
-    assert!(rt; settled(alloc, &NumberedKind::new(), &mut desk) == Ok(2));
+    let mut turns_to_come = VecDeque::new(alloc);
+    turns_to_come.push_back(work(alloc, 1, Callback::Create)?)?;
+    turns_to_come.push_back(work(alloc, 2, Callback::Activate)?)?;
+    let mut desk = MemoryDesk::new(alloc, turns_to_come, 4);
+    assert!(rt; settled(alloc, &mut desk) == Ok(2));
     assert!(rt;
         desk.ended()
             .last()
@@ -50,7 +46,7 @@ fn turns_run_until_nothing_is_due(rt: HostRuntime) -> Result<(), Fail> {
 #[test]
 fn a_create_makes_an_object(rt: HostRuntime) -> Result<(), Fail> {
     let create = work(rt.alloc(), 1, Callback::Create)?;
-    let ran = run_turn(rt.alloc(), &NumberedKind::new(), None, &create);
+    let ran = run_turn(rt.alloc(), &Demonstration, None, &create);
     assert!(rt; ran.made.is_some());
     Ok(())
 }

@@ -1,9 +1,10 @@
 //! How one turn runs.
+ghost use Rattle.callback_orders.specs.Grammar.{is_create, is_destroy};
 ghost use Rattle.callback_orders.specs.declared.callback.Outcome.TheVariants.{Done};
 ghost use Rattle.kind_trait.specs.Meanings.{RefusedWhere, Create};
 ghost use Rattle.std.specs.Arc.{arc_value};
 ghost use Rattle.std.specs.Prelude.{◌≡◌, IsTrue, is_some, IsOk, MatchOption, true, false};
-ghost use Rattle.turn_runner.specs.Outcomes.{IsAnswerOf, is_create, is_destroy, is_done, needs_object, asks_nobody, is_refused, told_by, IsOutcome, makes_object};
+ghost use Rattle.turn_runner.specs.Outcomes.{IsAnswerOf, is_done, needs_object, asks_nobody, is_refused, told_by, IsOutcome, makes_object};
 
 use crate::TurnWork;
 use callback_orders::{Callback, Outcome};
@@ -51,7 +52,7 @@ fn tell<K: Kinds>(
     }
 }
 
-fn told<K: Kinds>(alloc: Global, kinds: &K, object: &K::Object, work: &TurnWork) -> Outcome
+fn outcome_told<K: Kinds>(alloc: Global, kinds: &K, object: &K::Object, work: &TurnWork) -> Outcome
     requires { is_create work.now.callback ≡ false }
     ensures refused { IsOutcome (K.refuses work.now.site.class work.now.site.properties (told_by work.now.callback)) result }
     ensures heard { IsAnswerOf K.hears object.now work.now result }
@@ -103,7 +104,7 @@ fn run_told<K: Kinds>(
     ensures nobody { IsTrue (asks_nobody work.now) → result.outcome ≡ Done }
     ensures made { is_some result.made ≡ makes_object work.now result.outcome }
 {
-    not_made(told(alloc, kinds, object, work))
+    not_made(outcome_told(alloc, kinds, object, work))
 }
 
 // Runs a turn of instance 0, or a Create.

@@ -39,6 +39,6 @@ impl TurnWork {
     pub fn needs_object(&self) -> bool
         ensures { result ≡ needs_object self.now }
     {
-        self.instance != 0 && !matches!(self.callback, Callback::Create)
+        self.instance != 0 && !self.callback.is_create()
     }
 }

@@ -49,7 +49,7 @@ impl<'b> BundleView<'b> {
     }
 
     /// It is ACTIVE.
-    pub(crate) fn is_active(&self) -> bool
+    pub(crate) fn is_active_bundle(&self) -> bool
         ensures { result ≡ (self.now.state == 32) }
     {
         self.state == 32

@@ -54,7 +54,7 @@ fn room_after_bundle(
 ) -> Option<usize>
     ensures { LeavesRoom room (length (components_for_bundle configurations.now bundle.now)) result }
 {
-    if bundle.is_active() {
+    if bundle.is_active_bundle() {
         room_after_enabled(room, bundle, configurations)
     } else {
         Some(room)
