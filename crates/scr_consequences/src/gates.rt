@@ -6,18 +6,17 @@ ghost use Rattle.scr_world.specs.declared.world.World.{World};
 ghost use Rattle.std.specs.Prelude.{◌≡◌, IfOk, filter, map};
 
 use crate::endings::ends;
-use crate::instances::is_active;
 use crate::sorted_numbers::SortedNumbers;
 use journal_core::GateKey;
 use prop_map::{List, OutOfMemory};
 use scr_world::{Instance, World};
-use std::alloc::{AllocError, Global};
+use std::alloc::Global;
 
 // Active, and ending.
 fn is_draining(world: &World, instance: &Instance) -> bool
     ensures { result ≡ is_draining world.now instance.now }
 {
-    is_active(instance) && ends(world, instance)
+    instance.is_active() && ends(world, instance)
 }
 
 // The numbers of those of these instances.
@@ -48,16 +47,13 @@ pub fn draining_in(alloc: Global, world: &World) -> Result<List<u64>, OutOfMemor
     draining_among(alloc, world, world.instances.as_slice())
 }
 
-// The name of an instance's gate. A slot that doesn't fit counts as want of memory.
-fn gate_of(instance: &Instance) -> Result<GateKey, OutOfMemory>
-    ensures { IfOk result (λ key. key ≡ gate_of instance.now) }
+// The name of an instance's gate.
+fn gate_of(instance: &Instance) -> GateKey
+    ensures { result ≡ gate_of instance.now }
 {
-    match u32::try_from(instance.slot) {
-        Ok(slot) => Ok(GateKey {
-            slot,
-            generation: instance.generation,
-        }),
-        Err(_) => Err(AllocError),
+    GateKey {
+        slot: instance.slot,
+        generation: instance.generation,
     }
 }
 
@@ -79,7 +75,7 @@ fn shut_among(
     let mut keys = Vec::new(alloc);
     for instance in instances {
         if begins_draining(draining, now, instance) {
-            keys.push(gate_of(instance)?)?;
+            keys.push(gate_of(instance))?;
         }
     }
     Ok(List::of(keys))

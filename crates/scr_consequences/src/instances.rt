@@ -1,24 +1,12 @@
 //! How far living instances are (OSGi Compendium 8, chapter 112, "Activation", "Deactivation").
 ghost use Rattle.callback_orders.specs.Grammar.{is_activate, is_create};
 ghost use Rattle.callback_orders.specs.Sequences.{is_failed};
-ghost use Rattle.scr_world.specs.Instances.{has_failed, has_turn, is_active_instance, last_callback, last_is};
+ghost use Rattle.scr_world.specs.Instances.{has_failed, has_turn, last_callback, last_is};
 ghost use Rattle.std.specs.Option.{option_copied};
 ghost use Rattle.std.specs.Prelude.{◌≡◌};
 
-use callback_orders::{Callback, Called, Outcome, Phase, is_outstanding, phase_of};
+use callback_orders::{Callback, Called, Outcome, is_outstanding};
 use scr_world::Instance;
-
-fn is_create(callback: &Callback) -> bool
-    ensures { result ≡ is_create callback.now }
-{
-    matches!(callback, Callback::Create)
-}
-
-fn is_activate(callback: &Callback) -> bool
-    ensures { result ≡ is_activate callback.now }
-{
-    matches!(callback, Callback::Activate)
-}
 
 // Ended other than Done.
 pub(crate) fn is_failed(outcome: Option<Outcome>) -> bool
@@ -27,18 +15,11 @@ pub(crate) fn is_failed(outcome: Option<Outcome>) -> bool
     matches!(outcome, Some(Outcome::Refused | Outcome::NoMemory))
 }
 
-/// Whether an instance is active: from the end of a successful Activate to the end of its Deactivate. It takes no memory.
-pub fn is_active(instance: &Instance) -> bool
-    ensures { result ≡ is_active_instance instance.now }
-{
-    matches!(phase_of(instance.callbacks.as_slice()), Phase::Active)
-}
-
 /// Whether the activation of an instance with these callbacks ended without success. It takes no memory.
 pub fn has_failed(calls: &[Called]) -> bool
     ensures { result ≡ has_failed calls.now }
 {
-    calls.iter().any(|called| is_activate(&called.callback) && is_failed(called.outcome))
+    calls.iter().any(|called| called.callback.is_activate() && is_failed(called.outcome))
 }
 
 /// Whether a turn is under way and tells an instance. It takes no memory.
@@ -63,7 +44,7 @@ pub(crate) fn last_is_create(calls: &[Called]) -> bool
     ensures { result ≡ last_is is_create calls.now }
 {
     match last_callback(calls) {
-        Some(callback) => is_create(callback),
+        Some(callback) => callback.is_create(),
         None => false,
     }
 }
@@ -72,7 +53,7 @@ pub(crate) fn last_is_activate(calls: &[Called]) -> bool
     ensures { result ≡ last_is is_activate calls.now }
 {
     match last_callback(calls) {
-        Some(callback) => is_activate(callback),
+        Some(callback) => callback.is_activate(),
         None => false,
     }
 }

@@ -28,7 +28,7 @@ pub use failures::{ending_in, failing_of, failures_of};
 pub use gates::{draining_in, shut_since};
 pub use gets::{tokens_in, uses_in};
 pub use held_services::{holds, is_service_held, unregistered_held_between};
-pub use instances::{has_failed, has_turn, is_active};
+pub use instances::{has_failed, has_turn};
 pub use passes::pass_in;
 pub use platform_services::{condition, direct_services};
 pub use reopened::reopened_by;

@@ -40,10 +40,7 @@ fn opening_in(instances: &[Instance], turn: u64, outcome: Outcome) -> Option<&In
 fn next_generation(generations: &[u64], instance: &Instance) -> Result<u64, OutOfMemory>
     ensures { IfOk result (λ generation. generation ≡ next_generation generations.now instance.now) }
 {
-    let Ok(slot) = usize::try_from(instance.slot) else {
-        return Err(AllocError);
-    };
-    let opened = match generations.get(slot) {
+    let opened = match generations.get(instance.slot as usize) {
         Some(opened) => *opened,
         None => 0,
     };
@@ -53,7 +50,7 @@ fn next_generation(generations: &[u64], instance: &Instance) -> Result<u64, OutO
 /// The gate that the end of a turn reopens, if it does: that of the instance whose Activate is done. It takes no memory.
 ///
 /// # Errors
-/// Only that a slot is none of 32 bits or a generation none of 64, which counts as want of memory.
+/// Only that a generation is no number of 64 bits, which counts as want of memory.
 pub fn reopened_by(
     world: &World,
     turn: u64,
@@ -63,7 +60,7 @@ pub fn reopened_by(
 {
     match opening_in(world.instances.as_slice(), turn, outcome) {
         Some(instance) => Ok(Some(GateKey {
-            slot: u32::try_from(instance.slot).map_err(|_| AllocError)?,
+            slot: instance.slot,
             generation: next_generation(world.generations.as_slice(), instance)?,
         })),
         None => Ok(None),

@@ -5,6 +5,5 @@ pub mod BestOne
 pub mod BoundServices
 pub mod BestHeld
 pub mod FirstReached
-pub mod NarrowSlots
 pub mod TurnLemmas
 pub mod CountedTurns

@@ -27,10 +27,6 @@ use Rattle.scr_readers.specs.declared.live.OuterAt.TheVariants.{Gone as UseGoneA
 
 -- ---- instances
 
--- each slot is a number of 32 bits
-abbrev pub HaveNarrowSlots : World → Type 0
-HaveNarrowSlots w = (i : Instance) → Contains w.instances i → i.slot < 2 ^ 32
-
 -- a service without an object, as it is or as it left
 abbrev pub is_direct : World → ℕ → Bool
 is_direct w service = option_map_or (λ (r : ServiceRow). r.direct) (row_known w service) false

@@ -1,7 +1,7 @@
 //! Whom a call reaches (our own).
 ghost use Rattle.component_state.specs.declared.component.Component.{Component};
 ghost use Rattle.scr_readers.specs.Inside.{first_one};
-ghost use Rattle.scr_readers.specs.Reaching.{HaveNarrowSlots, active_for, held_best_first, inward, inward_by, inward_to, is_direct, live_of, outer, server_of};
+ghost use Rattle.scr_readers.specs.Reaching.{active_for, held_best_first, inward, inward_by, inward_to, is_direct, live_of, outer, server_of};
 ghost use Rattle.scr_world.specs.Consequences.{gate_of};
 ghost use Rattle.scr_world.specs.TurnSteps.{class_in};
 ghost use Rattle.scr_world.specs.Views.{bundle_of_instance};
@@ -9,7 +9,7 @@ ghost use Rattle.scr_world.specs.declared.marks.Token.{Token};
 ghost use Rattle.service_registry.specs.declared.row.ServiceRow.{ServiceRow};
 ghost use Rattle.std.specs.List.{list_any};
 ghost use Rattle.std.specs.Option.{option_copied, option_map_or};
-ghost use Rattle.std.specs.Prelude.{◌≡◌, ◌==◌, ◌<◌, ◌^◌, ℕ, List, [], false, IfOk, if◌then◌else◌};
+ghost use Rattle.std.specs.Prelude.{◌≡◌, ◌==◌, ℕ, List, [], false, IfOk, if◌then◌else◌};
 
 use crate::best_held::best_held;
 use crate::instances::{active_server, instance_at, server_of};
@@ -35,7 +35,6 @@ pub fn active(
     service: u64,
     bundle: u64,
 ) -> Result<Option<Live>, OutOfMemory>
-    requires { HaveNarrowSlots world.now }
     ensures { IfOk result (λ live. live ≡ active_for world.now bundle service) }
 {
     match active_server(world, bundle, service) {
@@ -49,7 +48,6 @@ pub fn active(
 /// # Errors
 /// Only want of memory.
 pub fn outer(alloc: Global, own: &OwnRows, world: &World, get: &Token) -> Result<Outer, OutOfMemory>
-    requires { HaveNarrowSlots world.now }
     ensures { IfOk result (λ reached. reached ≡ outer world.now get.now) }
 {
     if !stands(world.tokens.as_slice(), get.place) {
@@ -76,7 +74,6 @@ pub fn nested(
     instance: u64,
     reference: &Str,
 ) -> Result<Inward, OutOfMemory>
-    requires { HaveNarrowSlots world.now }
     ensures { IfOk result (λ reached. reached ≡ inward world.now instance reference.now) }
 {
     match instance_at(world, instance) {
@@ -92,7 +89,6 @@ fn nested_of(
     instance: &Instance,
     reference: &Str,
 ) -> Result<Inward, OutOfMemory>
-    requires { HaveNarrowSlots world.now }
     ensures { IfOk result (λ reached. reached
         ≡ inward_to world.now (bundle_of_instance world.now instance.now) (held_best_first world.now reference.now instance.now)) }
 {
@@ -110,7 +106,6 @@ fn inward_by_best(
     bundle: u64,
     best: Option<u64>,
 ) -> Result<Inward, OutOfMemory>
-    requires { HaveNarrowSlots world.now }
     ensures { IfOk result (λ reached. (held : List ℕ) → best ≡ first_one held → reached ≡ inward_to world.now bundle held) }
 {
     match best {
@@ -127,7 +122,6 @@ fn inward_to(
     bundle: u64,
     service: u64,
 ) -> Result<Inward, OutOfMemory>
-    requires { HaveNarrowSlots world.now }
     ensures { IfOk result (λ reached. reached ≡ (if is_direct world.now service then Inward.NoObject service
         else inward_by world.now service (server_of world.now bundle service))) }
 {
@@ -168,11 +162,10 @@ fn is_direct_row(row: Option<&ServiceRow>) -> bool
 
 /// The key of an instance's gate.
 pub(crate) fn gate_of(instance: &Instance) -> GateKey
-    requires { instance.now.slot < 2 ^ 32 }
     ensures { result ≡ gate_of instance.now }
 {
     GateKey {
-        slot: instance.slot as u32,
+        slot: instance.slot,
         generation: instance.generation,
     }
 }
@@ -183,7 +176,6 @@ fn live_of(
     world: &World,
     instance: &Instance,
 ) -> Result<Live, OutOfMemory>
-    requires { instance.now.slot < 2 ^ 32 }
     ensures { IfOk result (λ live. live ≡ live_of world.now instance.now) }
 {
     Ok(Live {

@@ -1,10 +1,10 @@
 //! Whom a call reaches, by number and gate alone and without memory (our own).
 ghost use Rattle.scr_readers.specs.declared.live.Inward.TheVariants.{NoObject};
 ghost use Rattle.scr_readers.specs.Inside.{first_one};
-ghost use Rattle.scr_readers.specs.Reaching.{HaveNarrowSlots, active_for, held_best_first, inward, inward_at, inward_by, inward_to, is_direct, live_at, outer, outer_at, server_of};
+ghost use Rattle.scr_readers.specs.Reaching.{active_for, held_best_first, inward, inward_at, inward_by, inward_to, is_direct, live_at, outer, outer_at, server_of};
 ghost use Rattle.scr_world.specs.Consequences.{gate_of};
 ghost use Rattle.scr_world.specs.Views.{bundle_of_instance};
-ghost use Rattle.std.specs.Prelude.{◌≡◌, ◌<◌, ◌^◌, ℕ, List, option_map, if◌then◌else◌};
+ghost use Rattle.std.specs.Prelude.{◌≡◌, ℕ, List, option_map, if◌then◌else◌};
 
 use crate::best_held::best_held;
 use crate::calls::{gate_of, is_direct, stands};
@@ -17,7 +17,6 @@ use scr_world::{Instance, Token, World};
 /// The active instance that a bundle uses of a service, and `None` exactly where there is none. Each slot has to be a number
 /// of 32 bits, as it is in each legal journal. It takes no memory.
 pub fn active_at(world: &World, service: u64, bundle: u64) -> Option<LiveAt>
-    requires { HaveNarrowSlots world.now }
     ensures { result ≡ option_map live_at (active_for world.now bundle service) }
 {
     match active_server(world, bundle, service) {
@@ -28,7 +27,6 @@ pub fn active_at(world: &World, service: u64, bundle: u64) -> Option<LiveAt>
 
 /// Whom a call by a get reaches. Each slot has to be a number of 32 bits. It takes no memory.
 pub fn outer_at(own: &OwnRows, world: &World, get: &Token) -> OuterAt
-    requires { HaveNarrowSlots world.now }
     ensures { result ≡ outer_at (outer world.now get.now) }
 {
     if !stands(world.tokens.as_slice(), get.place) {
@@ -46,7 +44,6 @@ pub fn outer_at(own: &OwnRows, world: &World, get: &Token) -> OuterAt
 /// Whom a nested call of an instance reaches: the instance of the best service that it holds for the reference of a name. Each
 /// slot has to be a number of 32 bits. It takes no memory.
 pub fn nested_at(own: &OwnRows, world: &World, instance: u64, reference: &Str) -> InwardAt
-    requires { HaveNarrowSlots world.now }
     ensures { result ≡ inward_at (inward world.now instance reference.now) }
 {
     match instance_at(world, instance) {
@@ -56,7 +53,6 @@ pub fn nested_at(own: &OwnRows, world: &World, instance: u64, reference: &Str) -
 }
 
 fn nested_of(own: &OwnRows, world: &World, instance: &Instance, reference: &Str) -> InwardAt
-    requires { HaveNarrowSlots world.now }
     ensures { result ≡ inward_at (inward_to world.now (bundle_of_instance world.now instance.now) (held_best_first world.now reference.now instance.now)) }
 {
     let best = best_held(own, world, instance.callbacks.as_slice(), reference);
@@ -66,7 +62,6 @@ fn nested_of(own: &OwnRows, world: &World, instance: &Instance, reference: &Str)
 
 // By the first of what is held.
 fn inward_by_best(own: &OwnRows, world: &World, bundle: u64, best: Option<u64>) -> InwardAt
-    requires { HaveNarrowSlots world.now }
     ensures { (held : List ℕ) → best ≡ first_one held → result ≡ inward_at (inward_to world.now bundle held) }
 {
     match best {
@@ -77,7 +72,6 @@ fn inward_by_best(own: &OwnRows, world: &World, bundle: u64, best: Option<u64>) 
 
 // By the service that is the best one.
 fn inward_to(own: &OwnRows, world: &World, bundle: u64, service: u64) -> InwardAt
-    requires { HaveNarrowSlots world.now }
     ensures { result ≡ inward_at (if is_direct world.now service then NoObject service
         else inward_by world.now service (server_of world.now bundle service)) }
 {
@@ -94,7 +88,6 @@ fn inward_to(own: &OwnRows, world: &World, bundle: u64, service: u64) -> InwardA
 }
 
 fn live_at(instance: &Instance) -> LiveAt
-    requires { instance.now.slot < 2 ^ 32 }
     ensures { result ≡ record { key = gate_of instance.now; instance = instance.now.number } }
 {
     LiveAt {

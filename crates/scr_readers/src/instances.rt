@@ -1,13 +1,13 @@
 //! Living instances by what they are asked for (OSGi Core 8, chapter 5, "Service Scope"; numbers are our own).
-ghost use Rattle.scr_readers.specs.Reaching.{HaveNarrowSlots, instance_at, is_ending_at, server_of};
+ghost use Rattle.scr_readers.specs.Reaching.{instance_at, is_ending_at, server_of};
 ghost use Rattle.scr_world.specs.Instances.{is_active_instance};
 ghost use Rattle.scr_world.specs.Views.{serves};
 ghost use Rattle.scr_world.specs.declared.instance.Instance.{Instance};
 ghost use Rattle.std.specs.List.{Contains};
 ghost use Rattle.std.specs.Option.{option_copied};
-ghost use Rattle.std.specs.Prelude.{◌≡◌, ◌==◌, ◌&&◌, ◌<◌, ◌^◌, find, IfSome};
+ghost use Rattle.std.specs.Prelude.{◌≡◌, ◌==◌, ◌&&◌, find};
 
-use scr_dues::{ends, is_active_instance, serves};
+use scr_dues::{ends, serves};
 use scr_world::{Instance, World};
 
 /// The instance of a number, that of the whiteboard too. It takes no memory.
@@ -44,9 +44,7 @@ pub fn ending(world: &World, instance: u64) -> bool
 
 /// The instance that a bundle uses of a service.
 pub(crate) fn server_of(world: &World, bundle: u64, service: u64) -> Option<&Instance>
-    requires { HaveNarrowSlots world.now }
-    ensures server { option_copied result ≡ server_of world.now bundle service }
-    ensures slot { IfSome result (λ i. i.now.slot < 2 ^ 32) }
+    ensures { option_copied result ≡ server_of world.now bundle service }
 {
     server_among(world, world.instances.as_slice(), bundle, service)
 }
@@ -66,9 +64,7 @@ fn server_among<'w>(
 
 /// The active one among those.
 pub(crate) fn active_server(world: &World, bundle: u64, service: u64) -> Option<&Instance>
-    requires { HaveNarrowSlots world.now }
-    ensures server { option_copied result ≡ find (λ (i : Instance). serves world.now bundle service i && is_active_instance i) world.now.instances }
-    ensures slot { IfSome result (λ i. i.now.slot < 2 ^ 32) }
+    ensures { option_copied result ≡ find (λ (i : Instance). serves world.now bundle service i && is_active_instance i) world.now.instances }
 {
     active_among(world, world.instances.as_slice(), bundle, service)
 }
@@ -82,6 +78,6 @@ fn active_among<'w>(
     ensures { option_copied result ≡ find (λ (i : Instance). serves world.now bundle service i && is_active_instance i) instances.now }
 {
     instances.iter().find(|instance| {
-        serves(world, bundle, service, instance) && is_active_instance(instance)
+        serves(world, bundle, service, instance) && instance.is_active()
     })
 }

@@ -16,7 +16,7 @@ use Rattle.component_state.proofs.Among.{among_contains, filter_all, filter_none
 use Rattle.journal_core.specs.Rooms.{JournalRows}
 use Rattle.journal_core.specs.declared.entry.Entry.{Entry}
 use Rattle.journal_core.specs.declared.entry.GateKey.{GateKey}
-use Rattle.prop_map.specs.Words.{has}
+use Rattle.prop_map.specs.Words.{has, one_if}
 use Rattle.scr_entries.specs.Following.{entry_of}
 use Rattle.scr_entries.specs.Reserving.{given_back_by, stands_for, stands_in, tokens_dropped}
 use Rattle.scr_entries.proofs.FollowingEntries.{follows}
@@ -43,7 +43,7 @@ use Rattle.scr_world.specs.Consequences.{shut_between, stage_in, stage_of}
 use Rattle.scr_world.specs.Instances.{ended_in, lives_on}
 use Rattle.scr_world.specs.Legal.{Follows, IsLegal, MayCome}
 use Rattle.scr_world.specs.Lists.{changes_between, is_active_bundle, tokens_in, unregistered_held_between, uses_in, with_gets_and_events, with_lists_of, world_after_entry, world_of}
-use Rattle.scr_world.specs.Room.{has_room, needed_by, one_if, reserved}
+use Rattle.scr_world.specs.Room.{has_room, needed_by, reserved}
 use Rattle.scr_world.specs.Stepping.{world_after_step}
 use Rattle.scr_world.specs.Steps.{History, history_of}
 use Rattle.scr_world.specs.Tables.{descriptions_of}

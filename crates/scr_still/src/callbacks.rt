@@ -31,7 +31,7 @@ pub(crate) fn last_is_create(calls: &[Called]) -> bool
     ensures { result ≡ last_is is_create calls.now }
 {
     match last_callback(calls) {
-        Some(callback) => is_create(callback),
+        Some(callback) => callback.is_create(),
         None => false,
     }
 }
@@ -41,7 +41,7 @@ pub(crate) fn last_is_activate(calls: &[Called]) -> bool
     ensures { result ≡ last_is is_activate calls.now }
 {
     match last_callback(calls) {
-        Some(callback) => is_activate(callback),
+        Some(callback) => callback.is_activate(),
         None => false,
     }
 }
@@ -51,7 +51,7 @@ pub(crate) fn last_is_destroy(calls: &[Called]) -> bool
     ensures { result ≡ last_is is_destroy calls.now }
 {
     match last_callback(calls) {
-        Some(callback) => is_destroy(callback),
+        Some(callback) => callback.is_destroy(),
         None => false,
     }
 }
@@ -64,24 +64,6 @@ pub(crate) fn last_unbound(calls: &[Called]) -> Option<u64>
         Some(callback) => service_unbound(callback),
         None => None,
     }
-}
-
-fn is_create(callback: &Callback) -> bool
-    ensures { result ≡ is_create callback.now }
-{
-    matches!(callback, Callback::Create)
-}
-
-fn is_activate(callback: &Callback) -> bool
-    ensures { result ≡ is_activate callback.now }
-{
-    matches!(callback, Callback::Activate)
-}
-
-fn is_destroy(callback: &Callback) -> bool
-    ensures { result ≡ is_destroy callback.now }
-{
-    matches!(callback, Callback::Destroy)
 }
 
 fn service_unbound(callback: &Callback) -> Option<u64>

@@ -1,5 +1,4 @@
 //! The entry of a step that has no consequences, and the state after it, or neither.
-ghost use Rattle.callback_orders.specs.Grammar.{is_activate};
 ghost use Rattle.scr_entries.specs.Reserving.{reserved_with};
 ghost use Rattle.scr_gates.specs.Gates.{shuts_nothing};
 ghost use Rattle.scr_state.specs.Keeps.{IsDraft, Keeps};
@@ -108,14 +107,8 @@ fn reserved_with(step: &Step) -> u64
     ensures { result ≡ reserved_with step.now }
 {
     match step {
-        Step::Begin { callback, .. } => { if is_activate(callback) { 2 } else { 1 } }
+        Step::Begin { callback, .. } => { if callback.is_activate() { 2 } else { 1 } }
         Step::Got { .. } => 1,
         _ => 0,
     }
-}
-
-fn is_activate(callback: &Callback) -> bool
-    ensures { result ≡ is_activate callback.now }
-{
-    matches!(callback, Callback::Activate)
 }

@@ -47,10 +47,7 @@ fn opens_gate(turn: u64, outcome: Outcome, instance: &Instance) -> bool
 fn next_generation(generations: &[u64], instance: &Instance) -> Result<u64, OutOfMemory>
     ensures { IfOk result (λ generation. generation ≡ next_generation generations.now instance.now) }
 {
-    let Ok(slot) = usize::try_from(instance.slot) else {
-        return Err(AllocError);
-    };
-    let opened = match generations.get(slot) {
+    let opened = match generations.get(instance.slot as usize) {
         Some(opened) => *opened,
         None => 0,
     };
@@ -61,7 +58,7 @@ fn key_opened(generations: &[u64], instance: &Instance) -> Result<GateKey, OutOf
     ensures { IfOk result (λ key. key ≡ key_opened generations.now instance.now) }
 {
     Ok(GateKey {
-        slot: u32::try_from(instance.slot).map_err(|_| AllocError)?,
+        slot: instance.slot,
         generation: next_generation(generations, instance)?,
     })
 }

@@ -12,9 +12,9 @@ use callback_orders::Callback;
 use component_state::{Choice, OpenPeriod, Origin};
 use prop_map::{Copies, List, OutOfMemory};
 use scr_world::{Instance, World};
-use std::alloc::Global;
+use std::alloc::{AllocError, Global};
 
-/// The instance that the beginning of a Create makes.
+/// The instance that the beginning of a Create makes. That its slot is no number of 32 bits counts as want of memory.
 pub(crate) fn created(
     alloc: Global,
     world: &World,
@@ -30,7 +30,7 @@ pub(crate) fn created(
         number: instance,
         consumer,
         service: service_in(world.open_periods.as_slice(), configuration),
-        slot: first_free_slot(world.instances.as_slice()),
+        slot: u32::try_from(first_free_slot(world.instances.as_slice())).map_err(|_| AllocError)?,
         generation: 0,
         drained: false,
         turn,

@@ -11,7 +11,7 @@ ghost use Rattle.std.specs.Option.{option_copied, unwrap_or};
 ghost use Rattle.std.specs.Prelude.{◌≡◌, ◌+◌, ◌++◌, ◌&&◌, ℕ, IfOk, find, true};
 
 use crate::gets::{tokens_after, uses_after};
-use crate::instance_tests::{becomes_active, is_create};
+use crate::instance_tests::becomes_active;
 use crate::instances::{instances_after, whiteboard_after};
 use crate::slots::{first_free_slot, reopened_for, with_room_for};
 use callback_orders::Outcome;
@@ -140,7 +140,7 @@ fn makes_by(step: &Step) -> u64
     ensures { result ≡ makes_by step.now }
 {
     match step {
-        Step::Begin { callback, .. } if is_create(callback) => 1,
+        Step::Begin { callback, .. } if callback.is_create() => 1,
         _ => 0,
     }
 }
@@ -164,7 +164,7 @@ fn generations_after(
     let generations = world.generations.as_slice();
     let instances = world.instances.as_slice();
     match step {
-        Step::Begin { callback, .. } if is_create(callback) => {
+        Step::Begin { callback, .. } if callback.is_create() => {
             with_room_for(alloc, generations, first_free_slot(instances))
         }
         Step::End { turn, outcome } => {

@@ -1,23 +1,11 @@
 //! What is so of an instance and its last callback (OSGi Compendium 8, chapter 112, "Component Life Cycle").
-ghost use Rattle.callback_orders.specs.Grammar.{is_activate, is_create};
+ghost use Rattle.callback_orders.specs.Grammar.{is_activate};
 ghost use Rattle.callback_orders.specs.Sequences.{is_done};
 ghost use Rattle.scr_world.specs.Instances.{becomes_active, last_is, lives_on};
 ghost use Rattle.std.specs.Prelude.{◌≡◌, Some};
 
 use callback_orders::{Callback, Called, Outcome, is_living};
 use scr_world::Instance;
-
-pub(crate) fn is_create(callback: &Callback) -> bool
-    ensures { result ≡ is_create callback.now }
-{
-    matches!(callback, Callback::Create)
-}
-
-fn is_activate(callback: &Callback) -> bool
-    ensures { result ≡ is_activate callback.now }
-{
-    matches!(callback, Callback::Activate)
-}
 
 fn is_done(outcome: Outcome) -> bool
     ensures { result ≡ is_done (Some outcome) }
@@ -30,7 +18,7 @@ fn last_is_activate(calls: &[Called]) -> bool
     ensures { result ≡ last_is is_activate calls.now }
 {
     match calls.last() {
-        Some(called) => is_activate(&called.callback),
+        Some(called) => called.callback.is_activate(),
         None => false,
     }
 }

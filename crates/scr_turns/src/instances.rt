@@ -12,7 +12,7 @@ ghost use Rattle.std.specs.Prelude.{◌≡◌, ◌==◌, ◌++◌, ◌∷◌, []
 use crate::begins::told_in;
 use crate::creations::created;
 use crate::ends::with_outcome;
-use crate::instance_tests::{is_create, lives_on};
+use crate::instance_tests::lives_on;
 use callback_orders::{Callback, Outcome};
 use component_state::Choice;
 use prop_map::{Copies, List, OutOfMemory};
@@ -40,7 +40,7 @@ pub(crate) fn instances_after(
             callback,
             chosen,
         } => {
-            if is_create(callback) {
+            if callback.is_create() {
                 added(
                     alloc,
                     world,

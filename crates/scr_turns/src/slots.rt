@@ -32,7 +32,9 @@ fn is_taken(instances: &[Instance], slot: u64) -> bool
 fn has_slot(instances: &[Instance], slot: u64) -> bool
     ensures { result ≡ list_any (λ (i : Instance). i.slot == slot) instances.now }
 {
-    instances.iter().any(|instance| instance.slot == slot)
+    instances
+        .iter()
+        .any(|instance| u64::from(instance.slot) == slot)
 }
 
 /// The next generation of an instance's gate.
@@ -46,13 +48,10 @@ pub(crate) fn next_generation(generations: &[u64], instance: &Instance) -> Resul
     last.checked_add(1).ok_or(AllocError)
 }
 
-fn last_generation(generations: &[u64], slot: u64) -> u64
+fn last_generation(generations: &[u64], slot: u32) -> u64
     ensures { result ≡ slice_index generations.now slot }
 {
-    match usize::try_from(slot) {
-        Ok(place) => generations.get(place).copied().unwrap_or(0),
-        Err(_) => 0,
-    }
+    generations.get(slot as usize).copied().unwrap_or(0)
 }
 
 /// The generations where a slot has room for its count, none where that is so already.
@@ -90,10 +89,11 @@ pub(crate) fn reopened_for(
     }
 }
 
-fn with_generation(generations: &mut [u64], slot: u64, generation: u64)
+fn with_generation(generations: &mut [u64], slot: u32, generation: u64)
     ensures { generations.new ≡ slice_set generations.old slot generation }
 {
-    if slot < generations.len() as u64 {
-        generations[slot as usize] = generation;
+    let slot = slot as usize;
+    if slot < generations.len() {
+        generations[slot] = generation;
     }
 }

@@ -5,6 +5,7 @@ use Rattle.std.specs.Option.{option_map_or}
 use Rattle.callback_orders.specs.Lives.{held_for}
 use Rattle.component_dto.specs.declared.description.Reference.{Reference}
 use Rattle.component_state.specs.declared.component.Component.{Component}
+use Rattle.component_state.specs.Components.{existing_of}
 use Rattle.component_state.specs.Periods.{is_current}
 use Rattle.prop_map.specs.declared.properties.Property.{Property}
 use Rattle.prop_map.specs.declared.value.Value.{Value}
@@ -83,10 +84,6 @@ view_by w satisfied c = record {
   failure = failure_in w (state_by w satisfied c) c.number;
   references = reference_states w c;
 }
-
--- the component configuration of a number that hasn't ceased
-abbrev pub existing_of : List Component → ℕ → Option Component
-existing_of cs number = find (λ (c : Component). (c.number == number) && c.exists) cs
 
 -- what is told of the component configuration of a number: nothing where there is none, or it has ceased
 abbrev pub component_view : World → ℕ → Option ComponentView

@@ -1,17 +1,16 @@
 //! What is told of a component configuration (OSGi Compendium 8, chapter 112, "ComponentConfigurationDTO").
-ghost use Rattle.component_state.specs.declared.component.Component.{Component};
+ghost use Rattle.component_state.specs.Components.{existing_of};
 ghost use Rattle.prop_map.specs.Words.{has};
-ghost use Rattle.scr_views.specs.ComponentViews.{component_view, existing_of, view_by};
+ghost use Rattle.scr_views.specs.ComponentViews.{component_view, view_by};
 ghost use Rattle.scr_world.specs.Worlds.{satisfied_in};
-ghost use Rattle.std.specs.Option.{option_copied};
 ghost use Rattle.std.specs.Prelude.{◌≡◌, ℕ, IfOk, option_map};
 
 use crate::ComponentView;
+use crate::failures::failure_in;
 use crate::reference_states::reference_states;
-use crate::states::{failure_in, state_of};
-use component_state::Component;
+use component_state::{Component, existing_of};
 use prop_map::{Copies, List, OutOfMemory};
-use scr_dues::OwnRows;
+use scr_dues::{OwnRows, state_of};
 use scr_world::World;
 use std::alloc::Global;
 
@@ -47,14 +46,6 @@ fn view_with(
         Some(component) => Ok(Some(view_of(alloc, own, world, satisfied, component)?)),
         None => Ok(None),
     }
-}
-
-fn existing_of(components: &[Component], number: u64) -> Option<&Component>
-    ensures { option_copied result ≡ existing_of components.now number }
-{
-    components
-        .iter()
-        .find(|component| component.number == number && component.exists)
 }
 
 fn view_of(

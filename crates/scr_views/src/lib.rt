@@ -4,8 +4,8 @@
 
 mod bound_services;
 mod component_views;
+mod failures;
 mod reference_states;
-mod states;
 mod target_services;
 mod view;
 

@@ -1,5 +1,6 @@
 -- Room in the journal: the entries that are reserved for what has begun. Our own.
 use Rattle.std.specs.Prelude.{ℕ, ◌+◌, ◌&&◌, Bool, not, map, sum, length, nat_le, if◌then◌else◌}
+use Rattle.prop_map.specs.Words.{one_if}
 use Rattle.callback_orders.specs.Sequences.{is_outstanding}
 use Rattle.scr_world.specs.declared.step.Step.{Step}
 use Rattle.scr_world.specs.declared.step.Step.TheVariants.{Command as Commanded, Begin, End, Drained, Got, Released}
@@ -8,9 +9,6 @@ use Rattle.callback_orders.specs.Grammar.{is_activate}
 use Rattle.scr_world.specs.Instances.{is_activated}
 use Rattle.scr_world.specs.declared.world.World.{World}
 use Rattle.scr_world.specs.Worlds.{all_instances}
-
-abbrev pub one_if : Bool → ℕ
-one_if b = if b then 1 else 0
 
 -- reserved for an instance are the end of its turn that is under way, and its drain from the beginning of its Activate on
 abbrev pub reserved_for : Instance → ℕ

@@ -1,5 +1,8 @@
 //! Living instances (OSGi Compendium 8, chapter 112, "Component Life Cycle").
-use callback_orders::Called;
+ghost use Rattle.scr_world.specs.Instances.{is_active_instance};
+ghost use Rattle.std.specs.Prelude.{◌≡◌};
+
+use callback_orders::{Called, Phase, phase_of};
 use component_state::Origin;
 use prop_map::{Copies, List, OutOfMemory, Properties, Str};
 use std::alloc::Global;
@@ -35,7 +38,7 @@ pub struct Instance {
     /// The number of its service, 0 where it has none.
     pub service: u64,
     /// The slot of its gate, the lowest that was free at its Create.
-    pub slot: u64,
+    pub slot: u32,
     /// How often the gate of its slot had been opened when it became active, 0 before.
     pub generation: u64,
     /// The drain of its gate is posted.
@@ -52,6 +55,15 @@ pub struct Instance {
     pub properties_taken_at: u64,
     /// What it was told last of each service that is bound and not being unbound.
     pub told_revisions: List<ToldRevision>,
+}
+
+impl Instance {
+    /// Whether it is active: from the end of a successful Activate to the end of its Deactivate. It takes no memory.
+    pub fn is_active(&self) -> bool
+        ensures { result ≡ is_active_instance self.now }
+    {
+        matches!(phase_of(self.callbacks.as_slice()), Phase::Active)
+    }
 }
 
 impl Copies for Instance {

@@ -1,5 +1,5 @@
 //! What the journal of a platform says: the types of commands, steps, replies and of the world, and all definitions of the journal.
-//! There is no other code here.
+//! There is no other code here than what an instance tells of itself.
 #![tactic(auto)]
 
 mod command;

@@ -1,5 +1,5 @@
 use Rattle.std.proofs.Common.{◌∙◌}
-use Rattle.scr_views.specs.ComponentViews.{existing_of}
+use Rattle.component_state.specs.Components.{existing_of}
 use Rattle.scr_world.specs.Worlds.{satisfied_in}
 use Rattle.scr_views.proofs.SameStates.{same_views}
 use Rattle.scr_views.proofs.component_views.component.Goals as goal
