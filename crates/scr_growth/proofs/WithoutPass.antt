@@ -1,4 +1,4 @@
--- A command for a service that no component tells apart: the pass that does nothing is its pass.
+-- A command that no component tells apart: the pass that does nothing is its pass.
 use Rattle.std.proofs.Common.{◌≡◌, ◌∙◌, ◌∷◌, [], ◌++◌, ap, refl, sym, true, ℕ, List}
 use Rattle.component_state.specs.Passes.{HasPassed}
 use Rattle.journal_core.specs.Rooms.{JournalRows}

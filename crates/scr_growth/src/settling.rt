@@ -1,12 +1,12 @@
 //! What an entry leaves once its pass has run: gets, services that are held though they left, gates that are shut, and what is
 //! reserved.
+ghost use Rattle.prop_map.specs.Words.{one_if};
 ghost use Rattle.scr_consequences.specs.Ends.{draining_in};
 ghost use Rattle.scr_growth.specs.Growths.{AreCached, HasBefore, HasEntered, HasSettled, IsBefore};
 ghost use Rattle.scr_growth.specs.Growths.{IsRest, IsSettling, reserved_with_tokens, services_among, settled_world, with_listeners_told};
-ghost use Rattle.callback_orders.specs.Grammar.{is_activate};
 ghost use Rattle.bundle_life.specs.Lives.{is_stopping, state_is};
 ghost use Rattle.scr_world.specs.Instances.{is_activated};
-ghost use Rattle.scr_world.specs.Room.{one_if, reserved_for};
+ghost use Rattle.scr_world.specs.Room.{reserved_for};
 ghost use Rattle.scr_world.specs.declared.world.World.{World};
 ghost use Rattle.service_listeners.specs.Numbers.{AreNumbered};
 ghost use Rattle.std.specs.List.{All, AllPairs};
@@ -222,13 +222,7 @@ fn is_activated(calls: &[Called]) -> bool
     ensures { result ≡ is_activated calls.now }
 {
     calls.iter().any(|called| {
-        is_activate(&called.callback)
+        called.callback.is_activate()
             && !matches!(called.outcome, Some(Outcome::Refused | Outcome::NoMemory))
     })
-}
-
-fn is_activate(callback: &Callback) -> bool
-    ensures { result ≡ is_activate callback.now }
-{
-    matches!(callback, Callback::Activate)
 }

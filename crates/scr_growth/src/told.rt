@@ -18,7 +18,7 @@ pub(crate) struct Told {
     pub(crate) failing: List<u64>,
     /// The instances whose gates are to be drained before it.
     pub(crate) draining: List<u64>,
-    /// It is a command for a service that no component tells apart.
+    /// It is a command that no component tells apart.
     pub(crate) unseen: bool,
 }
 

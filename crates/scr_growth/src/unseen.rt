@@ -1,4 +1,4 @@
-//! The entry of a command for a service that no component tells apart: no pass runs.
+//! The entry of a command that no component tells apart: no pass runs.
 ghost use Rattle.scr_growth.specs.Growths.{HasFinished, IsAmid, no_lists};
 ghost use Rattle.std.specs.Option.{unwrap_or};
 ghost use Rattle.std.specs.Prelude.{◌≡◌, IfOk, OnErr, true};

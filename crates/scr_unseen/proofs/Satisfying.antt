@@ -1,4 +1,4 @@
--- The same component configurations are satisfied behind a command for a service that meets no need.
+-- The same component configurations are satisfied behind a command that no component tells apart.
 use Rattle.std.proofs.Common.{◌≡◌, ℕ, List, [], ◌∷◌, ◌++◌, ap, sym, ◌∙◌, refl, cond, Bool, true, false, ◌&&◌, ◌||◌}
 use Rattle.std.specs.Prelude.{filter, ◌==◌}
 use Rattle.std.specs.List.{Contains, list_any}

@@ -1,4 +1,4 @@
--- Entries of commands for services that meet no need.
+-- Entries of commands that no component tells apart.
 use Rattle.std.proofs.Common.{◌≡◌, ℕ, List, [], ◌∷◌, ◌++◌, ap, sym, ◌∙◌, refl, subst, true, false, ◌||◌, Bool}
 use Rattle.std.specs.Prelude.{filter, map, ◌==◌}
 use Rattle.std.specs.List.{list_any}
@@ -34,7 +34,7 @@ use Rattle.scr_world.specs.Stepping.{components_by, counted_components, is_count
 use Rattle.scr_world.specs.Tables.{registry_by}
 use Rattle.scr_world.specs.Whiteboard.{platform_rows}
 use Rattle.scr_world.specs.Worlds.{direct_services, satisfied_in}
-use Rattle.scr_world.specs.declared.command.Command.TheVariants.{Register, Unregister, SetProperties}
+use Rattle.scr_world.specs.declared.command.Command.TheVariants.{Get, Listen, Register, SetProperties, Unget, Unlisten, Unregister}
 use Rattle.scr_world.specs.declared.instance.Instance.{Instance}
 use Rattle.scr_world.specs.declared.step.Step.{Step}
 use Rattle.scr_world.specs.declared.step.Step.TheVariants.{Command as Commanded}
@@ -48,6 +48,10 @@ module _ (w : World) (calm : IsCalm w) where
   components_stay (Commanded (Register bundle interfaces properties)) is = asking_leaves w calm.asked w.entries w.components_numbered
   components_stay (Commanded (Unregister bundle service)) is = asking_leaves w calm.asked w.entries w.components_numbered
   components_stay (Commanded (SetProperties bundle service properties)) is = asking_leaves w calm.asked w.entries w.components_numbered
+  components_stay (Commanded (Get bundle service)) is = asking_leaves w calm.asked w.entries w.components_numbered
+  components_stay (Commanded (Unget bundle service)) is = asking_leaves w calm.asked w.entries w.components_numbered
+  components_stay (Commanded (Listen bundle filter)) is = asking_leaves w calm.asked w.entries w.components_numbered
+  components_stay (Commanded (Unlisten listener)) is = asking_leaves w calm.asked w.entries w.components_numbered
   components_stay step is = absurd cc
 
   renewed_none : (cs : List Component) → cs ≡ counted_components w → map (with_present_properties cs) w.open_periods ≡ w.open_periods
@@ -57,6 +61,10 @@ module _ (w : World) (calm : IsCalm w) where
   periods_stay (Commanded (Register bundle interfaces properties)) is = renewed_none _ (components_stay (Commanded (Register bundle interfaces properties)) is)
   periods_stay (Commanded (Unregister bundle service)) is = renewed_none _ (components_stay (Commanded (Unregister bundle service)) is)
   periods_stay (Commanded (SetProperties bundle service properties)) is = renewed_none _ (components_stay (Commanded (SetProperties bundle service properties)) is)
+  periods_stay (Commanded (Get bundle service)) is = renewed_none _ (components_stay (Commanded (Get bundle service)) is)
+  periods_stay (Commanded (Unget bundle service)) is = renewed_none _ (components_stay (Commanded (Unget bundle service)) is)
+  periods_stay (Commanded (Listen bundle filter)) is = renewed_none _ (components_stay (Commanded (Listen bundle filter)) is)
+  periods_stay (Commanded (Unlisten listener)) is = renewed_none _ (components_stay (Commanded (Unlisten listener)) is)
   periods_stay step is = absurd cc
 
 not_counted : (is : List Instance) (c : Component) → is_counted is c ≡ false → c.exists ≡ false

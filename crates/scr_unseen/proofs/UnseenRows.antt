@@ -15,7 +15,7 @@ use Rattle.scr_unseen.specs.Unseen.{is_unmet, is_unseen, meets_none}
 use Rattle.scr_world.specs.Tables.{direct_scope, registry_by}
 use Rattle.scr_world.specs.Whiteboard.{platform_rows}
 use Rattle.scr_world.specs.Worlds.{direct_services}
-use Rattle.scr_world.specs.declared.command.Command.TheVariants.{Register, Unregister, SetProperties}
+use Rattle.scr_world.specs.declared.command.Command.TheVariants.{Get, Listen, Register, SetProperties, Unget, Unlisten, Unregister}
 use Rattle.scr_world.specs.declared.step.Step.{Step}
 use Rattle.scr_world.specs.declared.step.Step.TheVariants.{Command as Commanded}
 use Rattle.scr_world.specs.declared.world.World.{World}
@@ -94,6 +94,10 @@ rows_same (Commanded (Unregister bundle service)) w is c here n needed =
 rows_same (Commanded (SetProperties bundle service properties)) w is c here n needed =
     let both = and_parts (is_unmet w.components service w.registry.rows) _ is in
     rows_set w.components c here n needed service properties w.registry.rows both.0 both.1
+rows_same (Commanded (Get bundle service)) w is c here n needed = refl
+rows_same (Commanded (Unget bundle service)) w is c here n needed = refl
+rows_same (Commanded (Listen bundle filter)) w is c here n needed = refl
+rows_same (Commanded (Unlisten listener)) w is c here n needed = refl
 rows_same step w is c here n needed = absurd cc
 
 -- so no need tells the direct services apart

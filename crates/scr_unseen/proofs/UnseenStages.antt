@@ -1,4 +1,4 @@
--- A command for a service that meets no need makes a still stage, and nothing stops.
+-- A command that no component tells apart makes a still stage, and nothing stops.
 use Rattle.std.proofs.Common.{◌≡◌, ℕ, ◌+◌, List, [], ◌++◌, refl, subst, true}
 use Rattle.std.specs.List.{Contains}
 use Rattle.component_state.specs.declared.component.Component.{Component}
@@ -8,7 +8,7 @@ use Rattle.prop_map.specs.declared.properties.Property.{Property}
 use Rattle.scr_laws.specs.Askeds.{asked_in}
 use Rattle.scr_laws.specs.Entries.{IsCalm}
 use Rattle.scr_laws.specs.Stills.{IsStill, SeeSame}
-use Rattle.scr_laws.proofs.Commands.{get_still}
+use Rattle.scr_laws.proofs.Commands.{get_still, listen_still, unget_still, unlisten_still}
 use Rattle.scr_laws.proofs.Histories.{asking_leaves}
 use Rattle.scr_laws.proofs.StillEntries.{nothing_stops}
 use Rattle.scr_unseen.specs.Unseen.{is_unseen}
@@ -19,7 +19,7 @@ use Rattle.scr_world.specs.Stepping.{counted_components, is_counted, world_after
 use Rattle.scr_world.specs.Tables.{registry_by}
 use Rattle.scr_world.specs.Whiteboard.{platform_rows}
 use Rattle.scr_world.specs.Worlds.{direct_services}
-use Rattle.scr_world.specs.declared.command.Command.TheVariants.{Get, Register, Unregister, SetProperties}
+use Rattle.scr_world.specs.declared.command.Command.TheVariants.{Get, Listen, Register, SetProperties, Unget, Unlisten, Unregister}
 use Rattle.scr_world.specs.declared.step.Step.{Step}
 use Rattle.scr_world.specs.declared.step.Step.TheVariants.{Command as Commanded}
 use Rattle.scr_world.specs.declared.world.World.{World}
@@ -60,6 +60,10 @@ module _ (w : World) (calm : IsCalm w) where
   unseen_still (Commanded (Register bundle interfaces properties)) is = register_still bundle interfaces properties is
   unseen_still (Commanded (Unregister bundle service)) is = unregister_still bundle service is
   unseen_still (Commanded (SetProperties bundle service properties)) is = set_still bundle service properties is
+  unseen_still (Commanded (Get bundle service)) is = get_still w calm.rest calm.asked calm.renewed_all bundle service
+  unseen_still (Commanded (Unget bundle service)) is = unget_still w calm.rest calm.asked calm.renewed_all bundle service
+  unseen_still (Commanded (Listen bundle filter)) is = listen_still w calm.rest calm.asked calm.renewed_all bundle filter
+  unseen_still (Commanded (Unlisten listener)) is = unlisten_still w calm.rest calm.asked calm.renewed_all listener
   unseen_still step is = absurd cc
 
   get_stops : stopped_by (Commanded (Get 0 0)) w ≡ []
@@ -70,4 +74,8 @@ module _ (w : World) (calm : IsCalm w) where
   none_stop (Commanded (Register bundle interfaces properties)) is = get_stops
   none_stop (Commanded (Unregister bundle service)) is = get_stops
   none_stop (Commanded (SetProperties bundle service properties)) is = get_stops
+  none_stop (Commanded (Get bundle service)) is = nothing_stops w calm (Commanded (Get bundle service)) refl
+  none_stop (Commanded (Unget bundle service)) is = nothing_stops w calm (Commanded (Unget bundle service)) refl
+  none_stop (Commanded (Listen bundle filter)) is = nothing_stops w calm (Commanded (Listen bundle filter)) refl
+  none_stop (Commanded (Unlisten listener)) is = nothing_stops w calm (Commanded (Unlisten listener)) refl
   none_stop step is = absurd cc

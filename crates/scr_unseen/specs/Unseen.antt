@@ -1,5 +1,5 @@
--- Services that no component tells apart. OSGi Compendium 8, chapter 112, "Target Services", "Satisfied"; the word is our own.
-use Rattle.std.specs.Prelude.{◌≡◌, ℕ, ◌+◌, ◌&&◌, ◌||◌, List, [], Bool, false, not, Option, Some, None}
+-- Commands that no component tells apart. OSGi Compendium 8, chapter 112, "Target Services", "Satisfied"; the word is our own.
+use Rattle.std.specs.Prelude.{◌≡◌, ℕ, ◌+◌, ◌&&◌, ◌||◌, List, [], Bool, false, true, not, Option, Some, None}
 use Rattle.std.specs.List.{list_all, list_any}
 use Rattle.std.specs.Option.{option_map_or}
 use Rattle.component_dto.specs.declared.description.Reference.{Reference}
@@ -10,7 +10,7 @@ use Rattle.reference_match.specs.declared.need.Need.{Need}
 use Rattle.reference_match.specs.Needs.{condition_interface}
 use Rattle.reference_match.specs.Targets.{meets}
 use Rattle.scr_world.specs.Tables.{registry_by}
-use Rattle.scr_world.specs.declared.command.Command.TheVariants.{Register, Unregister, SetProperties}
+use Rattle.scr_world.specs.declared.command.Command.TheVariants.{Get, Listen, Register, SetProperties, Unget, Unlisten, Unregister}
 use Rattle.scr_world.specs.declared.step.Step.{Step}
 use Rattle.scr_world.specs.declared.step.Step.TheVariants.{Command as Commanded}
 use Rattle.scr_world.specs.declared.world.World.{World}
@@ -38,10 +38,18 @@ service_of (Commanded (Unregister bundle service)) w = Some service
 service_of (Commanded (SetProperties bundle service properties)) w = Some service
 service_of step w = None
 
--- a command registers, unregisters or changes a service that meets no need of a component configuration, before it or after
+-- a command leaves services and configurations as they are: a get or its return, a listener that comes or goes
+abbrev pub leaves_services : Step → Bool
+leaves_services (Commanded (Get bundle service)) = true
+leaves_services (Commanded (Unget bundle service)) = true
+leaves_services (Commanded (Listen bundle filter)) = true
+leaves_services (Commanded (Unlisten listener)) = true
+leaves_services step = false
+
+-- a command leaves services as they are, or registers, unregisters or changes one that meets no need of a component configuration, before it or after
 abbrev pub is_unseen : Step → World → Bool
 is_unseen step w =
-    option_map_or (λ service. is_unmet w.components service w.registry.rows && is_unmet w.components service (registry_by step w.registry).rows) (service_of step w) false
+    leaves_services step || option_map_or (λ service. is_unmet w.components service w.registry.rows && is_unmet w.components service (registry_by step w.registry).rows) (service_of step w) false
 
 -- nothing closes, opens or stops
 abbrev pub HasNoLists : Entry Step → Type 0

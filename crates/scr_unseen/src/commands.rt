@@ -1,6 +1,7 @@
-//! Commands for services that no component tells apart.
-ghost use Rattle.scr_unseen.specs.Unseen.{is_unmet, is_unseen, service_of};
+//! Commands that no component tells apart.
+ghost use Rattle.scr_unseen.specs.Unseen.{is_unmet, is_unseen, leaves_services, service_of};
 ghost use Rattle.scr_world.specs.Tables.{registry_by};
+ghost use Rattle.scr_world.specs.declared.step.Step.TheVariants.{Command as Commanded};
 ghost use Rattle.std.specs.Prelude.{◌≡◌, ◌&&◌, IfOk};
 
 use crate::needs::is_unmet;
@@ -10,8 +11,9 @@ use scr_world::{Command, Step, World};
 use service_registry::ServiceRow;
 use std::alloc::{AllocError, Global};
 
-/// Whether a step is a command that registers, unregisters or changes a service that meets no need of a component
-/// configuration, before it or after. The direct services after it are the caller's.
+/// Whether a step is a command that no component tells apart: a get or its return, a listener that comes or goes, or one
+/// that registers, unregisters or changes a service that meets no need of a component configuration, before it or after.
+/// The direct services after it are the caller's.
 ///
 /// # Errors
 /// Only want of memory. That a number is too high counts as such.
@@ -24,6 +26,9 @@ pub fn is_unseen(
     requires { after.now ≡ (registry_by step.now world.now.registry).rows }
     ensures { IfOk result (λ so. so ≡ is_unseen step.now world.now) }
 {
+    if leaves_services(step) {
+        return Ok(true);
+    }
     match service_of(world, step)? {
         Some(service) => {
             let components = world.components.as_slice();
@@ -31,6 +36,28 @@ pub fn is_unseen(
         }
         None => Ok(false),
     }
+}
+
+// Whether a command leaves services and configurations as they are.
+fn leaves_services(step: &Step) -> bool
+    ensures { result ≡ leaves_services step.now }
+{
+    match step {
+        Step::Command(command) => command_leaves_services(command),
+        _ => false,
+    }
+}
+
+fn command_leaves_services(command: &Command) -> bool
+    ensures { result ≡ leaves_services (Commanded command.now) }
+{
+    matches!(
+        command,
+        Command::Get { .. }
+            | Command::Unget { .. }
+            | Command::Listen { .. }
+            | Command::Unlisten { .. }
+    )
 }
 
 // The number of the service that a command registers, unregisters or changes.

@@ -1,5 +1,5 @@
-//! Commands for services that no component tells apart: which they are, and what holds of them in every legal journal (that
-//! law is a clause of a function that does nothing).
+//! Commands that no component tells apart: which they are, and what holds of them in every legal journal (that law is a
+//! clause of a function that does nothing).
 #![tactic(auto)]
 
 mod commands;
