@@ -9,10 +9,11 @@ use Rattle.callback_orders.specs.declared.instance_view.InstanceView.{InstanceVi
 use Rattle.callback_orders.specs.declared.instance_view.Key.{Key}
 use Rattle.callback_orders.specs.declared.instance_view.Phase.{Phase}
 use Rattle.callback_orders.specs.declared.instance_view.Phase.TheVariants.{Making, Active, Left}
-use Rattle.callback_orders.specs.Due.{due_in_phase, due_of, due_while_ending, first_some}
+use Rattle.callback_orders.specs.Due.{due_in_phase, due_of, due_while_ending}
 use Rattle.callback_orders.specs.Lives.{phase_of}
 use Rattle.callback_orders.specs.Sequences.{is_outstanding}
-use Rattle.callback_orders.proofs.FirstSome.{first_some-append}
+use Rattle.callback_orders.proofs.FirstSome.{first_some-append, first_some-cons}
+use Rattle.prop_map.specs.Words.{first_some}
 use Rattle.scr_world.specs.declared.instance.Instance.{Instance}
 use Rattle.scr_world.specs.declared.step.Step.{Step}
 use Rattle.scr_world.specs.declared.world.World.{World}
@@ -78,12 +79,16 @@ whiteboard_is w = refl
 among_is : (w : World) (is : List Instance) → first_some (map due_of (map (view_of w) is)) ≡ due_among w is
 unfolding due_for
 among_is w [] = refl
-among_is w (i ∷ is) = ap (option_or (due_of (view_of w i))) (among_is w is)
+among_is w (i ∷ is) =
+    first_some-cons (due_of (view_of w i)) (map due_of (map (view_of w) is))
+    ∙ ap (option_or (due_of (view_of w i))) (among_is w is)
+    ∙ sym (first_some-cons (due_of (view_of w i)) (map (due_for w) is))
 
 pub first_is : (w : World) → first_due_in w ≡ option_or (due_of_all w) (first_some (map (λ (key : Key). Some (Create key)) (missing_keys w)))
 unfolding first_due_in missing_keys due_as
 first_is w =
     first_some-append (map due_of (whiteboard_view w ∷ map (view_of w) w.instances)) (map (λ (key : Key). Some (Create key)) (missing w))
+    ∙ ap (λ o. option_or o (first_some (map (λ (key : Key). Some (Create key)) (missing w)))) (first_some-cons (due_of (whiteboard_view w)) (map due_of (map (view_of w) w.instances)))
     ∙ ap (λ o. option_or (option_or (due_of (whiteboard_view w)) o) (first_some (map (λ (key : Key). Some (Create key)) (missing w)))) (among_is w w.instances)
 
 -- one of them has something due

@@ -10,8 +10,9 @@ use Rattle.callback_orders.specs.declared.instance_view.Phase.{Phase}
 use Rattle.callback_orders.specs.declared.instance_view.Phase.TheVariants.{Making, Active, Left}
 use Rattle.callback_orders.specs.declared.instance_view.ReferenceView.{ReferenceView}
 use Rattle.callback_orders.specs.declared.instance_view.Wish.{Wish}
-use Rattle.callback_orders.specs.Due.{bind_at, bind_or_unbind, due_in_phase, due_of, due_while_ending, first_some, let_go_at, modified_if_stale, tell_at, unbind_at, with_places}
+use Rattle.callback_orders.specs.Due.{bind_at, bind_or_unbind, due_in_phase, due_of, due_while_ending, let_go_at, modified_if_stale, tell_at, unbind_at}
 use Rattle.callback_orders.specs.References.{desires_all, differs, holds_all, is_desired, is_held, to_bind, to_let_go, to_tell, to_unbind}
+use Rattle.prop_map.specs.Words.{first_some, with_places}
 use Rattle.scr_dues.specs.LeanViews.{lean, lean_held, lean_view, lean_wish}
 
 -- ---- lists of which each item is exchanged for another
@@ -128,16 +129,16 @@ module _ (n : ℕ) where
       ap (λ b. option_map_or (bind_or_unbind n) (cond b (Some (k, lean r)) (find (λ (q : ℕ × ReferenceView). differs q.1) (enumerate_from (k + 1) (map lean rs)))) (Some (Activate n))) (differs_same r)
       ∙ first_by k r rs (differs r) (making_from (k + 1) rs)
 
-  binds : (rs : List ReferenceView) → map (bind_at n) (with_places (map lean rs)) ≡ map (bind_at n) (with_places rs)
+  binds : (rs : List ReferenceView) → map (bind_at n) (with_places 0 (map lean rs)) ≡ map (bind_at n) (with_places 0 rs)
   binds rs = each_same (bind_at n) (λ k r. ap (option_map (λ s. Bind n k s)) (bind_same r)) 0 rs
 
-  unbinds : (rs : List ReferenceView) → map (unbind_at n) (with_places (map lean rs)) ≡ map (unbind_at n) (with_places rs)
+  unbinds : (rs : List ReferenceView) → map (unbind_at n) (with_places 0 (map lean rs)) ≡ map (unbind_at n) (with_places 0 rs)
   unbinds rs = each_same (unbind_at n) (λ k r. ap (option_map (λ s. Unbind n k s)) (unbind_same r)) 0 rs
 
-  tells : (rs : List ReferenceView) → map (tell_at n) (with_places (map lean rs)) ≡ map (tell_at n) (with_places rs)
+  tells : (rs : List ReferenceView) → map (tell_at n) (with_places 0 (map lean rs)) ≡ map (tell_at n) (with_places 0 rs)
   tells rs = each_same (tell_at n) (λ k r. ap (option_map (λ s. Updated n k s)) (tell_same r)) 0 rs
 
-  lets_go : (rs : List ReferenceView) → filter_map (let_go_at n) (with_places (map lean rs)) ≡ filter_map (let_go_at n) (with_places rs)
+  lets_go : (rs : List ReferenceView) → filter_map (let_go_at n) (with_places 0 (map lean rs)) ≡ filter_map (let_go_at n) (with_places 0 rs)
   lets_go rs = some_same (let_go_at n) (λ k r. ap (option_map (λ s. Unbind n k s)) (let_go_same r)) 0 rs
 
 module _ (v : InstanceView) where

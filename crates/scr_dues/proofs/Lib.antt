@@ -9,3 +9,5 @@ pub mod DueLemmas
 pub mod BeginLemmas
 pub mod LeanLemmas
 pub mod LeanViews
+pub mod Bound
+pub mod ChosenFrom

@@ -5,7 +5,8 @@ use Rattle.callback_orders.specs.declared.due.DueRef.{DueRef}
 use Rattle.callback_orders.specs.declared.instance_view.Key.{Key}
 use Rattle.callback_orders.specs.declared.instance_view.Phase.{Phase}
 use Rattle.callback_orders.specs.declared.instance_view.Phase.TheVariants.{Active}
-use Rattle.callback_orders.specs.Due.{due_of, first_some}
+use Rattle.callback_orders.specs.Due.{due_of}
+use Rattle.prop_map.specs.Words.{first_some}
 use Rattle.scr_world.specs.declared.instance.Instance.{Instance}
 use Rattle.scr_world.specs.declared.step.Step.{Step}
 use Rattle.scr_world.specs.declared.world.World.{World}

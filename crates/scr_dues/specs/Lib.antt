@@ -1,4 +1,5 @@
 pub mod Beginnings
+pub mod Bound
 pub mod Desires
 pub mod FirstDues
 pub mod LeanViews

@@ -44,8 +44,10 @@ pub fn is_changed(
 ) -> bool
     ensures { result ≡ is_changed world.now instance.now reference.now service }
 {
-    let told = revision_told(instance.told_revisions.as_slice(), reference, service);
-    told < revision_of(own, world, service)
+    let revision = revision_of(own, world, service);
+    // What was told is looked for only where something could have changed.
+    revision != 0
+        && revision_told(instance.told_revisions.as_slice(), reference, service) < revision
 }
 
 fn awaits_modified_by(instance: &Instance, component: Option<&Component>) -> bool

@@ -5,7 +5,7 @@ ghost use Rattle.component_state.specs.Reasons.{choice_at};
 ghost use Rattle.component_state.specs.Rows.{rows_of};
 ghost use Rattle.component_state.specs.declared.component.Component.{Component};
 ghost use Rattle.prop_map.specs.declared.properties.Property.{Property};
-ghost use Rattle.prop_map.specs.declared.reference_words.Policy.TheVariants.{Dynamic};
+ghost use Rattle.prop_map.specs.declared.reference_words.Policy.TheVariants.{Dynamic, Static};
 ghost use Rattle.reference_match.specs.Needs.{need_of};
 ghost use Rattle.reference_match.specs.Targets.{is_static, meets, targets};
 ghost use Rattle.scr_world.specs.Views.{desired_services, desired_unless_ending, properties_in};
@@ -13,14 +13,14 @@ ghost use Rattle.scr_world.specs.Whiteboard.{platform_rows};
 ghost use Rattle.scr_world.specs.Worlds.{direct_services, registered_services};
 ghost use Rattle.service_registry.specs.Services.{ranked};
 ghost use Rattle.std.specs.Option.{option_copied, option_map_or};
-ghost use Rattle.std.specs.Prelude.{◌≡◌, ◌++◌, [], IfOk, OnOk, filter, map};
+ghost use Rattle.std.specs.Prelude.{◌≡◌, ◌≤◌, ◌++◌, ℕ, [], IfOk, OnOk, filter, map};
 
 use crate::components::component_in;
 use crate::own_rows::OwnRows;
 use crate::services::sorted;
 use callback_orders::held_for;
 use component_dto::Reference;
-use component_state::{Component, OpenPeriod, choice_at};
+use component_state::{Choice, Component, OpenPeriod, choice_at};
 use prop_map::{OutOfMemory, Policy, Properties};
 use reference_match::{Need, desired, meets, need_of};
 use scr_world::{Instance, World};
@@ -163,25 +163,50 @@ fn held_where_dynamic(
     }
 }
 
-// What an instance that isn't ending desires for the reference at a place, for which it holds these: that is looked at
-// where it is dynamic alone.
+/// What was chosen for the reference at a place, where that is static: it is looked for from the first of these choices on.
+pub(crate) fn choice_where_static<'a>(
+    choices: &'a [Choice],
+    place: u64,
+    reference: &Reference,
+) -> &'a [u64]
+    ensures { reference.now.policy ≡ Static → result.now ≡ choice_at choices.now place }
+{
+    match reference.policy {
+        Policy::Static => choice_at(choices, place),
+        Policy::Dynamic => &[],
+    }
+}
+
+/// Choices without the first one, where that is for a reference before a place: what is chosen from that place on stands in the
+/// others.
+#[tactic(auto, using(crate::proofs::ChosenFrom::behind))]
+pub(crate) fn choices_from(choices: &[Choice], place: u64) -> &[Choice]
+    ensures { (later : ℕ) → place ≤ later → choice_at result.now later ≡ choice_at choices.now later }
+{
+    match choices {
+        [first, others @ ..] if first.reference < place => others,
+        _ => choices,
+    }
+}
+
+// What an instance that isn't ending desires for the reference at a place: what it holds for it is looked at where it is dynamic
+// alone, and what it chose for it where it is static.
 fn desired_services(
     alloc: Global,
     own: &OwnRows,
     world: &World,
     instance: &Instance,
     held: &[u64],
+    choice: &[u64],
     place: u64,
     reference: &Reference,
 ) -> Result<Vec<u64>, OutOfMemory>
-    requires { reference.now.policy ≡ Dynamic → held.now ≡ held_for reference.now.name instance.now.callbacks }
+    requires held { reference.now.policy ≡ Dynamic → held.now ≡ held_for reference.now.name instance.now.callbacks }
+    requires choice { reference.now.policy ≡ Static → choice.now ≡ choice_at instance.now.origin.chosen place }
     ensures { IfOk result (λ v. v.items ≡ desired_services world.now instance.now place reference.now) }
 {
     match reference.policy {
-        Policy::Static => {
-            let chosen = choice_at(instance.origin.chosen.as_slice(), place);
-            sorted(alloc, own, world, chosen)
-        }
+        Policy::Static => sorted(alloc, own, world, choice),
         Policy::Dynamic => desired_now(alloc, own, world, instance, held, place, reference),
     }
 }
@@ -205,10 +230,11 @@ pub fn desired_for(
         return Ok(Vec::new(alloc));
     }
     let held = held_where_dynamic(alloc, instance, reference)?;
-    desired_services(alloc, own, world, instance, &held, place, reference)
+    let choice = choice_where_static(instance.origin.chosen.as_slice(), place, reference);
+    desired_services(alloc, own, world, instance, &held, choice, place, reference)
 }
 
-/// The same, where what it holds for the reference is known.
+/// The same, where what it holds for the reference is known, and what it chose for it where that is static.
 pub(crate) fn desired_holding(
     alloc: Global,
     own: &OwnRows,
@@ -216,15 +242,17 @@ pub(crate) fn desired_holding(
     ending: bool,
     instance: &Instance,
     held: &[u64],
+    choice: &[u64],
     place: u64,
     reference: &Reference,
 ) -> Result<Vec<u64>, OutOfMemory>
-    requires { held.now ≡ held_for reference.now.name instance.now.callbacks }
+    requires held { held.now ≡ held_for reference.now.name instance.now.callbacks }
+    requires choice { reference.now.policy ≡ Static → choice.now ≡ choice_at instance.now.origin.chosen place }
     ensures { IfOk result (λ v. v.items ≡ desired_unless_ending ending world.now instance.now place reference.now) }
 {
     if ending {
         Ok(Vec::new(alloc))
     } else {
-        desired_services(alloc, own, world, instance, held, place, reference)
+        desired_services(alloc, own, world, instance, held, choice, place, reference)
     }
 }

@@ -4,12 +4,13 @@ ghost use Rattle.scr_dues.specs.Desires.{all_desiring, are_desiring, desired_for
 ghost use Rattle.std.specs.Prelude.{◌≡◌, ◌++◌, IfOk, OnOk, map};
 
 use crate::components::references_in;
-use crate::desires::desired_for;
+use crate::desires::{choice_where_static, choices_from, desired_holding};
 use crate::endings::ends;
 use crate::own_rows::OwnRows;
 use crate::readiness::{bundle_of_instance, consumer_for};
 use component_dto::Reference;
 use component_state::Component;
+use instance_callbacks::HeldServices;
 use prop_map::{List, OutOfMemory};
 use scr_world::{Instance, World};
 use std::alloc::Global;
@@ -34,8 +35,16 @@ fn desired_for_all(
     ensures { IfOk result (λ v. v.items ≡ desired_for_all ending world.now instance.now (with_places 0 references.now)) }
 {
     let mut found = Vec::new(alloc);
+    let all_held = HeldServices::of(alloc, instance.callbacks.as_slice())?;
+    let mut choices = instance.origin.chosen.as_slice();
     for (at, reference) in references.iter().enumerate() {
-        let mut more = desired_for(alloc, own, world, ending, instance, at as u64, reference)?;
+        let place = at as u64;
+        choices = choices_from(choices, place);
+        let choice = choice_where_static(choices, place, reference);
+        let held = all_held.held(&reference.name);
+        let mut more = desired_holding(
+            alloc, own, world, ending, instance, held, choice, place, reference,
+        )?;
         found.append(&mut more)?;
     }
     Ok(found)

@@ -1,15 +1,17 @@
 //! What decides which callback of an instance is due, without what isn't looked at: whether it is held, whether a service that it
 //! holds is ready, and whether one changed of which it isn't told (our own).
 ghost use Rattle.callback_orders.specs.Lives.{held_for};
+ghost use Rattle.component_state.specs.Reasons.{choice_at};
 ghost use Rattle.instance_callbacks.specs.ByName.{held_in};
 ghost use Rattle.prop_map.specs.Words.{has, with_places};
+ghost use Rattle.prop_map.specs.declared.reference_words.Policy.TheVariants.{Static};
 ghost use Rattle.scr_dues.specs.LeanViews.{lean_reference, lean_view_as};
 ghost use Rattle.scr_world.specs.Views.{is_changed, is_ready};
 ghost use Rattle.std.specs.Prelude.{◌≡◌, ◌&&◌, ℕ, IfOk, List, map, not};
 
 use crate::changes::{awaits_modified, is_changed};
 use crate::components::references_in;
-use crate::desires::desired_holding;
+use crate::desires::{choice_where_static, choices_from, desired_holding};
 use crate::own_rows::OwnRows;
 use crate::readiness::{bundle_of_instance, is_ready};
 use crate::services::sorted;
@@ -82,22 +84,24 @@ fn changes(
     Ok(found)
 }
 
+// It holds these services for the reference, and chose these where it is static.
 fn lean_reference(
     alloc: Global,
     own: &OwnRows,
     world: &World,
     ending: bool,
     instance: &Instance,
-    all_held: &HeldServices,
+    services: &[u64],
+    choice: &[u64],
     place: u64,
     reference: &Reference,
 ) -> Result<ReferenceView, OutOfMemory>
-    requires { (name : List ℕ) → held_in all_held.now name ≡ held_for name instance.now.callbacks }
+    requires held { services.now ≡ held_for reference.now.name instance.now.callbacks }
+    requires choice { reference.now.policy ≡ Static → choice.now ≡ choice_at instance.now.origin.chosen place }
     ensures { IfOk result (λ v. v ≡ lean_reference ending world.now instance.now (place, reference.now)) }
 {
-    let services = all_held.held(&reference.name);
     let desired = desired_holding(
-        alloc, own, world, ending, instance, services, place, reference,
+        alloc, own, world, ending, instance, services, choice, place, reference,
     )?;
     let held = sorted(alloc, own, world, services)?;
     let bundle = bundle_of_instance(world, instance);
@@ -111,6 +115,7 @@ fn lean_reference(
     })
 }
 
+// The choices stand in the order of the references, so the one for a reference is mostly the first of those that are left.
 fn lean_references(
     alloc: Global,
     own: &OwnRows,
@@ -124,10 +129,14 @@ fn lean_references(
     ensures { IfOk result (λ v. v.items ≡ map (lean_reference ending world.now instance.now) (with_places 0 references.now)) }
 {
     let mut found = Vec::new(alloc);
+    let mut choices = instance.origin.chosen.as_slice();
     for (at, reference) in references.iter().enumerate() {
         let place = at as u64;
+        choices = choices_from(choices, place);
+        let choice = choice_where_static(choices, place, reference);
+        let services = all_held.held(&reference.name);
         found.push(lean_reference(
-            alloc, own, world, ending, instance, all_held, place, reference,
+            alloc, own, world, ending, instance, services, choice, place, reference,
         )?)?;
     }
     Ok(found)

@@ -1,10 +1,12 @@
 //! What is due in a world: the first due callback, the turn that begins next, the work of a turn under way, the next drain, and
-//! room in the journal (OSGi Compendium 8, chapter 112, "Component Life Cycle"; turns, drains and room are our own).
+//! room in the journal (OSGi Compendium 8, chapter 112, "Component Life Cycle"; turns, drains and room are our own). Beside these
+//! the state of a component configuration.
 #![tactic(auto)]
 
 mod beginnings;
 mod begins;
 mod changes;
+mod component_states;
 mod components;
 mod desires;
 mod desiring;
@@ -21,12 +23,13 @@ mod wanted;
 
 pub use begins::{choices, instance_of, next_begin};
 pub use changes::{awaits_modified, is_changed};
+pub use component_states::state_of;
 pub use components::{component_in, references_in};
 pub use desires::desired_for;
 pub use dues::{due_in, due_of_instance, due_of_whiteboard, is_idle};
 pub use endings::ends;
 pub use own_rows::OwnRows;
-pub use readiness::{bundle_of_instance, has_holder, holds, is_active_instance, is_ready, serves};
+pub use readiness::{bundle_of_instance, has_holder, holds, is_ready, serves};
 pub use room::{has_room, needed_by, reserved};
 pub use services::{is_registered, ranking_of, revision_of, row_known, sorted};
 pub use turns::{awaits_drain, gate_of, is_under_way, next_drain, work_under_way};

@@ -1,7 +1,11 @@
 //! Which instances serve, hold and are held (OSGi Compendium 8, chapter 112, "Binding Services", "Unbinding"; scopes: OSGi Core 8,
 //! chapter 5, "Service Scope").
+ghost use Rattle.callback_orders.specs.Lives.{held_for};
+ghost use Rattle.component_dto.specs.declared.description.Reference.{Reference};
 ghost use Rattle.component_state.specs.Components.{consumer_for, declaring_bundle};
 ghost use Rattle.component_state.specs.declared.component.Component.{Component};
+ghost use Rattle.prop_map.specs.Words.{has};
+ghost use Rattle.scr_dues.specs.Bound.{binds, was_bound};
 ghost use Rattle.scr_world.specs.Instances.{is_active_instance, is_active_phase};
 ghost use Rattle.scr_world.specs.Lists.{holds};
 ghost use Rattle.scr_world.specs.Views.{bundle_of_instance, has_holder, is_holder, is_ready, serves};
@@ -13,8 +17,8 @@ ghost use Rattle.std.specs.Prelude.{◌≡◌, ◌==◌, ◌&&◌, false};
 
 use crate::components::references_in;
 use crate::own_rows::OwnRows;
-use callback_orders::{Phase, is_held, phase_of};
-use component_dto::Scope;
+use callback_orders::{Callback, Called, Phase, is_held};
+use component_dto::{Reference, Scope};
 use component_state::{Component, component_of};
 use scr_world::{Instance, World};
 use service_registry::Registry;
@@ -23,13 +27,6 @@ pub(crate) fn is_active_phase(phase: Phase) -> bool
     ensures { result ≡ is_active_phase phase }
 {
     matches!(phase, Phase::Active)
-}
-
-/// Whether an instance is active: from the end of a successful Activate to the end of Deactivate. It takes no memory.
-pub fn is_active_instance(instance: &Instance) -> bool
-    ensures { result ≡ is_active_instance instance.now }
-{
-    is_active_phase(phase_of(instance.callbacks.as_slice()))
 }
 
 // For whom the instance is that a bundle uses: for all, or for this bundle.
@@ -98,7 +95,7 @@ fn is_served(world: &World, bundle: u64, service: u64, instances: &[Instance]) -
     ensures { result ≡ list_any (λ (i : Instance). serves world.now bundle service i && is_active_instance i) instances.now }
 {
     instances.iter().any(|instance| serves(world, bundle, service, instance)
-        && is_active_instance(instance))
+        && instance.is_active())
 }
 
 /// Whether a service is ready for a bundle: it is direct, or its instance is active.
@@ -109,13 +106,52 @@ pub fn is_ready(own: &OwnRows, world: &World, bundle: u64, service: u64) -> bool
 }
 
 /// Whether an instance holds a service. It takes no memory.
+#[tactic(auto, using(crate::proofs::Bound::none_held))]
 pub fn holds(own: &OwnRows, world: &World, service: u64, instance: &Instance) -> bool
     ensures { result ≡ holds world.now.components service instance.now }
 {
     let calls = instance.callbacks.as_slice();
-    references_in(own, world, instance)
+    was_bound(calls, service)
+        && holds_for_last_or_any(references_in(own, world, instance), calls, service)
+}
+
+fn binds(callback: &Callback, sought: u64) -> bool
+    ensures { result ≡ binds sought callback.now }
+{
+    match callback {
+        Callback::Bind { service, .. } => *service == sought,
+        _ => false,
+    }
+}
+
+// Whether a service was bound, for whatever reference.
+fn was_bound(calls: &[Called], service: u64) -> bool
+    ensures { result ≡ was_bound service calls.now }
+{
+    calls.iter().any(|called| binds(&called.callback, service))
+}
+
+// Whether a service is held for one of these references, the first one first.
+fn holds_for_any(references: &[Reference], calls: &[Called], service: u64) -> bool
+    ensures { result ≡ list_any (λ (r : Reference). has (held_for r.name calls.now) service) references.now }
+{
+    references
         .iter()
         .any(|reference| is_held(calls, &reference.name, service))
+}
+
+// The same. An ending instance lets go of the last reference first, one that goes on of the first: so that which is held longest
+// stands at an end, and the callbacks are gone over once or twice until the last Unbind.
+#[tactic(auto, using(crate::proofs::Bound::last_too))]
+fn holds_for_last_or_any(references: &[Reference], calls: &[Called], service: u64) -> bool
+    ensures { result ≡ list_any (λ (r : Reference). has (held_for r.name calls.now) service) references.now }
+{
+    match references {
+        [.., last] => {
+            is_held(calls, &last.name, service) || holds_for_any(references, calls, service)
+        }
+        [] => false,
+    }
 }
 
 // Whether one instance holds the service of another and is served by it.

@@ -1,5 +1,4 @@
 //! Room in the journal: the entries that are reserved for what has begun (our own).
-ghost use Rattle.callback_orders.specs.Grammar.{is_activate};
 ghost use Rattle.scr_world.specs.Instances.{is_activated};
 ghost use Rattle.scr_world.specs.Room.{has_room, needed_by, reserved, reserved_for};
 ghost use Rattle.std.specs.Prelude.{◌≡◌, ◌≤◌, ◌<◌, ◌+◌, ◌^◌, map, sum};
@@ -7,18 +6,12 @@ ghost use Rattle.std.specs.Prelude.{◌≡◌, ◌≤◌, ◌<◌, ◌+◌, ◌^
 use callback_orders::{Callback, Called, Outcome, is_outstanding};
 use scr_world::{Instance, Step, World};
 
-fn is_activate(callback: &Callback) -> bool
-    ensures { result ≡ is_activate callback.now }
-{
-    matches!(callback, Callback::Activate)
-}
-
 // Whether an Activate is outstanding or ended Done.
 fn is_activated(calls: &[Called]) -> bool
     ensures { result ≡ is_activated calls.now }
 {
     calls.iter().any(|called| {
-        is_activate(&called.callback)
+        called.callback.is_activate()
             && !matches!(called.outcome, Some(Outcome::Refused | Outcome::NoMemory))
     })
 }
@@ -61,7 +54,7 @@ pub fn needed_by(step: &Step) -> u64
 {
     match step {
         Step::Command(_) => 1,
-        Step::Begin { callback, .. } => { if is_activate(callback) { 3 } else { 2 } }
+        Step::Begin { callback, .. } => { if callback.is_activate() { 3 } else { 2 } }
         Step::Got { .. } => 2,
         Step::End { .. } | Step::Drained { .. } | Step::Released { .. } => 0,
     }

@@ -13,14 +13,13 @@ ghost use Rattle.std.specs.Prelude.{◌≡◌, [], IfOk, find, option_map};
 use crate::components::component_in;
 use crate::endings::ends;
 use crate::own_rows::OwnRows;
-use crate::readiness::is_active_instance;
 use callback_orders::{Callback, Called, is_outstanding};
 use component_state::Component;
 use journal_core::GateKey;
 use kind_trait::Site;
 use prop_map::{Copies, OutOfMemory, Str};
 use scr_world::{Instance, World};
-use std::alloc::{AllocError, Global};
+use std::alloc::Global;
 use turn_runner::TurnWork;
 
 // The turn is under way, and the instance is told by it.
@@ -178,7 +177,7 @@ pub fn work_under_way(
 pub fn awaits_drain(world: &World, instance: &Instance) -> bool
     ensures { result ≡ awaits_drain world.now instance.now }
 {
-    !instance.drained && is_active_instance(instance) && ends(world, instance)
+    !instance.drained && instance.is_active() && ends(world, instance)
 }
 
 fn first_awaiting<'a>(world: &World, instances: &'a [Instance]) -> Option<&'a Instance>
@@ -190,30 +189,21 @@ fn first_awaiting<'a>(world: &World, instances: &'a [Instance]) -> Option<&'a In
 }
 
 /// The gate of an instance.
-///
-/// # Errors
-/// That its slot is no number of 32 bits counts as want of memory.
-pub fn gate_of(instance: &Instance) -> Result<GateKey, OutOfMemory>
-    ensures { IfOk result (λ key. key ≡ gate_of instance.now) }
+pub fn gate_of(instance: &Instance) -> GateKey
+    ensures { result ≡ gate_of instance.now }
 {
-    match u32::try_from(instance.slot) {
-        Ok(slot) => Ok(GateKey {
-            slot,
-            generation: instance.generation,
-        }),
-        Err(_) => Err(AllocError),
+    GateKey {
+        slot: instance.slot,
+        generation: instance.generation,
     }
 }
 
-/// The gate of the first instance that awaits its drain, if one does.
-///
-/// # Errors
-/// That its slot is no number of 32 bits counts as want of memory.
-pub fn next_drain(world: &World) -> Result<Option<GateKey>, OutOfMemory>
-    ensures { IfOk result (λ key. key ≡ next_drain world.now) }
+/// The gate of the first instance that awaits its drain, if one does. It takes no memory.
+pub fn next_drain(world: &World) -> Option<GateKey>
+    ensures { result ≡ next_drain world.now }
 {
     match first_awaiting(world, world.instances.as_slice()) {
-        Some(instance) => Ok(Some(gate_of(instance)?)),
-        None => Ok(None),
+        Some(instance) => Some(gate_of(instance)),
+        None => None,
     }
 }

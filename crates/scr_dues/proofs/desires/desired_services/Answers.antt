@@ -1,7 +1,6 @@
 use Rattle.std.proofs.Common.{◌≡◌, ◌∙◌, ap, sym, subst, List, ℕ}
 use Rattle.std.specs.Result.{IfOk}
 use Rattle.callback_orders.specs.Lives.{held_for}
-use Rattle.component_state.specs.declared.origin.Choice.{Choice}
 use Rattle.component_state.specs.Reasons.{choice_at}
 use Rattle.reference_match.specs.Needs.{need_of}
 use Rattle.scr_world.specs.Views.{properties_in, targets_for}
@@ -15,6 +14,6 @@ returns-in-Static c =
     let i = c.args.instance.now in
     let r = c.args.reference.now in
     subst (λ (l : List ℕ). IfOk c.sorted.result (λ v. v.items ≡ l))
-    (ap (sorted w) (c.choice_at-chosen.ensures ∙ ap (λ (cs : List Choice). choice_at cs c.args.place) c.as_slice.ensures)
+    (ap (sorted w) (c.requires.choice c.in-Static.is)
     ∙ sym (static_desires (need_of (properties_in w i) r) (sorted w (choice_at i.origin.chosen c.args.place)) (held_for r.name i.callbacks) (targets_for w i r) c.in-Static.is))
     c.sorted.ensures

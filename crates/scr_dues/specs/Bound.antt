@@ -1,0 +1,14 @@
+-- Services that were bound, for whatever reference. Our own.
+use Rattle.std.specs.Prelude.{ℕ, ◌==◌, List, Bool, false}
+use Rattle.std.specs.List.{list_any}
+use Rattle.callback_orders.specs.declared.callback.Callback.{Callback}
+use Rattle.callback_orders.specs.declared.callback.Callback.TheVariants.{Bind}
+use Rattle.callback_orders.specs.declared.word.Called.{Called}
+
+-- it's the Bind of a service
+abbrev pub binds : ℕ → Callback → Bool
+binds s (Bind reference service) = service == s
+binds s _ = false
+
+abbrev pub was_bound : ℕ → List Called → Bool
+was_bound s calls = list_any (λ (c : Called). binds s c.callback) calls
