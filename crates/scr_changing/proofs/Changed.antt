@@ -1,5 +1,5 @@
 -- The judgement of a command by its last refusals.
-use Rattle.std.proofs.Common.{◌≡◌, ◌∙◌, ℕ, refl, subst, sym, Bool, true, false, Some, None, Result, Ok, Err}
+use Rattle.std.proofs.Common.{◌≡◌, ◌∙◌, ℕ, ap, refl, subst, sym, Bool, true, false, Some, None, Result, Ok, Err}
 use Rattle.scr_asking.specs.Asked.{IsAskedAfter, are_too_many}
 use Rattle.scr_asking.specs.declared.asked.Asked.{Asked}
 use Rattle.scr_changing.specs.Changing.{AreTablesBy, Changes, ChangesFreely, ChangesUnlessFull}
@@ -45,11 +45,11 @@ tables_unless_full s (Released place) reply tables changes = absurd changes
 pub no_memory : (limit : ℕ) (s : State) (step : Step) (fault : CoreFault) → fault ≡ OutOfMemory → JudgesStep limit s step (Err fault)
 unfolding JudgesStep
 no_memory limit s (Commanded command) fault is = judged.no_memory_is limit s command fault is
-no_memory limit s (Begin turn instance configuration consumer callback chosen) fault is = tt
-no_memory limit s (End turn outcome) fault is = tt
-no_memory limit s (Drained instance) fault is = tt
-no_memory limit s (Got bundle service) fault is = tt
-no_memory limit s (Released place) fault is = tt
+no_memory limit s (Begin turn instance configuration consumer callback chosen) fault is = ap (λ (f : CoreFault). Err f) is
+no_memory limit s (End turn outcome) fault is = ap (λ (f : CoreFault). Err f) is
+no_memory limit s (Drained instance) fault is = ap (λ (f : CoreFault). Err f) is
+no_memory limit s (Got bundle service) fault is = ap (λ (f : CoreFault). Err f) is
+no_memory limit s (Released place) fault is = ap (λ (f : CoreFault). Err f) is
 
 -- ---- too many component configurations
 
@@ -70,11 +70,11 @@ pub full : (limit : ℕ) (s : State) (step : Step) (reply : Reply) (tables : Tab
 unfolding JudgesStep
 full limit s (Commanded command) reply tables changes many =
     judged.refused limit s command ComponentsFull refl (refused_full s.world command changes.refusals many)
-full limit s (Begin turn instance configuration consumer callback chosen) reply tables changes many = tt
-full limit s (End turn outcome) reply tables changes many = tt
-full limit s (Drained instance) reply tables changes many = tt
-full limit s (Got bundle service) reply tables changes many = tt
-full limit s (Released place) reply tables changes many = tt
+full limit s (Begin turn instance configuration consumer callback chosen) reply tables changes many = absurd changes
+full limit s (End turn outcome) reply tables changes many = absurd changes
+full limit s (Drained instance) reply tables changes many = absurd changes
+full limit s (Got bundle service) reply tables changes many = absurd changes
+full limit s (Released place) reply tables changes many = absurd changes
 
 pub freely : (s : State) (step : Step) (reply : Reply) (tables : TablesAfter) → ChangesUnlessFull s step reply tables → are_too_many step s.world ≡ false → ChangesFreely s step reply tables
 freely s (Commanded command) reply tables changes few = record {
@@ -94,22 +94,22 @@ freely s (Released place) reply tables changes few = absurd changes
 pub no_room : (limit : ℕ) (s : State) (step : Step) (reply : Reply) (tables : TablesAfter) → ChangesFreely s step reply tables → has_room limit s.world 1 ≡ false → JudgesStep limit s step (Err JournalFull)
 unfolding JudgesStep
 no_room limit s (Commanded command) reply tables changes room = judged.no_room limit s command changes.refusals changes.effect room
-no_room limit s (Begin turn instance configuration consumer callback chosen) reply tables changes room = tt
-no_room limit s (End turn outcome) reply tables changes room = tt
-no_room limit s (Drained instance) reply tables changes room = tt
-no_room limit s (Got bundle service) reply tables changes room = tt
-no_room limit s (Released place) reply tables changes room = tt
+no_room limit s (Begin turn instance configuration consumer callback chosen) reply tables changes room = absurd changes
+no_room limit s (End turn outcome) reply tables changes room = absurd changes
+no_room limit s (Drained instance) reply tables changes room = absurd changes
+no_room limit s (Got bundle service) reply tables changes room = absurd changes
+no_room limit s (Released place) reply tables changes room = absurd changes
 
 pub changed : (limit : ℕ) (s : State) (step : Step) (reply : Reply) (asked : Asked) (tables : TablesAfter) (draft : Draft) → ChangesFreely s step reply tables → IsAskedAfter step s.world asked
     → has_room limit s.world 1 ≡ true → draft ≡ command_draft s.world asked tables → JudgesStep limit s step (Ok (WithDraft reply draft))
 unfolding JudgesStep
 changed limit s (Commanded command) reply asked tables draft changes known room is =
     rw is (judged.changed limit s command changes.refusals reply (command_draft s.world asked tables) changes.effect room (sym changes.answers) (drafted s command asked tables known changes.after))
-changed limit s (Begin turn instance configuration consumer callback chosen) reply asked tables draft changes known room is = tt
-changed limit s (End turn outcome) reply asked tables draft changes known room is = tt
-changed limit s (Drained instance) reply asked tables draft changes known room is = tt
-changed limit s (Got bundle service) reply asked tables draft changes known room is = tt
-changed limit s (Released place) reply asked tables draft changes known room is = tt
+changed limit s (Begin turn instance configuration consumer callback chosen) reply asked tables draft changes known room is = absurd changes
+changed limit s (End turn outcome) reply asked tables draft changes known room is = absurd changes
+changed limit s (Drained instance) reply asked tables draft changes known room is = absurd changes
+changed limit s (Got bundle service) reply asked tables draft changes known room is = absurd changes
+changed limit s (Released place) reply asked tables draft changes known room is = absurd changes
 
 -- ---- what is right to say of a step is right to say of its command
 

@@ -18,12 +18,12 @@ use scr_state::State;
 use scr_world::{Command, CoreFault, Step};
 use std::alloc::Global;
 
-/// What a command comes to: why it is refused, or what it answers and, where it changes something, its draft. Any other step has
-/// no judge.
+/// What a command comes to: why it is refused, or what it answers and, where it changes something, its draft. A step that is no
+/// command has no judge, so its answer is `OutOfMemory`.
 ///
 /// # Errors
 /// The first refusal of the command whose condition holds, last `JournalFull`, where the journal has no room for the entry of a
-/// command that changes something. `OutOfMemory` comes only for want of memory, at any time.
+/// command that changes something. Of a command `OutOfMemory` comes only for want of memory, at any time.
 pub fn judge(
     alloc: Global,
     journal: &Journal<Step>,

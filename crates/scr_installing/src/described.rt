@@ -63,7 +63,7 @@ pub(crate) fn descriptions_in(
 ///
 /// # Errors
 /// Only want of memory.
-pub(crate) fn both(
+pub(crate) fn joined_copies(
     alloc: Global,
     these: &[Description],
     those: &[Description],

@@ -10,7 +10,7 @@ ghost use Rattle.scr_world.specs.declared.command.Command.TheVariants.{Install};
 ghost use Rattle.scr_world.specs.declared.step.Step.TheVariants.{Command as Commanded};
 ghost use Rattle.std.specs.Prelude.{◌≡◌, ◌+◌, IfOk, length, nat_le, option_map};
 
-use crate::described::{Described, both, with_levels};
+use crate::described::{Described, joined_copies, with_levels};
 use crate::documents::documents_with;
 use crate::drafting::documents_draft;
 use crate::names::namesake;
@@ -90,7 +90,7 @@ fn described_after(alloc: Global, state: &State, doc: &BundleDoc) -> Result<Desc
     if let Some(bundle) = namesake(&state.world.bundles, doc, 0) {
         return Err(CoreFault::SameName { bundle });
     }
-    let all = both(
+    let all = joined_copies(
         alloc,
         state.descriptions.as_slice(),
         doc.descriptions.as_slice(),

@@ -18,7 +18,7 @@ Judges limit s command (Err fault) = Replies limit s.world command (Err fault)
 Judges limit s command (Ok (Unchanged reply)) = (changes limit s.world command ≡ false) × Replies limit s.world command (Ok reply)
 Judges limit s command (Ok (Changes reply draft)) = (changes limit s.world command ≡ true) × (Replies limit s.world command (Ok reply) × IsDraft s (Commanded command) draft)
 
--- the same of a step, where it is a command
+-- the same of a step. One that is no command is answered as want of memory
 unfoldable pub JudgesStep : ℕ → State → Step → Result Judgement CoreFault → Type 0
 JudgesStep limit s (Commanded command) judged = Judges limit s command judged
-JudgesStep limit s _ judged = ⊤
+JudgesStep limit s _ judged = judged ≡ Err OutOfMemory

@@ -35,7 +35,7 @@ pub(crate) fn component_refusal(
     match state.world.bundles.state_of(bundle) {
         None => Ok(Some(CoreFault::NoBundle { bundle })),
         Some(now) => {
-            if !is_active(now) {
+            if !is_active_state(now) {
                 return Ok(Some(CoreFault::WrongState {
                     state: now.number(),
                 }));
@@ -46,7 +46,7 @@ pub(crate) fn component_refusal(
 }
 
 /// Whether a state is ACTIVE.
-pub(crate) fn is_active(state: BundleState) -> bool
+pub(crate) fn is_active_state(state: BundleState) -> bool
     ensures { result ≡ is_active state }
 {
     matches!(state, BundleState::Active)

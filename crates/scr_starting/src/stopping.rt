@@ -7,7 +7,7 @@ ghost use Rattle.scr_world.specs.declared.command.Command.TheVariants.{Stop};
 ghost use Rattle.scr_world.specs.declared.step.Step.TheVariants.{Command as Commanded};
 ghost use Rattle.std.specs.Prelude.{◌≡◌, None, true};
 
-use crate::known_components::is_active;
+use crate::known_components::is_active_state;
 use crate::remaining_services::without_bundle;
 use journal_core::Journal;
 use scr_changing::change_freely;
@@ -35,7 +35,7 @@ pub fn judge_stop(
     match state.world.bundles.state_of(bundle) {
         None => Err(CoreFault::NoBundle { bundle }),
         Some(now) => {
-            if !is_active(now) {
+            if !is_active_state(now) {
                 return Ok(Judgement::Unchanged(Reply::Done));
             }
             stop_active(alloc, journal, state, step, bundle)
