@@ -1,7 +1,7 @@
 //! The journal and the limits of a core.
 
 use crate::samples::{LIMITS, PROVIDER, on_core, run};
-use scr_core::{Core, Limits};
+use scr_core::{Core, Limits, core_is_send};
 use std::alloc::Global;
 
 fn limits_and_length(alloc: Global, core: &mut Core) -> Option<(Limits, u64)> {
@@ -30,4 +30,9 @@ fn left(alloc: Global) -> Option<u64> {
 #[test]
 fn a_journal_is_left(rt: HostRuntime) {
     assert!(rt; left(rt.alloc()) == Some(2));
+}
+
+#[test]
+fn a_core_may_go_to_another_thread(_rt: HostRuntime) {
+    core_is_send();
 }

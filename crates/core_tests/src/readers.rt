@@ -42,7 +42,7 @@ fn held_services_and_turns_are_told(rt: HostRuntime) {
 }
 
 // The state of the consumer, and how many services are bound to its reference.
-fn told(alloc: Global, core: &mut Core) -> Option<(u8, usize)> {
+fn state_and_bound(alloc: Global, core: &mut Core) -> Option<(u8, usize)> {
     settle_both(alloc, core)?;
     let view = core.component(alloc, 1).ok()??;
     let reference = view.references.as_slice().first()?;
@@ -51,7 +51,7 @@ fn told(alloc: Global, core: &mut Core) -> Option<(u8, usize)> {
 
 #[test]
 fn a_component_is_told(rt: HostRuntime) {
-    assert!(rt; on_core(rt.alloc(), told) == Some((8, 1)));
+    assert!(rt; on_core(rt.alloc(), state_and_bound) == Some((8, 1)));
 }
 
 // How many services of P there are, and the number of the best.

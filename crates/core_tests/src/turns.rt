@@ -67,11 +67,11 @@ fn stop_provider(alloc: Global, core: &mut Core) -> Option<usize> {
 // Posts the first drain that is awaited. It answers its gate, nothing where none is.
 fn drain(alloc: Global, core: &mut Core) -> Option<GateKey> {
     match core.next_drain() {
-        Ok(Some(key)) => match core.drained(alloc, key) {
+        Some(key) => match core.drained(alloc, key) {
             Ok(()) => Some(key),
             Err(_) => None,
         },
-        _ => None,
+        None => None,
     }
 }
 
@@ -81,7 +81,7 @@ fn drained(alloc: Global, core: &mut Core) -> Option<(usize, bool)> {
     let shut = stop_provider(alloc, core)?;
     let first = drain(alloc, core)?;
     let second = drain(alloc, core)?;
-    Some((shut, first != second && core.next_drain() == Ok(None)))
+    Some((shut, first != second && core.next_drain().is_none()))
 }
 
 #[test]

@@ -19,7 +19,7 @@ use std::alloc::Global;
 fn awaits_drain_at(world: &World, key: GateKey, instance: &Instance) -> bool
     ensures { result ≡ awaits_drain_at world.now key instance.now }
 {
-    instance.slot == u64::from(key.slot)
+    instance.slot == key.slot
         && instance.generation == key.generation
         && awaits_drain(world, instance)
 }

@@ -13,6 +13,7 @@ mod empty;
 mod platform_core;
 mod readers;
 mod room;
+mod sending;
 mod steps;
 mod turn;
 mod turn_lines;
@@ -27,5 +28,6 @@ pub use scr_world::{
     Accepted, BundleLine, Command, ComponentLine, CoreFault, Ended, HeldLine, Limits, Reply, Step,
     TurnLine,
 };
+pub use sending::core_is_send;
 pub use turn::{Taken, Turn};
 pub use use_note::UseNote;

@@ -148,12 +148,9 @@ impl Core {
     }
 
     /// The gate of the first instance whose drain isn't posted though its gate is shut, to be given to [`Core::drained`] once nobody
-    /// is inside; `None` where no instance awaits its drain.
-    ///
-    /// # Errors
-    /// Only want of memory: a slot that is no number of 32 bits counts as that.
-    pub fn next_drain(&self) -> Result<Option<GateKey>, OutOfMemory>
-        ensures { IfOk result (λ key. key ≡ next_drain (world_at self.now.journal)) }
+    /// is inside; `None` where no instance awaits its drain. It takes no memory.
+    pub fn next_drain(&self) -> Option<GateKey>
+        ensures { result ≡ next_drain (world_at self.now.journal) }
     {
         scr_dues::next_drain(&self.state.world)
     }

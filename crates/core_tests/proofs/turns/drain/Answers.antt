@@ -4,6 +4,4 @@ use Rattle.core_tests.proofs.Draining.{next_awaits}
 use Rattle.core_tests.proofs.turns.drain.Goals as goal
 
 pub drained-requires : goal.drained-requires
-drained-requires c =
-    let is = sym (rw c.in-Ok-Some.field-0-is at c.in-Ok-Some.ensures) in
-    next_awaits (world_at c.args.core.now.journal) c.in-Ok-Some.key is
+drained-requires c = next_awaits (world_at c.args.core.now.journal) c.in-Some.key (sym c.in-Some.ensures)
