@@ -1,5 +1,5 @@
 -- One of two bundles stops, has another document and starts: the other keeps its document, its component configuration and its listener. Derived by hand.
-use Rattle.std.specs.Prelude.{◌≡◌, refl, List, [], ◌∷◌, codes, true, false, None, Ok, Err}
+use Rattle.std.specs.Prelude.{◌≡◌, refl, List, [], ◌∷◌, codes, map, true, false, None, Ok, Err}
 use Rattle.component_dto.specs.declared.description.Scope.TheVariants.{Singleton}
 use Rattle.component_dto.specs.declared.description.ConfigurationPolicy.TheVariants.{Optional}
 use Rattle.bundle_doc.specs.declared.document.BundleDoc.{BundleDoc}
@@ -8,12 +8,14 @@ use Rattle.scr_world.specs.declared.step.Step.TheVariants.{Command as Commanded}
 use Rattle.scr_world.specs.declared.command.Command.TheVariants.{Install, Update, Start, Stop, Listen, Unlisten}
 use Rattle.scr_world.specs.declared.reply.CoreFault.TheVariants.{NoListener}
 use Rattle.scr_world.specs.declared.reply.Reply.TheVariants.{Done as IsDone}
+use Rattle.service_registry.specs.declared.row.ServiceRow.{ServiceRow}
+use Rattle.scr_world.specs.Readers.{service_lines}
 use Rattle.scr_world.specs.Steps.{History}
 use Rattle.scr_world.specs.declared.world.World.{World}
 use Rattle.journal_examples.proofs.Laws.{laws}
 use Rattle.journal_examples.proofs.Meanings.{legal_means}
 use Rattle.scr_world.specs.Legal.{IsLegal}
-use Rattle.journal_examples.proofs.Tests.{worlds, legal, states, asked, replies, events_at_end, found_at_end}
+use Rattle.journal_examples.proofs.Tests.{worlds, legal, newest, states, asked, replies, events_at_end, found_at_end}
 use Rattle.scr_world.specs.Worlds.{satisfied_in}
 use Rattle.scr_world.specs.Room.{has_room}
 use Rattle.scr_world.specs.Consequences.{stage_in, stage_of, stopped_in, stopped_by, shut_between}
@@ -88,6 +90,15 @@ which_events = refl
 which_found : found_at_end (tree_or_none (codes "(objectClass=*)")) all ≡ (1 ∷ 3 ∷ [])
 unfolding world_after_entry world_of world_after_step stage_in stage_of stopped_in stopped_by shut_between has_room satisfied_in
 which_found = refl
+
+-- the service of a component is its bundle's, also where that isn't the first
+whose_services : map (λ (r : ServiceRow). r.bundle) (service_lines (newest all)) ≡ (2 ∷ 1 ∷ [])
+unfolding world_after_entry world_of world_after_step stage_in stage_of stopped_in stopped_by shut_between has_room satisfied_in
+whose_services = refl
+
+by_bundle : found_at_end (tree_or_none (codes "(service.bundleid=2)")) all ≡ (1 ∷ [])
+unfolding world_after_entry world_of world_after_step stage_in stage_of stopped_in stopped_by shut_between has_room satisfied_in
+by_bundle = refl
 
 laws_hold : laws past10 all ≡ true
 unfolding world_after_entry world_of world_after_step stage_in stage_of stopped_in stopped_by shut_between has_room satisfied_in

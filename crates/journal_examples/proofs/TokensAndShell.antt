@@ -29,6 +29,7 @@ use Rattle.scr_world.specs.Stepping.{world_after_step}
 use Rattle.scr_world.specs.Lists.{world_after_entry, world_of}
 use Rattle.journal_examples.proofs.Tests.{may_come, newest}
 use Rattle.std.specs.Prelude.{map}
+use Rattle.scr_world.specs.Calls.{has_token}
 use Rattle.scr_world.specs.Room.{reserved}
 
 abbrev doc1 : BundleDoc
@@ -89,6 +90,15 @@ stands_legal = legal_means 4194304 past12 is_legal
 no_release : map (λ (w : World). may_come w (Released 5)) all ≡ (false ∷ false ∷ true ∷ true ∷ true ∷ true ∷ true ∷ false ∷ false ∷ false ∷ false ∷ false ∷ false ∷ [])
 unfolding world_after_entry world_of world_after_step stage_in stage_of stopped_in stopped_by shut_between has_room satisfied_in
 no_release = refl
+
+-- two tokens of one service for one bundle, each at the place of its entry: one is released, the other stays
+two_tokens : map (has_token (newest (worlds past9))) (4 ∷ 5 ∷ 6 ∷ 7 ∷ []) ≡ (false ∷ true ∷ true ∷ false ∷ [])
+unfolding world_after_entry world_of world_after_step stage_in stage_of stopped_in stopped_by shut_between has_room satisfied_in
+two_tokens = refl
+
+one_token : map (has_token (newest (worlds past10))) (5 ∷ 6 ∷ []) ≡ (true ∷ false ∷ [])
+unfolding world_after_entry world_of world_after_step stage_in stage_of stopped_in stopped_by shut_between has_room satisfied_in
+one_token = refl
 
 room : map (λ (w : World). reserved w) all ≡ (0 ∷ 0 ∷ 1 ∷ 2 ∷ 2 ∷ 2 ∷ 1 ∷ 0 ∷ 0 ∷ 0 ∷ 0 ∷ 0 ∷ 0 ∷ [])
 unfolding world_after_entry world_of world_after_step stage_in stage_of stopped_in stopped_by shut_between has_room satisfied_in

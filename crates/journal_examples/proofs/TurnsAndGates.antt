@@ -1,11 +1,11 @@
 -- What else is told of a journal: its turns, the work under way, the gates of instances with what shuts, reopens and drains them, what is held and what is reserved.
 -- The values are those of an independent model of the platform.
-use Rattle.std.specs.Prelude.{◌≡◌, refl, ℕ, List, [], ◌∷◌, codes, map, Some, None, option_map}
+use Rattle.std.specs.Prelude.{◌≡◌, refl, ℕ, List, [], ◌∷◌, codes, map, find, Option, Some, None, option_map}
 use Rattle.callback_orders.specs.declared.callback.Callback.{Callback}
 use Rattle.callback_orders.specs.declared.callback.Callback.TheVariants.{Create, Bind, Unbind, Activate, Deactivate, Destroy}
 use Rattle.callback_orders.specs.declared.callback.Outcome.TheVariants.{Done}
 use Rattle.turn_runner.specs.declared.turn_work.TurnWork.{TurnWork}
-use Rattle.scr_world.specs.Calls.{next_drain}
+use Rattle.scr_world.specs.Calls.{awaits_drain_at, next_drain}
 use Rattle.scr_world.specs.Consequences.{shut_between, stage_in, stage_of, stopped_by, stopped_in}
 use Rattle.scr_world.specs.Lists.{world_after_entry, world_of}
 use Rattle.scr_world.specs.Readers.{held_lines}
@@ -14,6 +14,7 @@ use Rattle.scr_world.specs.Stepping.{world_after_step}
 use Rattle.scr_world.specs.TurnLines.{turns_above}
 use Rattle.scr_world.specs.TurnSteps.{work_under_way}
 use Rattle.scr_world.specs.Worlds.{satisfied_in}
+use Rattle.scr_world.specs.declared.instance.Instance.{Instance}
 use Rattle.scr_world.specs.declared.lines.HeldLine.{HeldLine}
 use Rattle.scr_world.specs.declared.lines.TurnLine.{TurnLine}
 use Rattle.scr_world.specs.declared.world.World.{World}
@@ -58,6 +59,10 @@ its_instance = refl
 its_class : option_map (λ (work : TurnWork). work.site.class) (work_under_way (world_of binding) 5) ≡ Some (codes "C")
 unfolding world_after_entry world_of world_after_step stage_in stage_of stopped_in stopped_by shut_between has_room satisfied_in
 its_class = refl
+
+its_name : option_map (λ (work : TurnWork). work.name) (work_under_way (world_of binding) 5) ≡ Some (codes "c")
+unfolding world_after_entry world_of world_after_step stage_in stage_of stopped_in stopped_by shut_between has_room satisfied_in
+its_name = refl
 
 another_number : work_under_way (world_of binding) 4 ≡ None
 unfolding world_after_entry world_of world_after_step stage_in stage_of stopped_in stopped_by shut_between has_room satisfied_in
@@ -113,6 +118,23 @@ second_drain = refl
 last_drain : next_drain (world_of drained) ≡ None
 unfolding world_after_entry world_of world_after_step stage_in stage_of stopped_in stopped_by shut_between has_room satisfied_in
 last_drain = refl
+
+-- the instance whose drain a gate asks for: both its slot and its generation are those of the key
+abbrev drained_at : World → ℕ → ℕ → Option ℕ
+drained_at w slot generation = option_map (λ (i : Instance). i.number) (find (awaits_drain_at w (record { slot = slot; generation = generation })) w.instances)
+
+drains_by_gate : (drained_at (world_of stopped) 0 1 ∷ drained_at (world_of stopped) 1 1 ∷ []) ≡ (Some 1 ∷ Some 2 ∷ [])
+unfolding world_after_entry world_of world_after_step stage_in stage_of stopped_in stopped_by shut_between has_room satisfied_in
+drains_by_gate = refl
+
+no_such_gate : (drained_at (world_of stopped) 0 2 ∷ drained_at (world_of stopped) 1 2 ∷ drained_at (world_of stopped) 2 1 ∷ []) ≡ (None ∷ None ∷ None ∷ [])
+unfolding world_after_entry world_of world_after_step stage_in stage_of stopped_in stopped_by shut_between has_room satisfied_in
+no_such_gate = refl
+
+-- one that isn't shut has no drain, and one that is drained has none any more
+no_drain_due : (drained_at (world_of active) 1 1 ∷ drained_at (world_of half_drained) 0 1 ∷ drained_at (world_of half_drained) 1 1 ∷ []) ≡ (None ∷ None ∷ Some 2 ∷ [])
+unfolding world_after_entry world_of world_after_step stage_in stage_of stopped_in stopped_by shut_between has_room satisfied_in
+no_drain_due = refl
 
 -- ---- what is reserved
 
