@@ -11,7 +11,7 @@ use Rattle.turn_runner.specs.declared.settle_fault.SettleFault.TheVariants.{Unse
 use Rattle.scr_core.specs.Cores.{CoreView}
 use Rattle.scr_settling.specs.Bounds.{IsWithinBound}
 use Rattle.scr_settling.specs.Names.{HaveOwnNames}
-use Rattle.scr_settling.specs.Settlings.{Settles as SettlesBehind, is_settling}
+use Rattle.scr_settling.specs.Settlings.{OnlySettles, is_settling}
 use Rattle.scr_settling.proofs.NoneDue.{none_due_at_bound}
 use Rattle.scr_settling.proofs.NothingCloses.{nothing_closes}
 use Rattle.scr_settling.proofs.WithinBound.{settles_within_bound}
@@ -24,7 +24,7 @@ use Rattle.scr_world.specs.declared.command.Limits.{Limits}
 use Rattle.scr_world.specs.declared.step.Step.{Step}
 use Rattle.scr_world.specs.declared.step.Step.TheVariants.{Command as Commanded, Begin, End, Drained as DrainedStep, Got, Released}
 use Rattle.scr_world.specs.declared.world.World.{World}
-use Rattle.platform_hall.specs.Platforms.{Settles, has_due, world}
+use Rattle.platform_hall.specs.Platforms.{SettlesAs, has_due, world}
 use Rattle.platform_hall.specs.SettleBounds.{AnswersWithin, IsBounded, KeepsWithin, NothingFails, SettlesWithin, fails_nothing}
 use Rattle.platform_hall.proofs.Settlings.{HasLegal}
 use Rattle.platform_hall.proofs.Spans.{AreTurning, Spans, is_turning, posts_spans, settles_cut_spans, settles_spans}
@@ -38,7 +38,7 @@ turning_settles (DrainedStep instance) w turning fine = refl
 turning_settles (Got bundle service) w turning fine = absurd cc
 turning_settles (Released place) w turning fine = absurd cc
 
-all_settle : (past entries : History) → AreTurning entries → NothingFails past entries → SettlesBehind past entries
+all_settle : (past entries : History) → AreTurning entries → NothingFails past entries → OnlySettles past entries
 all_settle past [] turning fine = tt
 all_settle past (entry ∷ entries) turning fine = (turning_settles entry.step (world_of (entries ++ past)) turning.0 fine.0, all_settle past entries turning.1 fine.1)
 
@@ -59,7 +59,7 @@ module _ (before after : CoreView) (legal : HasLegal before) (names : HaveOwnNam
       subst Q spans.grown (subst P spans.limits (spans.legal legal))
 
   module _ (calm : is_calm (world before) ≡ true) (fine : NothingFails past spans.entries) where
-    settles : SettlesBehind past spans.entries
+    settles : OnlySettles past spans.entries
     settles = all_settle past spans.entries spans.turning fine
 
     within : IsWithinBound past spans.entries
@@ -97,7 +97,7 @@ module _ (before after : CoreView) (legal : HasLegal before) (names : HaveOwnNam
       subst Q same (keeps calm (subst P (sym same) fine) answer answers)
 
 -- a settling, however it ends
-pub settled_bounded : (refuses : List ℕ → List Property → Told → Bool) (before after : CoreView) (answer : Result ℕ SettleFault) → HasLegal before → HaveOwnNames (world before) → Settles refuses before.limits.turns before answer after → IsBounded before answer after
+pub settled_bounded : (refuses : List ℕ → List Property → Told → Bool) (before after : CoreView) (answer : Result ℕ SettleFault) → HasLegal before → HaveOwnNames (world before) → SettlesAs refuses before.limits.turns before answer after → IsBounded before answer after
 settled_bounded refuses before after (Ok count) legal names (low, settles, due, drain) =
     bounded_by before after legal names count (settles_spans refuses count before after settles) (Ok count) (λ most fewer. most)
 settled_bounded refuses before after (Err Unsettled) legal names (settles, due, drain) =
@@ -112,9 +112,9 @@ settled_bounded refuses before after (Err OutOfMemory) legal names (inr (inr (co
     bounded_by before after legal names (count + 1) (settles_cut_spans refuses count before between after settles cut) (Err OutOfMemory) (λ most fewer. tt)
 
 -- so what a settling up to the platform's limit answers and does is within its bound
-pub settles_within : (refuses : List ℕ → List Property → Told → Bool) (turns : ℕ) (before after : CoreView) (answer : Result ℕ SettleFault) → HasLegal before → turns ≡ before.limits.turns → Settles refuses turns before answer after
+pub settles_within : (refuses : List ℕ → List Property → Told → Bool) (turns : ℕ) (before after : CoreView) (answer : Result ℕ SettleFault) → HasLegal before → turns ≡ before.limits.turns → SettlesAs refuses turns before answer after
     → SettlesWithin refuses before answer after
 settles_within refuses turns before after answer legal same settles =
-    let P : ℕ → Type 0 = λ n. Settles refuses n before answer after in
+    let P : ℕ → Type 0 = λ n. SettlesAs refuses n before answer after in
     let all = subst P same settles in
     (all, λ names. settled_bounded refuses before after answer legal names all)

@@ -5,11 +5,12 @@ use Rattle.std.specs.List.{list_any, sum_by}
 use Rattle.std.proofs.lemmas.Bool.{cases_eq, eqb-true, eq-eqb, ne_eqb}
 use Rattle.std.proofs.lemmas.List.Sums.{sum_by-append}
 use Rattle.callback_orders.specs.declared.callback.Outcome.{Outcome}
+use Rattle.callback_orders.specs.Grammar.{is_destroy}
 use Rattle.journal_core.specs.declared.entry.Entry.{Entry}
 use Rattle.turn_runner.specs.declared.turn_work.TurnWork.{TurnWork}
 use Rattle.platform_hall.specs.declared.held.Held.{Held}
 use Rattle.platform_hall.specs.Desks.{is_holder}
-use Rattle.turn_runner.specs.Outcomes.{has_object_after, is_destroy as is_destroy_told, is_destroy_of, makes_object, needs_object}
+use Rattle.turn_runner.specs.Outcomes.{has_object_after, is_destroy_of, makes_object, needs_object}
 use Rattle.scr_world.specs.declared.command.Limits.{Limits}
 use Rattle.scr_world.specs.declared.step.Step.{Step}
 use Rattle.scr_world.specs.declared.step.Step.TheVariants.{End}
@@ -19,7 +20,6 @@ use Rattle.scr_world.specs.Instances.{has_turn}
 use Rattle.scr_world.specs.Calls.{world_at}
 use Rattle.scr_world.specs.Legal.{is_under_way}
 use Rattle.scr_world.specs.Lists.{world_of}
-use Rattle.scr_world.specs.Room.{one_if}
 use Rattle.scr_world.specs.Steps.{history_of}
 use Rattle.scr_world.specs.Instances.{last_callback}
 use Rattle.scr_world.specs.TurnSteps.{work_for}
@@ -32,6 +32,7 @@ use Rattle.platform_hall.proofs.Starts.{made_for, runs_as, runs_fits, runs_under
 use Rattle.platform_hall.proofs.Steps.{grown_after}
 use Rattle.platform_hall.proofs.Stops.{IsAlike, object_after, stops_it, stops_objects, stops_others}
 use Rattle.platform_hall.proofs.Turns.{turns_legal}
+use Rattle.prop_map.specs.Words.{one_if}
 
 -- two platforms with the same limits and the same journal
 pub same_view : (p q : CoreView) → p.limits ≡ q.limits → p.journal ≡ q.journal → p ≡ q
@@ -135,7 +136,7 @@ module _ (before after : CoreView) (turn : ℕ) (outcome : Outcome) (work : Turn
   pub ended_desk : {O : Type 0} (turns rest : List ℕ) (held kept : List (Held O)) (made destroyed : Bool)
       → ((n : ℕ) → tokens_of turns n ≡ tokens_of rest n + one_if (turn == n))
       → ((n : ℕ) → is_holder kept n ≡ ((is_holder held n || (made && (work.instance == n))) && not (destroyed && (work.instance == n))))
-      → made ≡ makes_object work outcome → destroyed ≡ is_destroy_told work.callback → IsDesk before turns held → IsDesk after rest kept
+      → made ≡ makes_object work outcome → destroyed ≡ is_destroy work.callback → IsDesk before turns held → IsDesk after rest kept
   ended_desk turns rest held kept made destroyed others keeps makes destroys desk = record {
     tokens = λ n. elim (cases_eq turn n) [
       | inl same ↦ (
@@ -163,8 +164,8 @@ module _ (before after : CoreView) (turn : ℕ) (outcome : Outcome) (work : Turn
   pub ended_has : (made : Bool) (n : ℕ) → made ≡ makes_object work outcome → is_destroy_of (Some work) n ≡ false → has_object after n ≡ has_object_after (Some work) made (has_object before) n
   ended_has made n makes stays =
       ended_objects n
-      ∙ ap (λ m. (has_object before n || (m && (work.instance == n))) && not (is_destroy_told work.callback && (work.instance == n))) (sym makes)
-      ∙ as_told (has_object before n) made (work.instance == n) (is_destroy_told work.callback) stays
+      ∙ ap (λ m. (has_object before n || (m && (work.instance == n))) && not (is_destroy work.callback && (work.instance == n))) (sym makes)
+      ∙ as_told (has_object before n) made (work.instance == n) (is_destroy work.callback) stays
     where
       as_told : (b made here destroyed : Bool) → (here && destroyed) ≡ false → ((b || (made && here)) && not (destroyed && here)) ≡ (if made then b || here else b)
       as_told true true true true is = cc

@@ -9,7 +9,7 @@ use Rattle.turn_runner.specs.Turns.{HeardEnds, IsSettled}
 use Rattle.turn_runner.proofs.Settlings.{Follows, Known, settled_seen}
 use Rattle.platform_hall.specs.declared.held.Held.{Held}
 use Rattle.platform_hall.specs.Desks.{DeskView, Owns}
-use Rattle.platform_hall.specs.Platforms.{Begins, Ends, Posts, Settles, has_drain, has_due, has_room, running}
+use Rattle.platform_hall.specs.Platforms.{Begins, Ends, Posts, SettlesAs, has_drain, has_due, has_room, running}
 use Rattle.scr_core.specs.Cores.{CoreView}
 
 module _ {O : Type 0} where
@@ -44,5 +44,5 @@ module _ {O : Type 0} (hears : O → Site → Told → Result (Unit {0}) KindFau
     posts = λ before after is. is;
   }
 
-  pub settled_core : (refuses : List ℕ → List Property → Told → Bool) (turns : ℕ) (before : DeskView O) (answer : Result ℕ SettleFault) (after : DeskView O) → IsSettled known.has_due known.has_room known.has_drain known.begins known.ends known.posts refuses turns before answer after → Settles refuses turns before.core answer after.core
+  pub settled_core : (refuses : List ℕ → List Property → Told → Bool) (turns : ℕ) (before : DeskView O) (answer : Result ℕ SettleFault) (after : DeskView O) → IsSettled known.has_due known.has_room known.has_drain known.begins known.ends known.posts refuses turns before answer after → SettlesAs refuses turns before.core answer after.core
   settled_core refuses turns before answer after settled = settled_seen (λ (d : DeskView O). d.core) known kept follows refuses turns before answer after settled

@@ -25,7 +25,7 @@ use Rattle.scr_world.specs.Steps.{history_of}
 use Rattle.scr_world.specs.declared.world.World.{World}
 use Rattle.component_state.proofs.Apart.{any_from}
 use Rattle.scr_world.specs.Worlds.{all_instances}
-use Rattle.platform_hall.specs.Platforms.{Begins, Drained, Ends, Posts, Settles, has_drain, none_under_way, world}
+use Rattle.platform_hall.specs.Platforms.{Begins, Drained, Ends, Posts, SettlesAs, has_drain, none_under_way, world}
 use Rattle.platform_hall.proofs.Lists.{any_none}
 use Rattle.platform_hall.proofs.Starts.{IsBegun, runs_as, takes_begun, takes_legal}
 use Rattle.platform_hall.proofs.Steps.{grown_after, grown_legal}
@@ -112,14 +112,14 @@ module _ (refuses : List ℕ → List Property → Told → Bool) where
   turns_keep zero before after kept same = subst (λ (p : CoreView). HasLegal p × NoTurns (world p)) same kept
   turns_keep (suc count) before after kept (between, rest, turn) = turn_keeps between after (turns_keep count before between kept rest) turn
 
-  settled_keeps : (turns count : ℕ) (before after : CoreView) → HasLegal before → none_under_way before ≡ true → Settles refuses turns before (Ok count) after → HasLegal after × NoTurns (world after)
+  settled_keeps : (turns count : ℕ) (before after : CoreView) → HasLegal before → none_under_way before ≡ true → SettlesAs refuses turns before (Ok count) after → HasLegal after × NoTurns (world after)
   settled_keeps turns count before after legal none (low, (start, posts, clear, ran), due, drain) =
       turns_keep count start after (posts_legal before start legal posts, posts_none before start (none_to before none) posts) ran
 
-  pub settled_ends : (turns count : ℕ) (before after : CoreView) → HasLegal before → none_under_way before ≡ true → Settles refuses turns before (Ok count) after → none_under_way after ≡ true
+  pub settled_ends : (turns count : ℕ) (before after : CoreView) → HasLegal before → none_under_way before ≡ true → SettlesAs refuses turns before (Ok count) after → none_under_way after ≡ true
   settled_ends turns count before after legal none settles = none_from after (settled_keeps turns count before after legal none settles).1
 
-  pub settled_quiet : (turns count : ℕ) (before after : CoreView) → HasLegal before → none_under_way before ≡ true → Settles refuses turns before (Ok count) after → IsQuiet (world after)
+  pub settled_quiet : (turns count : ℕ) (before after : CoreView) → HasLegal before → none_under_way before ≡ true → SettlesAs refuses turns before (Ok count) after → IsQuiet (world after)
   settled_quiet turns count before after legal none settles = record {
     nothing_due = none_due (due_in (world after)) settles.2;
     ended = not-true (list_any (λ (i : Instance). is_outstanding i.callbacks) (all_instances (world after))) (settled_ends turns count before after legal none settles);
@@ -131,6 +131,6 @@ module _ (refuses : List ℕ → List Property → Told → Bool) where
       none_due (Some x) is = cc
 
   -- what is quiet is right
-  pub settled_right : (turns count : ℕ) (before after : CoreView) → HasLegal before → none_under_way before ≡ true → Settles refuses turns before (Ok count) after → IsRight (world after)
+  pub settled_right : (turns count : ℕ) (before after : CoreView) → HasLegal before → none_under_way before ≡ true → SettlesAs refuses turns before (Ok count) after → IsRight (world after)
   settled_right turns count before after legal none settles =
       quiet_is_right after.limits.journal (history_of after.journal) (settled_keeps turns count before after legal none settles).0 (settled_quiet turns count before after legal none settles)

@@ -6,7 +6,7 @@ use Rattle.journal_core.specs.declared.entry.Entry.{Entry}
 use Rattle.kind_trait.specs.Meanings.{Told}
 use Rattle.prop_map.specs.declared.properties.Property.{Property}
 use Rattle.turn_runner.specs.declared.turn_work.TurnWork.{TurnWork}
-use Rattle.turn_runner.specs.Turns.{Ends as EndsTurn, IsCutOff, Settles as SettlesBy, Turns}
+use Rattle.turn_runner.specs.Turns.{Ends as EndsTurn, IsCutOff, Settles, Turns}
 use Rattle.scr_core.specs.Cores.{CoreView}
 use Rattle.scr_settling.specs.Bounds.{turns_begun_in}
 use Rattle.scr_settling.proofs.Sums.{total_cons, total_over}
@@ -142,7 +142,7 @@ module _ (refuses : List ℕ → List Property → Told → Bool) where
       spans_then before between after count 1 (suc count) (omega arith) (turns_spans count before between rest) (turn_spans between after work _ turn)
 
   -- so many turns run
-  pub settles_spans : (count : ℕ) (before after : CoreView) → SettlesBy has_drain Begins Ends Posts refuses count before after → Spans before after count
+  pub settles_spans : (count : ℕ) (before after : CoreView) → Settles has_drain Begins Ends Posts refuses count before after → Spans before after count
   settles_spans count before after (start, posts, clear, ran) = spans_then before start after 0 count count (omega arith) (posts_spans before start posts) (turns_spans count start after ran)
 
   cut_spans : (before after : CoreView) → IsCutOff Begins Ends Posts refuses before after → Spans before after 1
@@ -150,5 +150,5 @@ module _ (refuses : List ℕ → List Property → Told → Bool) where
   cut_spans before after (inr (work, outcome, is, ends)) = turn_spans before after work outcome ends
 
   -- a settling that is cut off within a turn
-  pub settles_cut_spans : (count : ℕ) (before between after : CoreView) → SettlesBy has_drain Begins Ends Posts refuses count before between → IsCutOff Begins Ends Posts refuses between after → Spans before after (count + 1)
+  pub settles_cut_spans : (count : ℕ) (before between after : CoreView) → Settles has_drain Begins Ends Posts refuses count before between → IsCutOff Begins Ends Posts refuses between after → Spans before after (count + 1)
   settles_cut_spans count before between after settles cut = spans_then before between after count 1 (count + 1) refl (settles_spans count before between settles) (cut_spans between after cut)

@@ -5,14 +5,14 @@ use Rattle.std.specs.List.{Contains, list_any}
 use Rattle.std.proofs.lemmas.Bool.{and_from, and_parts, and_left, and_right, both_ways, or_right, cases_Bool, cases_eq, eqb-true, eq-eqb, ne_eqb}
 use Rattle.std.proofs.lemmas.List.Folds.{list_any-append}
 use Rattle.callback_orders.specs.declared.callback.Callback.{Callback}
-use Rattle.callback_orders.specs.declared.callback.Callback.TheVariants.{Create, Bind, Updated, Unbind, Activate, Modified, Deactivate, Destroy}
+use Rattle.callback_orders.specs.declared.callback.Callback.TheVariants.{Create}
 use Rattle.callback_orders.specs.Grammar.{is_create}
 use Rattle.callback_orders.specs.Sequences.{is_outstanding}
 use Rattle.component_state.specs.declared.origin.Choice.{Choice}
 use Rattle.component_state.proofs.Apart.{any_found, any_from, either_way, in_cases, in_rest}
 use Rattle.journal_core.specs.declared.entry.Entry.{Entry}
 use Rattle.turn_runner.specs.declared.turn_work.TurnWork.{TurnWork}
-use Rattle.turn_runner.specs.Outcomes.{is_create as is_create_told, needs_object}
+use Rattle.turn_runner.specs.Outcomes.{needs_object}
 use Rattle.scr_entries.proofs.Activated.{outstanding_begun}
 use Rattle.scr_entries.proofs.Begins.{Makes}
 use Rattle.scr_entries.proofs.CallbackFronts.{none_out}
@@ -175,16 +175,6 @@ runs_as w turn work is = go (find (has_turn turn) (all_instances w)) refl is
     go None found told = cc
     go (Some i) found told = let there = found_was (has_turn turn) (all_instances w) i found in last_of i there.0 there.1 (last_callback i.callbacks) refl told
 
-same_create : (callback : Callback) → is_create callback ≡ is_create_told callback
-same_create Create = refl
-same_create (Bind r s) = refl
-same_create (Updated r s) = refl
-same_create (Unbind r s) = refl
-same_create Activate = refl
-same_create Modified = refl
-same_create Deactivate = refl
-same_create Destroy = refl
-
 module _ (w : World) (are : AreTold w) where
   -- an instance has its object by its callbacks
   pub own_object : (i : Instance) → Contains w.instances i → list_any (made_for i.number) w.instances ≡ is_made i.callbacks
@@ -219,8 +209,8 @@ module _ (w : World) (are : AreTold w) where
       | inl board ↦
           ap (λ n. list_any (made_for n) w.instances) (runs_board board)
           ∙ no_object
-          ∙ sym (ap (λ b. not (b || is_create_told work.callback)) (eq-eqb work.instance 0 (runs_board board)))
-      | inr h ↦ runs_made h ∙ ap not (same_create work.callback) ∙ ap (λ b. not (b || is_create_told work.callback)) (sym (runs_positive h))
+          ∙ sym (ap (λ b. not (b || is_create work.callback)) (eq-eqb work.instance 0 (runs_board board)))
+      | inr h ↦ runs_made h ∙ ap (λ b. not (b || is_create work.callback)) (sym (runs_positive h))
     ]
 
     pub runs_under_way : list_any (has_turn turn) (all_instances w) ≡ true

@@ -7,11 +7,11 @@ use Rattle.callback_orders.specs.declared.callback.Callback.{Callback}
 use Rattle.callback_orders.specs.declared.callback.Callback.TheVariants.{Create, Bind, Updated, Unbind, Activate, Modified, Deactivate, Destroy}
 use Rattle.callback_orders.specs.declared.callback.Outcome.{Outcome}
 use Rattle.callback_orders.specs.declared.callback.Outcome.TheVariants.{Done, Refused, NoMemory}
-use Rattle.callback_orders.specs.Grammar.{is_create}
+use Rattle.callback_orders.specs.Grammar.{is_create, is_destroy}
 use Rattle.callback_orders.specs.Sequences.{is_outstanding}
 use Rattle.component_state.proofs.Apart.{any_found, any_from, either_way, in_cases, in_first, in_rest, kept_from, kept_was}
 use Rattle.turn_runner.specs.declared.turn_work.TurnWork.{TurnWork}
-use Rattle.turn_runner.specs.Outcomes.{is_create as is_create_told, is_destroy as is_destroy_told, is_done as is_done_told, makes_object}
+use Rattle.turn_runner.specs.Outcomes.{is_done as is_done_told, makes_object}
 use Rattle.scr_entries.proofs.Activated.{none_outstanding}
 use Rattle.scr_numbers.proofs.InstanceLemmas.{ended_same, mapped_in, mapped_was}
 use Rattle.scr_world.specs.Instances.{drained_in, ended_in, has_turn, lives_on, with_outcome}
@@ -29,7 +29,7 @@ use Rattle.platform_hall.proofs.Words.{ended_keeps, keeps_object}
 
 -- what becomes of an object once a turn has ended: that of its instance, where it made one it is there, and where it was its Destroy it is gone
 abbrev pub object_after : TurnWork → Outcome → (ℕ → Bool) → ℕ → Bool
-object_after work outcome before n = (before n || (makes_object work outcome && (work.instance == n))) && not (is_destroy_told work.callback && (work.instance == n))
+object_after work outcome before n = (before n || (makes_object work outcome && (work.instance == n))) && not (is_destroy work.callback && (work.instance == n))
 
 stays_where_not : (b makes destroys : Bool) → b ≡ ((b || (makes && false)) && not (destroys && false))
 stays_where_not true true true = refl
@@ -46,9 +46,9 @@ stays_as b makes destroys here is = stays_where_not b makes destroys ∙ ap (λ 
 
 -- that of its own instance, by cases
 abbrev made_by : Callback → Outcome → Bool
-made_by callback outcome = is_create_told callback && is_done_told outcome
+made_by callback outcome = is_create callback && is_done_told outcome
 
-own_object_after : (callback : Callback) (outcome : Outcome) → keeps_object callback outcome ≡ ((not (is_create callback) || ((not false && made_by callback outcome) && true)) && not (is_destroy_told callback && true))
+own_object_after : (callback : Callback) (outcome : Outcome) → keeps_object callback outcome ≡ ((not (is_create callback) || ((not false && made_by callback outcome) && true)) && not (is_destroy callback && true))
 own_object_after Create Done = refl
 own_object_after Create Refused = refl
 own_object_after Create NoMemory = refl
@@ -202,7 +202,7 @@ module _ (w now : World) (are : AreTold w) (turn : ℕ) (outcome : Outcome) (gre
   board_object zero =
       ap (λ m. list_any (made_for m) now.instances) zero
       ∙ no_object_now
-      ∙ none_after (had work.instance) (work.instance == 0) (made_by work.callback outcome) (work.instance == work.instance) (is_destroy_told work.callback)
+      ∙ none_after (had work.instance) (work.instance == 0) (made_by work.callback outcome) (work.instance == work.instance) (is_destroy work.callback)
       (ap had zero ∙ no_object w are) (eq-eqb work.instance 0 zero)
     where
       none_after : (b zero makes here destroys : Bool) → b ≡ false → zero ≡ true → false ≡ ((b || ((not zero && makes) && here)) && not (destroys && here))
@@ -214,16 +214,16 @@ module _ (w now : World) (are : AreTold w) (turn : ℕ) (outcome : Outcome) (gre
   own_object_then there =
       objects_own there
       ∙ own_object_after work.callback outcome
-      ∙ ap (λ b. (b || ((not false && made_by work.callback outcome) && true)) && not (is_destroy_told work.callback && true)) (sym (runs_made w are turn work runs there))
-      ∙ ap (λ z. (had work.instance || ((not z && made_by work.callback outcome) && true)) && not (is_destroy_told work.callback && true)) (sym (runs_positive w are turn work runs there))
-      ∙ ap (λ h. (had work.instance || (makes_object work outcome && h)) && not (is_destroy_told work.callback && h)) (sym (eq-eqb work.instance work.instance refl))
+      ∙ ap (λ b. (b || ((not false && made_by work.callback outcome) && true)) && not (is_destroy work.callback && true)) (sym (runs_made w are turn work runs there))
+      ∙ ap (λ z. (had work.instance || ((not z && made_by work.callback outcome) && true)) && not (is_destroy work.callback && true)) (sym (runs_positive w are turn work runs there))
+      ∙ ap (λ h. (had work.instance || (makes_object work outcome && h)) && not (is_destroy work.callback && h)) (sym (eq-eqb work.instance work.instance refl))
 
   pub stops_objects : (n : ℕ) → list_any (made_for n) now.instances ≡ object_after work outcome had n
   stops_objects n = elim (cases_eq work.instance n) [
     | inl same ↦ subst (λ m. list_any (made_for m) now.instances ≡ object_after work outcome had m) same (own (in_cases w.whiteboard w.instances runs.one runs.there))
     | inr differ ↦
         objects_others n differ
-        ∙ stays_as (list_any (made_for n) w.instances) (makes_object work outcome) (is_destroy_told work.callback) (work.instance == n) (ne_eqb work.instance n differ)
+        ∙ stays_as (list_any (made_for n) w.instances) (makes_object work outcome) (is_destroy work.callback) (work.instance == n) (ne_eqb work.instance n differ)
   ]
     where
       own : (w.whiteboard ≡ runs.one) ⊎ Contains w.instances runs.one → list_any (made_for work.instance) now.instances ≡ object_after work outcome had work.instance

@@ -5,8 +5,8 @@ use Rattle.std.specs.List.{find, list_any}
 use Rattle.platform_hall.specs.declared.held.Held.{Held}
 use Rattle.scr_core.specs.Cores.{CoreView}
 use Rattle.scr_world.specs.Legal.{is_under_way}
-use Rattle.scr_world.specs.Room.{one_if}
 use Rattle.platform_hall.specs.Platforms.{has_object, world}
+use Rattle.prop_map.specs.Words.{one_if}
 
 -- how many tokens are of this turn
 abbrev pub tokens_of : List ℕ → ℕ → ℕ

@@ -97,8 +97,8 @@ TakesCommand before command (Err OutOfMemory) after = (after ≡ before) ⊎ ((r
 TakesCommand before command (Err fault) after = CoreTakes before command (Err fault) after
 
 -- what a settling of so many turns at most answers and does, where component code refuses so
-abbrev pub Settles : (List ℕ → List Property → Told → Bool) → ℕ → CoreView → Result ℕ SettleFault → CoreView → Type 0
-Settles refuses turns before answer after = IsSettled has_due has_room has_drain Begins Ends Posts refuses turns before answer after
+abbrev pub SettlesAs : (List ℕ → List Property → Told → Bool) → ℕ → CoreView → Result ℕ SettleFault → CoreView → Type 0
+SettlesAs refuses turns before answer after = IsSettled has_due has_room has_drain Begins Ends Posts refuses turns before answer after
 
 -- what the beginning of the first due turn answers and does: its number, under which it is under way, or nothing exactly where none is due
 abbrev pub BeginsTurn : CoreView → Result (Option ℕ) CoreFault → CoreView → Type 0

@@ -15,7 +15,7 @@ use Rattle.scr_world.specs.declared.step.Step.TheVariants.{End}
 use Rattle.scr_world.specs.declared.world.World.{World}
 use Rattle.turn_runner.specs.declared.settle_fault.SettleFault.{SettleFault}
 use Rattle.turn_runner.specs.declared.settle_fault.SettleFault.TheVariants.{Unsettled, JournalFull, OutOfMemory}
-use Rattle.platform_hall.specs.Platforms.{Settles, world}
+use Rattle.platform_hall.specs.Platforms.{SettlesAs, world}
 
 -- no creation or activation ends by this step other than Done
 abbrev pub fails_nothing : Step → World → Bool
@@ -49,4 +49,4 @@ IsBounded before answer after =
 
 -- what a settling answers and does: where the references of each installed description differ in name, it keeps to its bound
 abbrev pub SettlesWithin : (List ℕ → List Property → Told → Bool) → CoreView → Result ℕ SettleFault → CoreView → Type 0
-SettlesWithin refuses before answer after = Settles refuses before.limits.turns before answer after × (HaveOwnNames (world before) → IsBounded before answer after)
+SettlesWithin refuses before answer after = SettlesAs refuses before.limits.turns before answer after × (HaveOwnNames (world before) → IsBounded before answer after)

@@ -11,7 +11,7 @@ ghost use Rattle.turn_runner.specs.Outcomes.{IsMadeFor, IsRunOf, has_object_afte
 
 use crate::drains::post_drains;
 use crate::held::Held;
-use crate::tokens::{held_object, is_destroy, keep, take_out};
+use crate::tokens::{held_object, keep, take_out};
 use prop_map::OutOfMemory;
 use scr_core::{Accepted, Command, Core, CoreFault, Limits, Taken, Turn};
 use std::alloc::{AllocError, Global};
@@ -147,7 +147,7 @@ impl<O: Drop> Desk<O> for CoreDesk<O> {
             Ok(None) => unreachable!(),
             Err(error) => return Err((ran, error)),
         };
-        let is_destroyed = is_destroy(&work.callback);
+        let is_destroyed = work.callback.is_destroy();
         let turn = take_out(&mut self.turns, number);
         match self.core.done(alloc, turn, ran.outcome) {
             Ok(_) => {

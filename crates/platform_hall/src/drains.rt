@@ -11,7 +11,7 @@ pub(crate) fn post_drains(alloc: Global, core: &mut Core) -> Result<(), OutOfMem
     ensures step { Posts core.old core.new }
     ensures ok { OnOk result (has_drain core.new ≡ false) }
 {
-    while let Some(key) = core.next_drain()? {
+    while let Some(key) = core.next_drain() {
         core.drained(alloc, key)?;
     }
     Ok(())

@@ -4,7 +4,7 @@ ghost use Rattle.scr_world.specs.declared.reply.CoreFault.TheVariants.{OutOfMemo
 ghost use Rattle.scr_core.specs.Cores.{AreWithinGreatest};
 ghost use Rattle.scr_world.specs.Legal.{IsLegal};
 ghost use Rattle.scr_world.specs.Steps.{history_of};
-ghost use Rattle.platform_hall.specs.Platforms.{BeginsTurn, FinishesTurn, Settles, TakesCommand};
+ghost use Rattle.platform_hall.specs.Platforms.{BeginsTurn, FinishesTurn, SettlesAs, TakesCommand};
 ghost use Rattle.platform_hall.specs.SettleBounds.{SettlesWithin};
 
 use crate::FinishFault;
@@ -44,7 +44,7 @@ fn settle_desk<K: Kinds>(
     kinds: &K,
     turns: u64,
 ) -> Result<u64, SettleFault>
-    ensures { Settles K.refuses turns desk.old.core result desk.new.core }
+    ensures { SettlesAs K.refuses turns desk.old.core result desk.new.core }
 {
     settle(alloc, desk, kinds, turns)
 }

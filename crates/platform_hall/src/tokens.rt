@@ -1,14 +1,12 @@
 //! What a desk keeps: the tokens of turns, and the objects of instances.
 ghost use Rattle.platform_hall.specs.Desks.{is_holder, object_of, tokens_of};
-ghost use Rattle.scr_world.specs.Room.{one_if};
 ghost use Rattle.std.specs.Arc.{arc_value};
 ghost use Rattle.std.specs.List.{find};
 ghost use Rattle.std.specs.Option.{option_copied};
 ghost use Rattle.std.specs.Prelude.{◌≡◌, ◌⊎◌, ◌==◌, ◌<◌, ◌+◌, ◌&&◌, ◌||◌, ℕ, Some, not, is_some, option_map, vec_len, vec_capacity, filter, length, slice_index};
-ghost use Rattle.turn_runner.specs.Outcomes.{is_destroy};
+ghost use Rattle.prop_map.specs.Words.{one_if};
 
 use crate::held::Held;
-use callback_orders::Callback;
 use scr_core::Turn;
 use std::sync::Arc;
 
@@ -56,12 +54,6 @@ pub(crate) fn let_go<O: Drop>(held: &mut Vec<Held<O>>, instance: u64)
     ensures { held.new.items ≡ filter (λ one. not (one.instance == instance)) held.old.items }
 {
     held.retain(|one| one.instance != instance);
-}
-
-pub(crate) fn is_destroy(callback: &Callback) -> bool
-    ensures { result ≡ is_destroy callback.now }
-{
-    matches!(callback, Callback::Destroy)
 }
 
 fn keep_made<O: Drop>(held: &mut Vec<Held<O>>, instance: u64, made: Option<Arc<O>>)

@@ -27,8 +27,8 @@ use Rattle.scr_world.specs.declared.world.World.{World}
 use Rattle.turn_runner.specs.declared.settle_fault.SettleFault.{SettleFault}
 use Rattle.turn_runner.specs.declared.settle_fault.SettleFault.TheVariants.{Unsettled, JournalFull, OutOfMemory}
 use Rattle.turn_runner.specs.declared.turn_work.TurnWork.{TurnWork}
-use Rattle.turn_runner.specs.Turns.{Ends as EndsTurn, IsCutOff, Settles as SettlesBy, Turns}
-use Rattle.platform_hall.specs.Platforms.{Accepts, Begins, Drained, Ends, Posts, Settles, TakesCommand, has_drain, world}
+use Rattle.turn_runner.specs.Turns.{Ends as EndsTurn, IsCutOff, Settles, Turns}
+use Rattle.platform_hall.specs.Platforms.{Accepts, Begins, Drained, Ends, Posts, SettlesAs, TakesCommand, has_drain, world}
 use Rattle.platform_hall.proofs.Turns.{begins_next, is_begin}
 use Rattle.platform_shell.specs.Asks.{changed}
 use Rattle.platform_shell.specs.Runs.{Grew, command_in, commands_in}
@@ -158,7 +158,7 @@ grew_turns : (refuses : List ℕ → List Property → Told → Bool) (count : �
 grew_turns refuses zero before after same = grew_not before after (sym same)
 grew_turns refuses (suc count) before after (between, turns, (work, turn, drain)) = grew_behind before between after [] (grew_turns refuses count before between turns) (grew_turn between after work _ turn)
 
-grew_settles : (refuses : List ℕ → List Property → Told → Bool) (count : ℕ) (before after : CoreView) → SettlesBy has_drain Begins Ends Posts refuses count before after → Grew before after []
+grew_settles : (refuses : List ℕ → List Property → Told → Bool) (count : ℕ) (before after : CoreView) → Settles has_drain Begins Ends Posts refuses count before after → Grew before after []
 grew_settles refuses count before after (start, posts, drain, turns) = grew_behind before start after [] (grew_posts before start posts) (grew_turns refuses count start after turns)
 
 grew_cut_off : (refuses : List ℕ → List Property → Told → Bool) (before after : CoreView) → IsCutOff Begins Ends Posts refuses before after → Grew before after []
@@ -166,7 +166,7 @@ grew_cut_off refuses before after (inl (work, begins)) = grew_begins before afte
 grew_cut_off refuses before after (inr (work, outcome, is, ends)) = grew_turn before after work outcome ends
 
 -- a settling, however it ends
-pub grew_settled : (refuses : List ℕ → List Property → Told → Bool) (turns : ℕ) (before after : CoreView) (said : Result ℕ SettleFault) → Settles refuses turns before said after → Grew before after []
+pub grew_settled : (refuses : List ℕ → List Property → Told → Bool) (turns : ℕ) (before after : CoreView) (said : Result ℕ SettleFault) → SettlesAs refuses turns before said after → Grew before after []
 grew_settled refuses turns before after (Ok count) (within, settles, due, drain) = grew_settles refuses count before after settles
 grew_settled refuses turns before after (Err Unsettled) (settles, due, drain) = grew_settles refuses turns before after settles
 grew_settled refuses turns before after (Err JournalFull) (count, below, settles, due, room, drain) = grew_settles refuses count before after settles

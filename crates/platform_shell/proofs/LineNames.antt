@@ -5,7 +5,7 @@ use Rattle.std.specs.Str.{bytes_eq, is_utf8}
 use Rattle.bundle_doc.specs.declared.document.BundleDoc.{BundleDoc}
 use Rattle.bundle_doc.specs.declared.fault.DocFault.{DocFault}
 use Rattle.bundle_doc.specs.Documents.{bundle_of}
-use Rattle.component_dto.specs.Fields.{after}
+use Rattle.prop_map.specs.Words.{after}
 use Rattle.scr_world.specs.declared.command.Command.{Command}
 use Rattle.scr_world.specs.declared.command.Command.TheVariants.{Install, Update}
 use Rattle.shell_lang.specs.declared.line_fault.LineFault.{LineFault}

@@ -15,7 +15,8 @@ use Rattle.component_dto.specs.declared.description.Reference.{Reference}
 use Rattle.component_dto.specs.declared.fault.DescriptionFault.{DescriptionFault}
 use Rattle.component_dto.specs.declared.fault.DescriptionFault.TheVariants.{FactoryComponent, PrototypeReference, SameReference}
 use Rattle.component_dto.specs.Descriptions.{description_of, described as described_by, given_fields, of_object as of_component}
-use Rattle.component_dto.specs.Fields.{after, given, or_fault}
+use Rattle.prop_map.specs.Words.{after}
+use Rattle.component_dto.specs.Fields.{given, or_fault}
 use Rattle.component_dto.specs.Rules.{first_for_use, names_of, refused, rules, unless}
 use Rattle.component_dto.specs.TextLists.{first_repeated}
 use Rattle.component_state.proofs.Apart.{in_cases, in_none}

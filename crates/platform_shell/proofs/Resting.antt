@@ -23,7 +23,7 @@ use Rattle.scr_world.specs.Replies.{changes}
 use Rattle.scr_world.specs.Stepping.{instances_by, whiteboard_by}
 use Rattle.scr_world.specs.Steps.{history_of}
 use Rattle.scr_world.specs.Worlds.{all_instances}
-use Rattle.platform_hall.specs.Platforms.{Accepts, Drained, Settles, TakesCommand, none_under_way, world}
+use Rattle.platform_hall.specs.Platforms.{Accepts, Drained, SettlesAs, TakesCommand, none_under_way, world}
 use Rattle.platform_hall.proofs.Steps.{grown_after}
 use Rattle.shell_lang.specs.declared.shell_line.ShellLine.TheVariants.{Silent, Quit, Command as Commanded, Bundles, Services, Components, Report, Held, Find, Events, BundleEvents, Trace, Settle, Begin, Finish}
 use Rattle.shell_lang.specs.declared.shell_reply.ShellReply.{ShellReply}
@@ -90,7 +90,7 @@ manually_still false asks before after said auto (is, same) none = same_still be
 -- a settling leaves no turn under way where none was
 abbrev pub TurnsEnd : Type 0
 TurnsEnd = (refuses : List ℕ → List Property → Told → Bool) → (turns count : ℕ) → (before after : CoreView) → IsLegal before.limits.journal (history_of before.journal) → none_under_way before ≡ true
-    → Settles refuses turns before (Ok count) after → none_under_way after ≡ true
+    → SettlesAs refuses turns before (Ok count) after → none_under_way after ≡ true
 
 -- where turns run behind each line, no line leaves a turn under way
 pub asks_still : TurnsEnd → (s : Setting) (asked : Asked) (before after : CoreView) (told : Option ShellReply) → s.is_manual ≡ false → IsLegal before.limits.journal (history_of before.journal)

@@ -15,9 +15,10 @@ use Rattle.callback_orders.specs.declared.instance_view.Phase.{Phase}
 use Rattle.callback_orders.specs.declared.instance_view.Phase.TheVariants.{Making, Active, Left}
 use Rattle.callback_orders.specs.declared.instance_view.ReferenceView.{ReferenceView}
 use Rattle.callback_orders.specs.declared.instance_view.Wish.{Wish}
-use Rattle.callback_orders.specs.Due.{bind_at, bind_or_unbind, due_in_making, due_in_phase, due_of, due_while_active, due_while_ending, first_due, first_some, let_go_at, modified_if_stale, tell_at, unbind_at, with_places}
+use Rattle.callback_orders.specs.Due.{bind_at, bind_or_unbind, due_in_making, due_in_phase, due_of, due_while_active, due_while_ending, first_due, let_go_at, modified_if_stale, tell_at, unbind_at}
 use Rattle.callback_orders.specs.References.{differs, holds_all, is_desired, is_held, to_let_go, to_tell, to_unbind}
 use Rattle.callback_orders.proofs.EachLemmas.{Each, OfSome, each-filter_map, first_some-each, last_or-each, of_some-or}
+use Rattle.prop_map.specs.Words.{first_some, with_places}
 use Rattle.component_state.proofs.Apart.{any_from, in_either, in_first, in_rest, kept_was, not_true}
 use Rattle.scr_laws.proofs.Listed.{found_was, mapped_was, none_found, single}
 use Rattle.scr_world.specs.Instances.{is_active_phase}
@@ -27,7 +28,7 @@ use Rattle.scr_world.specs.Instances.{is_active_phase}
 pub record IsBindOf (v : InstanceView) (k s : ℕ) : Type 0 where
   pub going_on : v.ending ≡ false
   pub reference : ReferenceView
-  pub there : Contains (with_places v.references) (k, reference)
+  pub there : Contains (with_places 0 v.references) (k, reference)
   pub wish : Wish
   pub wished : Contains reference.desired wish
   pub service : wish.service ≡ s
@@ -36,13 +37,13 @@ pub record IsBindOf (v : InstanceView) (k s : ℕ) : Type 0 where
 
 pub record IsUnbindOf (v : InstanceView) (k s : ℕ) : Type 0 where
   pub reference : ReferenceView
-  pub there : Contains (with_places v.references) (k, reference)
+  pub there : Contains (with_places 0 v.references) (k, reference)
   pub held : is_held reference s ≡ true
   pub why : ((v.ending ≡ true) × (is_active_phase v.phase ≡ false)) ⊎ ((v.ending ≡ false) × (is_desired reference s ≡ false))
 
 pub record IsActivateOf (v : InstanceView) : Type 0 where
   pub going_on : v.ending ≡ false
-  pub same : (k : ℕ) (r : ReferenceView) → Contains (with_places v.references) (k, r) → differs r ≡ false
+  pub same : (k : ℕ) (r : ReferenceView) → Contains (with_places 0 v.references) (k, r) → differs r ≡ false
 
 pub record IsDeactivateOf (v : InstanceView) : Type 0 where
   pub ending : v.ending ≡ true
@@ -103,7 +104,7 @@ module _ (v : InstanceView) where
 
   -- ---- one reference
 
-  binds : v.ending ≡ false → (r : ℕ × ReferenceView) → Contains (with_places v.references) r → Behind (bind_at v.instance r)
+  binds : v.ending ≡ false → (r : ℕ × ReferenceView) → Contains (with_places 0 v.references) r → Behind (bind_at v.instance r)
   binds off r h = go (find (λ (w : Wish). w.ready && not (is_held r.1 w.service)) r.1.desired) refl
     where
       go : (o : Option Wish) → find (λ (w : Wish). w.ready && not (is_held r.1 w.service)) r.1.desired ≡ o → Behind (option_map (λ s. Bind v.instance r.0 s) (option_map (λ (w : Wish). w.service) o))
@@ -113,14 +114,14 @@ module _ (v : InstanceView) where
           let both = and_parts w.ready (not (is_held r.1 w.service)) found.1 in
           (refl, record { going_on = off; reference = r.1; there = h; wish = w; wished = found.0; service = refl; ready = both.0; unheld = not_true (is_held r.1 w.service) both.1 })
 
-  unbinds : v.ending ≡ false → (r : ℕ × ReferenceView) → Contains (with_places v.references) r → Behind (unbind_at v.instance r)
+  unbinds : v.ending ≡ false → (r : ℕ × ReferenceView) → Contains (with_places 0 v.references) r → Behind (unbind_at v.instance r)
   unbinds off r h = go (to_unbind r.1) refl
     where
       go : (o : Option ℕ) → to_unbind r.1 ≡ o → Behind (option_map (λ s. Unbind v.instance r.0 s) o)
       go None is = tt
       go (Some s) is = let both = undesired r.1 s is in (refl, record { reference = r.1; there = h; held = both.0; why = inr (off, both.1) })
 
-  lets_go : v.ending ≡ true → is_active_phase v.phase ≡ false → (r : ℕ × ReferenceView) → Contains (with_places v.references) r → Behind (let_go_at v.instance r)
+  lets_go : v.ending ≡ true → is_active_phase v.phase ≡ false → (r : ℕ × ReferenceView) → Contains (with_places 0 v.references) r → Behind (let_go_at v.instance r)
   lets_go on off r h = go (to_let_go r.1) refl
     where
       go : (o : Option ℕ) → to_let_go r.1 ≡ o → Behind (option_map (λ s. Unbind v.instance r.0 s) o)
@@ -137,43 +138,43 @@ module _ (v : InstanceView) where
   -- ---- by phase
 
   in_making : v.ending ≡ false → Behind (due_in_making v.instance v.references)
-  in_making off = go (find (λ (r : ℕ × ReferenceView). differs r.1) (with_places v.references)) refl
+  in_making off = go (find (λ (r : ℕ × ReferenceView). differs r.1) (with_places 0 v.references)) refl
     where
-      go : (o : Option (ℕ × ReferenceView)) → find (λ (r : ℕ × ReferenceView). differs r.1) (with_places v.references) ≡ o → Behind (option_map_or (bind_or_unbind v.instance) o (Some (Activate v.instance)))
-      go None is = (refl, record { going_on = off; same = λ k r h. none_found (λ (x : ℕ × ReferenceView). differs x.1) (with_places v.references) (k, r) is h })
-      go (Some r) is = let found = found_was (λ (x : ℕ × ReferenceView). differs x.1) (with_places v.references) r is in
+      go : (o : Option (ℕ × ReferenceView)) → find (λ (r : ℕ × ReferenceView). differs r.1) (with_places 0 v.references) ≡ o → Behind (option_map_or (bind_or_unbind v.instance) o (Some (Activate v.instance)))
+      go None is = (refl, record { going_on = off; same = λ k r h. none_found (λ (x : ℕ × ReferenceView). differs x.1) (with_places 0 v.references) (k, r) is h })
+      go (Some r) is = let found = found_was (λ (x : ℕ × ReferenceView). differs x.1) (with_places 0 v.references) r is in
           of_some-or (StandsFor v) (bind_at v.instance r) (unbind_at v.instance r) (binds off r found.0) (unbinds off r found.0)
 
-  mapped_each : (f : ℕ × ReferenceView → Option DueRef) → ((r : ℕ × ReferenceView) → Contains (with_places v.references) r → Behind (f r)) → Each Behind (map f (with_places v.references))
-  mapped_each f each = in_each Behind (map f (with_places v.references)) (λ o h. let was = mapped_was f (with_places v.references) o h in subst Behind was.1.1 (each was.0 was.1.0))
+  mapped_each : (f : ℕ × ReferenceView → Option DueRef) → ((r : ℕ × ReferenceView) → Contains (with_places 0 v.references) r → Behind (f r)) → Each Behind (map f (with_places 0 v.references))
+  mapped_each f each = in_each Behind (map f (with_places 0 v.references)) (λ o h. let was = mapped_was f (with_places 0 v.references) o h in subst Behind was.1.1 (each was.0 was.1.0))
 
   while_active : v.ending ≡ false → Behind (due_while_active v)
   while_active off = first_some-each (StandsFor v)
-      (map (bind_at v.instance) (with_places v.references) ++ map (unbind_at v.instance) (with_places v.references) ++ map (tell_at v.instance) (with_places v.references) ++ modified_if_stale v ∷ [])
-      (in_each Behind _ (λ o h. last o (in_either (map (bind_at v.instance) (with_places v.references) ++ map (unbind_at v.instance) (with_places v.references) ++ map (tell_at v.instance) (with_places v.references)) (modified_if_stale v ∷ []) o h)))
+      (map (bind_at v.instance) (with_places 0 v.references) ++ map (unbind_at v.instance) (with_places 0 v.references) ++ map (tell_at v.instance) (with_places 0 v.references) ++ modified_if_stale v ∷ [])
+      (in_each Behind _ (λ o h. last o (in_either (map (bind_at v.instance) (with_places 0 v.references) ++ map (unbind_at v.instance) (with_places 0 v.references) ++ map (tell_at v.instance) (with_places 0 v.references)) (modified_if_stale v ∷ []) o h)))
     where
-      of_map : (f : ℕ × ReferenceView → Option DueRef) → ((r : ℕ × ReferenceView) → Contains (with_places v.references) r → Behind (f r)) → (o : Option DueRef) → Contains (map f (with_places v.references)) o → Behind o
-      of_map f each o h = let was = mapped_was f (with_places v.references) o h in subst Behind was.1.1 (each was.0 was.1.0)
+      of_map : (f : ℕ × ReferenceView → Option DueRef) → ((r : ℕ × ReferenceView) → Contains (with_places 0 v.references) r → Behind (f r)) → (o : Option DueRef) → Contains (map f (with_places 0 v.references)) o → Behind o
+      of_map f each o h = let was = mapped_was f (with_places 0 v.references) o h in subst Behind was.1.1 (each was.0 was.1.0)
 
-      one : (o : Option DueRef) → Contains (map (bind_at v.instance) (with_places v.references)) o ⊎ Contains (map (unbind_at v.instance) (with_places v.references)) o → Behind o
+      one : (o : Option DueRef) → Contains (map (bind_at v.instance) (with_places 0 v.references)) o ⊎ Contains (map (unbind_at v.instance) (with_places 0 v.references)) o → Behind o
       one o (inl h) = of_map (bind_at v.instance) (binds off) o h
       one o (inr h) = of_map (unbind_at v.instance) (unbinds off) o h
 
-      two : (o : Option DueRef) → Contains (map (bind_at v.instance) (with_places v.references) ++ map (unbind_at v.instance) (with_places v.references)) o ⊎ Contains (map (tell_at v.instance) (with_places v.references)) o → Behind o
-      two o (inl h) = one o (in_either (map (bind_at v.instance) (with_places v.references)) (map (unbind_at v.instance) (with_places v.references)) o h)
+      two : (o : Option DueRef) → Contains (map (bind_at v.instance) (with_places 0 v.references) ++ map (unbind_at v.instance) (with_places 0 v.references)) o ⊎ Contains (map (tell_at v.instance) (with_places 0 v.references)) o → Behind o
+      two o (inl h) = one o (in_either (map (bind_at v.instance) (with_places 0 v.references)) (map (unbind_at v.instance) (with_places 0 v.references)) o h)
       two o (inr h) = of_map (tell_at v.instance) (λ r k. tells r) o h
 
       stale : (b : Bool) → Behind (cond b (Some (Modified v.instance)) None)
       stale true = refl
       stale false = tt
 
-      last : (o : Option DueRef) → Contains (map (bind_at v.instance) (with_places v.references) ++ map (unbind_at v.instance) (with_places v.references) ++ map (tell_at v.instance) (with_places v.references)) o ⊎ Contains (modified_if_stale v ∷ []) o → Behind o
-      last o (inl h) = two o (in_either (map (bind_at v.instance) (with_places v.references) ++ map (unbind_at v.instance) (with_places v.references)) (map (tell_at v.instance) (with_places v.references)) o h)
+      last : (o : Option DueRef) → Contains (map (bind_at v.instance) (with_places 0 v.references) ++ map (unbind_at v.instance) (with_places 0 v.references) ++ map (tell_at v.instance) (with_places 0 v.references)) o ⊎ Contains (modified_if_stale v ∷ []) o → Behind o
+      last o (inl h) = two o (in_either (map (bind_at v.instance) (with_places 0 v.references) ++ map (unbind_at v.instance) (with_places 0 v.references)) (map (tell_at v.instance) (with_places 0 v.references)) o h)
       last o (inr h) = subst Behind (single (modified_if_stale v) o h) (stale v.stale)
 
-  leaving : v.ending ≡ true → is_active_phase v.phase ≡ false → Behind (last_or (Some (Destroy v.instance)) (filter_map (let_go_at v.instance) (with_places v.references)))
-  leaving on off = last_or-each (StandsFor v) (Some (Destroy v.instance)) (filter_map (let_go_at v.instance) (with_places v.references)) refl
-      (each-filter_map (λ (r : ℕ × ReferenceView). Contains (with_places v.references) r) (StandsFor v) (let_go_at v.instance) (with_places v.references) (in_each (λ (r : ℕ × ReferenceView). Contains (with_places v.references) r) (with_places v.references) (λ r h. h))
+  leaving : v.ending ≡ true → is_active_phase v.phase ≡ false → Behind (last_or (Some (Destroy v.instance)) (filter_map (let_go_at v.instance) (with_places 0 v.references)))
+  leaving on off = last_or-each (StandsFor v) (Some (Destroy v.instance)) (filter_map (let_go_at v.instance) (with_places 0 v.references)) refl
+      (each-filter_map (λ (r : ℕ × ReferenceView). Contains (with_places 0 v.references) r) (StandsFor v) (let_go_at v.instance) (with_places 0 v.references) (in_each (λ (r : ℕ × ReferenceView). Contains (with_places 0 v.references) r) (with_places 0 v.references) (λ r h. h))
       (λ r h. lets_go on off r h))
 
   while_ending : v.ending ≡ true → (phase : Phase) → v.phase ≡ phase → Behind (due_while_ending v phase)

@@ -14,13 +14,14 @@ use Rattle.callback_orders.specs.declared.instance_view.Phase.{Phase}
 use Rattle.callback_orders.specs.declared.instance_view.Phase.TheVariants.{Active}
 use Rattle.callback_orders.specs.declared.instance_view.ReferenceView.{ReferenceView}
 use Rattle.callback_orders.specs.declared.word.Called.{Called}
-use Rattle.callback_orders.specs.Due.{bind_at, due_in_phase, due_of, due_while_active, due_while_ending, modified_if_stale, tell_at, unbind_at, with_places}
+use Rattle.callback_orders.specs.Due.{bind_at, due_in_phase, due_of, due_while_active, due_while_ending, modified_if_stale, tell_at, unbind_at}
 use Rattle.callback_orders.specs.Lives.{HoldsThese, IsViewOf, MayComeNext, callback_of, held_for, is_living, phase_after, speaks_of}
 use Rattle.callback_orders.specs.References.{to_bind, to_unbind}
 use Rattle.callback_orders.specs.Sequences.{active, alternate, begun, done_with, ended, is_bind_or_unbind, is_outstanding, is_sequence, is_whiteboard_sequence, one_at_a_time}
 use Rattle.callback_orders.proofs.DueLemmas.{due_may_come}
 use Rattle.callback_orders.proofs.EachLemmas.{Each, OfSome, each-append, each-map, first_some-each}
 use Rattle.callback_orders.proofs.EndLemmas.{is_sequence-ended}
+use Rattle.prop_map.specs.Words.{with_places}
 
 -- as if it had been made and activated before
 abbrev pub since_made : List Called → List Called
@@ -165,9 +166,9 @@ module _ (names : List (List ℕ)) where
   abbrev Silent : (ℕ × ReferenceView) → Type 0
   Silent r = r.1.told ≡ false
 
-  binds_while_active : (v : InstanceView) → v.stale ≡ false → Each Silent (with_places v.references) → OfSome Binds (due_while_active v)
+  binds_while_active : (v : InstanceView) → v.stale ≡ false → Each Silent (with_places 0 v.references) → OfSome Binds (due_while_active v)
   binds_while_active v fresh silent =
-      let rs = with_places v.references in
+      let rs = with_places 0 v.references in
       let binds = map (bind_at v.instance) rs in
       let unbinds = map (unbind_at v.instance) rs in
       let tells = map (tell_at v.instance) rs in
@@ -180,7 +181,7 @@ module _ (names : List (List ℕ)) where
       (each-map Silent (OfSome Binds) (tell_at v.instance) rs silent (λ r e. tells_none v.instance r e)))
       (subst (OfSome Binds) (sym (ap (λ b. cond b (Some (ModifiedDue v.instance)) None) fresh)) tt, tt))
 
-  pub board_binds : (v : InstanceView) → v.phase ≡ Active → v.ending ≡ false → v.stale ≡ false → Each Silent (with_places v.references) → (d : DueRef) → due_of v ≡ Some d → is_bind_or_unbind (callback_of names d) ≡ true
+  pub board_binds : (v : InstanceView) → v.phase ≡ Active → v.ending ≡ false → v.stale ≡ false → Each Silent (with_places 0 v.references) → (d : DueRef) → due_of v ≡ Some d → is_bind_or_unbind (callback_of names d) ≡ true
   board_binds v phase going_on fresh silent d is = subst (OfSome Binds) is due
     where
       while : OfSome Binds (due_while_active v)

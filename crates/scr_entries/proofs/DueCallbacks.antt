@@ -10,9 +10,10 @@ use Rattle.callback_orders.specs.declared.instance_view.Key.{Key}
 use Rattle.callback_orders.specs.declared.instance_view.Phase.{Phase}
 use Rattle.callback_orders.specs.declared.instance_view.Phase.TheVariants.{Making, Active, Left}
 use Rattle.callback_orders.specs.declared.instance_view.ReferenceView.{ReferenceView}
-use Rattle.callback_orders.specs.Due.{first_some, with_places, bind_at, unbind_at, tell_at, let_go_at, bind_or_unbind, due_in_making, modified_if_stale, due_while_active, due_while_ending, due_in_phase, due_of, first_due}
+use Rattle.callback_orders.specs.Due.{bind_at, unbind_at, tell_at, let_go_at, bind_or_unbind, due_in_making, modified_if_stale, due_while_active, due_while_ending, due_in_phase, due_of, first_due}
 use Rattle.callback_orders.specs.References.{differs, to_bind, to_unbind, to_tell, to_let_go}
-use Rattle.callback_orders.proofs.FirstSome.{first_of_four}
+use Rattle.callback_orders.proofs.FirstSome.{first_of_four, first_some-cons}
+use Rattle.prop_map.specs.Words.{first_some, with_places}
 use Rattle.component_state.proofs.Apart.{in_either, in_first, in_rest}
 use Rattle.scr_numbers.proofs.InstanceLemmas.{mapped_was}
 
@@ -46,7 +47,7 @@ module _ (n : ℕ) where
 
   first_one : {X : Type 0} (f : X → Option DueRef) → ((x : X) → OnlyFor n (f x)) → (xs : List X) → OnlyFor n (first_some (map f xs))
   first_one f each [] = tt
-  first_one f each (x ∷ xs) = either_one (f x) (first_some (map f xs)) (each x) (first_one f each xs)
+  first_one f each (x ∷ xs) = subst (OnlyFor n) (sym (first_some-cons (f x) (map f xs))) (either_one (f x) (first_some (map f xs)) (each x) (first_one f each xs))
 
   last_one : {X : Type 0} (f : X → Option DueRef) → ((x : X) → OnlyFor n (f x)) → (o : Option DueRef) → OnlyFor n o → (xs : List X) → OnlyFor n (last_or o (filter_map f xs))
   last_one f each o here [] = here
@@ -69,7 +70,7 @@ module _ (n : ℕ) where
   lets_go r = one_each (λ s. Unbind n r.0 s) (λ s. refl) (to_let_go r.1)
 
   in_making : (rs : List ReferenceView) → OnlyFor n (due_in_making n rs)
-  in_making rs = go (find (λ (r : ℕ × ReferenceView). differs r.1) (with_places rs))
+  in_making rs = go (find (λ (r : ℕ × ReferenceView). differs r.1) (with_places 0 rs))
     where
       go : (o : Option (ℕ × ReferenceView)) → OnlyFor n (option_map_or (bind_or_unbind n) o (Some (Activate n)))
       go None = refl
@@ -78,7 +79,7 @@ module _ (n : ℕ) where
 while_active : (v : InstanceView) → OnlyFor v.instance (due_while_active v)
 while_active v =
     let n = v.instance in
-    let rs = with_places v.references in
+    let rs = with_places 0 v.references in
     subst (OnlyFor n) (sym (first_of_four (map (bind_at n) rs) (map (unbind_at n) rs) (map (tell_at n) rs) (modified_if_stale v)))
     (either_one n _ (modified_if_stale v)
     (either_one n _ (first_some (map (tell_at n) rs))
@@ -88,8 +89,8 @@ while_active v =
 
 while_ending : (v : InstanceView) (phase : Phase) → OnlyFor v.instance (due_while_ending v phase)
 while_ending v Active = chosen_one v.instance (v.unheld && v.drained) (Some (Deactivate v.instance)) None refl tt
-while_ending v Making = last_one v.instance (let_go_at v.instance) (lets_go v.instance) (Some (Destroy v.instance)) refl (with_places v.references)
-while_ending v Left = last_one v.instance (let_go_at v.instance) (lets_go v.instance) (Some (Destroy v.instance)) refl (with_places v.references)
+while_ending v Making = last_one v.instance (let_go_at v.instance) (lets_go v.instance) (Some (Destroy v.instance)) refl (with_places 0 v.references)
+while_ending v Left = last_one v.instance (let_go_at v.instance) (lets_go v.instance) (Some (Destroy v.instance)) refl (with_places 0 v.references)
 
 going_on : (v : InstanceView) (phase : Phase) → OnlyFor v.instance (due_in_phase v phase)
 going_on v Making = in_making v.instance v.references

@@ -9,9 +9,10 @@ use Rattle.callback_orders.specs.declared.instance_view.InstanceView.{InstanceVi
 use Rattle.callback_orders.specs.declared.instance_view.Phase.{Phase}
 use Rattle.callback_orders.specs.declared.instance_view.Phase.TheVariants.{Making, Active, Left}
 use Rattle.callback_orders.specs.declared.instance_view.ReferenceView.{ReferenceView}
-use Rattle.callback_orders.specs.Due.{with_places, bind_at, unbind_at, tell_at, let_go_at, bind_or_unbind, due_in_making, modified_if_stale, due_while_active, due_while_ending, due_in_phase, due_of}
+use Rattle.callback_orders.specs.Due.{bind_at, unbind_at, tell_at, let_go_at, bind_or_unbind, due_in_making, modified_if_stale, due_while_active, due_while_ending, due_in_phase, due_of}
 use Rattle.callback_orders.specs.References.{differs, to_bind, to_unbind, to_tell, to_let_go}
 use Rattle.callback_orders.proofs.EachLemmas.{Each, OfSome, each-append, each-filter_map, each-map, find-each, first_some-each, last_or-each, of_some-map_or, of_some-or}
+use Rattle.prop_map.specs.Words.{with_places}
 
 abbrev AfterDrain : InstanceView → DueRef → Type 0
 AfterDrain v (Deactivate i) = v.drained ≡ true
@@ -55,12 +56,12 @@ module _ (v : InstanceView) where
   if_some false d one = tt
 
   making_due : (i : ℕ) (rs : List ReferenceView) → OfSome P (due_in_making i rs)
-  making_due i rs = of_some-map_or Any P (bind_or_unbind i) (find (λ (r : ℕ × ReferenceView). differs r.1) (with_places rs)) (Some (Activate i)) (find-each Any (λ (r : ℕ × ReferenceView). differs r.1) (with_places rs) (all_any (with_places rs)))
+  making_due i rs = of_some-map_or Any P (bind_or_unbind i) (find (λ (r : ℕ × ReferenceView). differs r.1) (with_places 0 rs)) (Some (Activate i)) (find-each Any (λ (r : ℕ × ReferenceView). differs r.1) (with_places 0 rs) (all_any (with_places 0 rs)))
       (λ r a. of_some-or P (bind_at i r) (unbind_at i r) (binds i r) (unbinds i r)) tt
 
   active_due : OfSome P (due_while_active v)
   active_due =
-      let rs = with_places v.references in
+      let rs = with_places 0 v.references in
       let first = map (bind_at v.instance) rs in
       let second = map (unbind_at v.instance) rs in
       let third = map (tell_at v.instance) rs in
@@ -73,9 +74,9 @@ module _ (v : InstanceView) where
       (each-map Any (OfSome P) (tell_at v.instance) rs (all_any rs) (λ r a. tells v.instance r)))
       (if_some v.stale (Modified v.instance) (λ e. tt), tt))
 
-  leaving_due : OfSome P (last_or (Some (Destroy v.instance)) (filter_map (let_go_at v.instance) (with_places v.references)))
-  leaving_due = last_or-each P (Some (Destroy v.instance)) (filter_map (let_go_at v.instance) (with_places v.references)) tt
-      (each-filter_map Any P (let_go_at v.instance) (with_places v.references) (all_any (with_places v.references)) (λ r a. lets_go v.instance r))
+  leaving_due : OfSome P (last_or (Some (Destroy v.instance)) (filter_map (let_go_at v.instance) (with_places 0 v.references)))
+  leaving_due = last_or-each P (Some (Destroy v.instance)) (filter_map (let_go_at v.instance) (with_places 0 v.references)) tt
+      (each-filter_map Any P (let_go_at v.instance) (with_places 0 v.references) (all_any (with_places 0 v.references)) (λ r a. lets_go v.instance r))
 
   ending_due : (phase : Phase) → OfSome P (due_while_ending v phase)
   ending_due Active = if_some (v.unheld && v.drained) (Deactivate v.instance) (λ e. (and_parts v.unheld v.drained e).1)

@@ -19,14 +19,14 @@ use Rattle.component_state.specs.declared.origin.Choice.{Choice}
 use Rattle.component_state.specs.Inside.Ready.{are_apart}
 use Rattle.component_state.proofs.Apart.{any_found, any_from, in_cases, in_first, in_rest, one_of}
 use Rattle.journal_core.specs.declared.entry.Entry.{Entry}
-use Rattle.prop_map.specs.Words.{has}
+use Rattle.prop_map.specs.Words.{has, one_if}
 use Rattle.scr_numbers.proofs.CreatedLaws.{entries_of}
 use Rattle.scr_numbers.proofs.InstanceLemmas.{begun_cases, mapped_was}
 use Rattle.scr_world.specs.Consequences.{is_draining}
 use Rattle.scr_world.specs.Instances.{begun_by, created_at, drained_in, ended_in, has_turn, is_activated, is_active_instance, last_is, lives_on, with_callback_begun, with_outcome}
 use Rattle.scr_world.specs.Legal.{IsLegal, MayCome, awaits_drain, is_under_way}
 use Rattle.scr_world.specs.Lists.{world_after_entry, world_of}
-use Rattle.scr_world.specs.Room.{has_room, one_if, reserved, reserved_for}
+use Rattle.scr_world.specs.Room.{has_room, reserved, reserved_for}
 use Rattle.scr_world.specs.Steps.{History}
 use Rattle.scr_world.specs.Stepping.{before_turn, instances_by, whiteboard_by, world_after_step}
 use Rattle.scr_world.specs.Tables.{tokens_by}

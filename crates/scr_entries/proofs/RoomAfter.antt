@@ -19,7 +19,7 @@ use Rattle.scr_world.specs.Views.{ends}
 use Rattle.scr_world.specs.Instances.{BeforeTurn, begun_by, created_at, drained_in, ended_in, has_turn, is_activated, is_active_instance, lives_on, with_callback_begun, with_effect_of_begin, with_outcome}
 use Rattle.scr_world.specs.Legal.{MayCome, awaits_drain, is_under_way}
 use Rattle.scr_world.specs.Lists.{is_active_bundle, with_lists_of, world_after_entry}
-use Rattle.scr_world.specs.Room.{has_room, needed_by, one_if, reserved, reserved_for}
+use Rattle.scr_world.specs.Room.{has_room, needed_by, reserved, reserved_for}
 use Rattle.scr_world.specs.Stepping.{before_turn, instances_by, whiteboard_by, world_after_step}
 use Rattle.scr_world.specs.Tables.{tokens_by}
 use Rattle.scr_world.specs.Worlds.{all_instances, is_registered}
@@ -33,6 +33,7 @@ use Rattle.scr_entries.proofs.Begins.{Makes, Tells, TellsBoard, begin_is}
 use Rattle.scr_entries.proofs.Ordered.{AreOrdered}
 use Rattle.scr_entries.proofs.Sequences.{told_one, told_other}
 use Rattle.scr_entries.proofs.Sums.{shorter, total, total-cons, total_changed, total_falls, total_kept, total_push}
+use Rattle.prop_map.specs.Words.{one_if}
 
 at_most_one : (b : Bool) → one_if b ≤ 1
 at_most_one true = omega arith

@@ -8,7 +8,6 @@ use Rattle.callback_orders.specs.declared.instance_view.HeldService.{HeldService
 use Rattle.callback_orders.specs.declared.instance_view.ReferenceView.{ReferenceView}
 use Rattle.callback_orders.specs.declared.due.DueRef.{DueRef}
 use Rattle.callback_orders.specs.Due.{due_of}
-use Rattle.callback_orders.specs.Due.{with_places as with_their_places}
 use Rattle.callback_orders.specs.Lives.{HoldsThese, MayComeNext, callback_of, held_for}
 use Rattle.callback_orders.specs.Sequences.{is_bind_or_unbind}
 use Rattle.callback_orders.proofs.DueLemmas.{due_may_come}
@@ -96,8 +95,8 @@ module _ (w : World) (ordered : AreOrdered w) where
   abbrev Silent : (ℕ × ReferenceView) → Type 0
   Silent r = r.1.told ≡ false
 
-  silent : Each Silent (with_their_places (whiteboard_view w).references)
-  silent = subst (λ (rs : List Reference). Each Silent (with_their_places (map (reference_view false w w.whiteboard) (with_places 0 rs)))) (sym references_are) (refl, (refl, tt))
+  silent : Each Silent (with_places 0 (whiteboard_view w).references)
+  silent = subst (λ (rs : List Reference). Each Silent (with_places 0 (map (reference_view false w w.whiteboard) (with_places 0 rs)))) (sym references_are) (refl, (refl, tt))
 
   pub board_due_binds : (d : DueRef) → due_of (whiteboard_view w) ≡ Some d → is_bind_or_unbind (callback_of (names_of w w.whiteboard) d) ≡ true
   board_due_binds d is = board_binds (names_of w w.whiteboard) (whiteboard_view w) refl refl not_modified silent d is

@@ -6,7 +6,6 @@ use Rattle.callback_orders.specs.Sequences.{is_failed}
 use Rattle.journal_core.specs.declared.entry.Entry.{Entry}
 use Rattle.scr_world.specs.Instances.{has_turn, last_is}
 use Rattle.scr_world.specs.Lists.{is_active_bundle, world_after_entry}
-use Rattle.scr_world.specs.Room.{one_if}
 use Rattle.scr_world.specs.Tables.{tokens_by}
 use Rattle.scr_world.specs.Worlds.{all_instances, is_registered}
 use Rattle.scr_world.specs.declared.instance.Instance.{Instance}
@@ -14,6 +13,7 @@ use Rattle.scr_world.specs.declared.marks.Token.{Token}
 use Rattle.scr_world.specs.declared.step.Step.{Step}
 use Rattle.scr_world.specs.declared.step.Step.TheVariants.{Command as Commanded, Begin, End, Drained, Got, Released}
 use Rattle.scr_world.specs.declared.world.World.{World}
+use Rattle.prop_map.specs.Words.{one_if}
 
 -- how many entries a step reserves: a turn's end, at an Activate the drain too, the release of a get by token
 abbrev pub reserved_with : Step → ℕ

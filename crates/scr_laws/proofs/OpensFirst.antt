@@ -10,8 +10,9 @@ use Rattle.callback_orders.specs.declared.instance_view.Key.{Key}
 use Rattle.callback_orders.specs.declared.instance_view.Phase.{Phase}
 use Rattle.callback_orders.specs.declared.instance_view.Phase.TheVariants.{Making, Active, Left}
 use Rattle.callback_orders.specs.declared.instance_view.ReferenceView.{ReferenceView}
-use Rattle.callback_orders.specs.Due.{bind_at, bind_or_unbind, due_in_phase, due_of, due_while_active, due_while_ending, first_due, first_some, let_go_at, modified_if_stale, tell_at, unbind_at, with_places}
+use Rattle.callback_orders.specs.Due.{bind_at, bind_or_unbind, due_in_phase, due_of, due_while_active, due_while_ending, first_due, let_go_at, modified_if_stale, tell_at, unbind_at}
 use Rattle.callback_orders.specs.References.{differs, to_bind, to_let_go, to_tell, to_unbind}
+use Rattle.prop_map.specs.Words.{first_some, with_places}
 use Rattle.component_state.specs.declared.open_period.OpenPeriod.{OpenPeriod}
 use Rattle.component_state.specs.Periods.{is_open}
 use Rattle.scr_world.specs.declared.world.World.{World}
@@ -37,7 +38,8 @@ either_due (Some d) p a b = a
 
 first_is_due : (os : List (Option DueRef)) → ((o : Option DueRef) → Contains os o → NoCreate o) → NoCreate (first_some os)
 first_is_due [] each = none_due
-first_is_due (o ∷ os) each = either_due o (first_some os) (each o (in_first o os)) (first_is_due os (λ p h. each p (in_rest o os p h)))
+first_is_due (None ∷ os) each = first_is_due os (λ p h. each p (in_rest None os p h))
+first_is_due (Some d ∷ os) each = each (Some d) (in_first (Some d) os)
 
 module _ (i : ℕ) where
   bind_due : (r : ℕ × ReferenceView) → NoCreate (bind_at i r)
@@ -71,25 +73,25 @@ module _ (v : InstanceView) where
 
   active_due : NoCreate (due_while_active v)
   active_due = first_is_due
-      (map (bind_at v.instance) (with_places v.references) ++ map (unbind_at v.instance) (with_places v.references) ++ map (tell_at v.instance) (with_places v.references) ++ modified_if_stale v ∷ [])
+      (map (bind_at v.instance) (with_places 0 v.references) ++ map (unbind_at v.instance) (with_places 0 v.references) ++ map (tell_at v.instance) (with_places 0 v.references) ++ modified_if_stale v ∷ [])
       (λ o h. go o (in_either (binds ++ unbinds ++ tells) (modified_if_stale v ∷ []) o h))
     where
       binds : List (Option DueRef)
-      binds = map (bind_at v.instance) (with_places v.references)
+      binds = map (bind_at v.instance) (with_places 0 v.references)
 
       unbinds : List (Option DueRef)
-      unbinds = map (unbind_at v.instance) (with_places v.references)
+      unbinds = map (unbind_at v.instance) (with_places 0 v.references)
 
       tells : List (Option DueRef)
-      tells = map (tell_at v.instance) (with_places v.references)
+      tells = map (tell_at v.instance) (with_places 0 v.references)
 
       one : (o : Option DueRef) → Contains binds o ⊎ Contains unbinds o → NoCreate o
-      one o (inl a) = in_map_due (bind_at v.instance) (bind_due v.instance) (with_places v.references) o a
-      one o (inr a) = in_map_due (unbind_at v.instance) (unbind_due v.instance) (with_places v.references) o a
+      one o (inl a) = in_map_due (bind_at v.instance) (bind_due v.instance) (with_places 0 v.references) o a
+      one o (inr a) = in_map_due (unbind_at v.instance) (unbind_due v.instance) (with_places 0 v.references) o a
 
       two : (o : Option DueRef) → Contains (binds ++ unbinds) o ⊎ Contains tells o → NoCreate o
       two o (inl a) = one o (in_either binds unbinds o a)
-      two o (inr a) = in_map_due (tell_at v.instance) (tell_due v.instance) (with_places v.references) o a
+      two o (inr a) = in_map_due (tell_at v.instance) (tell_due v.instance) (with_places 0 v.references) o a
 
       go : (o : Option DueRef) → Contains (binds ++ unbinds ++ tells) o ⊎ Contains (modified_if_stale v ∷ []) o → NoCreate o
       go o (inl a) = two o (in_either (binds ++ unbinds) tells o a)
@@ -101,11 +103,11 @@ module _ (v : InstanceView) where
 
   ending_due : (phase : Phase) → NoCreate (due_while_ending v phase)
   ending_due Active = deactivate_due (v.unheld && v.drained)
-  ending_due Making = leaving_due v.instance (Some (Destroy v.instance)) (with_places v.references) (λ key e. cc)
-  ending_due Left = leaving_due v.instance (Some (Destroy v.instance)) (with_places v.references) (λ key e. cc)
+  ending_due Making = leaving_due v.instance (Some (Destroy v.instance)) (with_places 0 v.references) (λ key e. cc)
+  ending_due Left = leaving_due v.instance (Some (Destroy v.instance)) (with_places 0 v.references) (λ key e. cc)
 
   phase_due : (phase : Phase) → NoCreate (due_in_phase v phase)
-  phase_due Making = making_due v.instance (find (λ (r : ℕ × ReferenceView). differs r.1) (with_places v.references))
+  phase_due Making = making_due v.instance (find (λ (r : ℕ × ReferenceView). differs r.1) (with_places 0 v.references))
   phase_due Active = active_due
   phase_due Left = none_due
 
@@ -123,7 +125,7 @@ create_is_wanted [] [] key e = absurd cc
 create_is_wanted [] (k ∷ ks) key e = let same : k ≡ key = cc in subst (λ (x : Key). Contains (k ∷ ks) x) same (in_first k ks)
 create_is_wanted (v ∷ views) keys key e = go (due_of v) (view_due v) e (create_is_wanted views keys key)
   where
-    go : (o : Option DueRef) → NoCreate o → option_or o (first_due views keys) ≡ Some (CreateDue key) → (first_due views keys ≡ Some (CreateDue key) → Contains keys key) → Contains keys key
+    go : (o : Option DueRef) → NoCreate o → first_some (o ∷ map due_of views ++ map (λ (k : Key). Some (CreateDue k)) keys) ≡ Some (CreateDue key) → (first_due views keys ≡ Some (CreateDue key) → Contains keys key) → Contains keys key
     go None none is later = later is
     go (Some d) none is later = absurd (none key is)
 

@@ -7,8 +7,9 @@ use Rattle.callback_orders.specs.declared.due.DueRef.TheVariants.{Bind, Updated,
 use Rattle.callback_orders.specs.declared.instance_view.HeldService.{HeldService}
 use Rattle.callback_orders.specs.declared.instance_view.InstanceView.{InstanceView}
 use Rattle.callback_orders.specs.declared.instance_view.ReferenceView.{ReferenceView}
-use Rattle.callback_orders.specs.Due.{bind_at, due_in_phase, due_of, due_while_active, due_while_ending, first_some, modified_if_stale, tell_at, unbind_at, with_places}
+use Rattle.callback_orders.specs.Due.{bind_at, due_in_phase, due_of, due_while_active, due_while_ending, modified_if_stale, tell_at, unbind_at}
 use Rattle.callback_orders.specs.References.{desires_all, differs, holds_all, is_desired, to_bind, to_tell, to_unbind}
+use Rattle.prop_map.specs.Words.{first_some, with_places}
 use Rattle.component_state.proofs.Apart.{in_either, in_first, in_rest, kept_was, not_true}
 use Rattle.scr_endings.proofs.DueCallbacks.{due_ended, due_stands}
 use Rattle.scr_laws.proofs.Listed.{mapped_was, single}
@@ -57,10 +58,10 @@ lets_go r s is = go (holds_all r) refl is
 
 -- an active view has the reference at a place
 abbrev pub LetsGoAt : InstanceView → ℕ → ℕ → Type 0
-LetsGoAt v k s = (r : ReferenceView) × Contains (with_places v.references) (k, r) × LetsGo r s
+LetsGoAt v k s = (r : ReferenceView) × Contains (with_places 0 v.references) (k, r) × LetsGo r s
 
 module _ (v : InstanceView) (n k s : ℕ) where
-  of_unbind : (q : ℕ × ReferenceView) → Contains (with_places v.references) q → unbind_at v.instance q ≡ Some (Unbind n k s) → LetsGoAt v k s
+  of_unbind : (q : ℕ × ReferenceView) → Contains (with_places 0 v.references) q → unbind_at v.instance q ≡ Some (Unbind n k s) → LetsGoAt v k s
   of_unbind q h is = go (to_unbind q.1) refl is
     where
       go : (o : Option ℕ) → to_unbind q.1 ≡ o → option_map (λ t. Unbind v.instance q.0 t) o ≡ Some (Unbind n k s) → LetsGoAt v k s
@@ -68,7 +69,7 @@ module _ (v : InstanceView) (n k s : ℕ) where
       go (Some t) here is =
           let place : q.0 ≡ k = cc in
           let service : t ≡ s = cc in
-          (q.1, subst (λ m. Contains (with_places v.references) (m, q.1)) place h, lets_go q.1 s (here ∙ ap Some service))
+          (q.1, subst (λ m. Contains (with_places 0 v.references) (m, q.1)) place h, lets_go q.1 s (here ∙ ap Some service))
 
   no_bind : (q : ℕ × ReferenceView) → bind_at v.instance q ≡ Some (Unbind n k s) → ⊥
   no_bind q is = go (to_bind q.1) is
@@ -93,7 +94,7 @@ module _ (v : InstanceView) (n k s : ℕ) where
 
   while_active : due_while_active v ≡ Some (Unbind n k s) → LetsGoAt v k s
   while_active is =
-      let rs = with_places v.references in
+      let rs = with_places 0 v.references in
       let d = Some (Unbind n k s) in
       let binds = map (bind_at v.instance) rs in
       let unbinds = map (unbind_at v.instance) rs in

@@ -13,11 +13,12 @@ use Rattle.scr_reserved.proofs.TurnsUnderWay.{turns_under_way}
 use Rattle.scr_world.specs.Instances.{is_activated}
 use Rattle.scr_world.specs.Legal.{IsLegal}
 use Rattle.scr_world.specs.Lists.{world_of}
-use Rattle.scr_world.specs.Room.{one_if, reserved_for}
+use Rattle.scr_world.specs.Room.{reserved_for}
 use Rattle.scr_world.specs.Steps.{History}
 use Rattle.scr_world.specs.TurnLines.{turn_lines}
 use Rattle.scr_world.specs.Worlds.{all_instances}
 use Rattle.scr_world.specs.declared.instance.Instance.{Instance}
+use Rattle.prop_map.specs.Words.{one_if}
 
 mapped_so : {X : Type 0} (f g : X → ℕ) (xs : List X) → ((x : X) → Contains xs x → f x ≡ g x) → map f xs ≡ map g xs
 mapped_so f g [] each = refl

@@ -7,7 +7,7 @@ use Rattle.scr_gates.specs.Callbacks.{callbacks_told}
 use Rattle.scr_world.specs.Instances.{is_activated}
 use Rattle.scr_world.specs.Legal.{is_under_way}
 use Rattle.scr_world.specs.Lists.{world_of}
-use Rattle.scr_world.specs.Room.{one_if, reserved}
+use Rattle.scr_world.specs.Room.{reserved}
 use Rattle.scr_world.specs.Steps.{History}
 use Rattle.scr_world.specs.TurnLines.{turn_lines}
 use Rattle.scr_world.specs.Worlds.{all_instances}
@@ -15,6 +15,7 @@ use Rattle.scr_world.specs.declared.instance.Instance.{Instance}
 use Rattle.scr_world.specs.declared.lines.TurnLine.{TurnLine}
 use Rattle.scr_world.specs.declared.step.Step.{Step}
 use Rattle.scr_world.specs.declared.step.Step.TheVariants.{Drained}
+use Rattle.prop_map.specs.Words.{one_if}
 
 -- the step posts the drain of an instance
 abbrev pub drains : ℕ → Step → Bool

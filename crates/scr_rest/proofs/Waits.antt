@@ -12,8 +12,9 @@ use Rattle.callback_orders.specs.declared.instance_view.Phase.{Phase}
 use Rattle.callback_orders.specs.declared.instance_view.Phase.TheVariants.{Making, Active, Left}
 use Rattle.callback_orders.specs.declared.instance_view.ReferenceView.{ReferenceView}
 use Rattle.callback_orders.specs.declared.instance_view.Wish.{Wish}
-use Rattle.callback_orders.specs.Due.{bind_at, bind_or_unbind, due_in_making, due_in_phase, due_of, due_while_active, due_while_ending, first_some, let_go_at, modified_if_stale, tell_at, unbind_at, with_places}
+use Rattle.callback_orders.specs.Due.{bind_at, bind_or_unbind, due_in_making, due_in_phase, due_of, due_while_active, due_while_ending, let_go_at, modified_if_stale, tell_at, unbind_at}
 use Rattle.callback_orders.specs.References.{desires_all, differs, holds_all, is_desired, is_held, to_bind, to_unbind}
+use Rattle.prop_map.specs.Words.{first_some, with_places}
 use Rattle.component_state.proofs.Apart.{any_found, in_cases, in_first, in_left, in_none, in_rest, in_right}
 use Rattle.scr_endings.proofs.ViewedReferences.{placed_in, placed_was}
 use Rattle.scr_laws.proofs.Legal.{in_map}
@@ -118,12 +119,12 @@ held_desired r its s on =
 -- ---- in the making something is due, where all that is desired is ready
 
 pub making_goes_on : (n : ℕ) (rs : List ReferenceView) → AllReady rs → due_in_making n rs ≡ None → ⊥
-making_goes_on n rs ready none = go (find (λ (q : ℕ × ReferenceView). differs q.1) (with_places rs)) refl none
+making_goes_on n rs ready none = go (find (λ (q : ℕ × ReferenceView). differs q.1) (with_places 0 rs)) refl none
   where
-    go : (o : Option (ℕ × ReferenceView)) → find (λ (q : ℕ × ReferenceView). differs q.1) (with_places rs) ≡ o → option_map_or (bind_or_unbind n) o (Some (Activate n)) ≡ None → ⊥
+    go : (o : Option (ℕ × ReferenceView)) → find (λ (q : ℕ × ReferenceView). differs q.1) (with_places 0 rs) ≡ o → option_map_or (bind_or_unbind n) o (Some (Activate n)) ≡ None → ⊥
     go None is none = cc
     go (Some q) is none =
-        let found = found_was (λ (p : ℕ × ReferenceView). differs p.1) (with_places rs) q is in
+        let found = found_was (λ (p : ℕ × ReferenceView). differs p.1) (with_places 0 rs) q is in
         let no_bind = none_of (λ s. Bind n q.0 s) (to_bind q.1) (first_none (bind_at n q) (unbind_at n q) none) in
         let no_unbind = none_of (λ s. Unbind n q.0 s) (to_unbind q.1) (second_none (bind_at n q) (unbind_at n q) none) in
         let its = holds_its q.1 (ready q.1 (placed_was 0 rs q.0 q.1 found.0)) no_bind no_unbind in
@@ -136,7 +137,7 @@ module _ (v : InstanceView) (ready : AllReady v.references) (none : due_while_ac
   n = v.instance
 
   abbrev rs : List (ℕ × ReferenceView)
-  rs = with_places v.references
+  rs = with_places 0 v.references
 
   abbrev binds : List (Option DueRef)
   binds = map (bind_at n) rs
@@ -168,8 +169,8 @@ module _ (v : InstanceView) (ready : AllReady v.references) (none : due_while_ac
 -- ---- an ending one with nothing due is active, and isn't both unheld and drained
 
 pub ending_waits : (v : InstanceView) (phase : Phase) → due_while_ending v phase ≡ None → (is_active_phase phase ≡ true) × ((v.unheld && v.drained) ≡ false)
-ending_waits v Making none = absurd (some_last (Destroy v.instance) (filter_map (let_go_at v.instance) (with_places v.references)) none)
-ending_waits v Left none = absurd (some_last (Destroy v.instance) (filter_map (let_go_at v.instance) (with_places v.references)) none)
+ending_waits v Making none = absurd (some_last (Destroy v.instance) (filter_map (let_go_at v.instance) (with_places 0 v.references)) none)
+ending_waits v Left none = absurd (some_last (Destroy v.instance) (filter_map (let_go_at v.instance) (with_places 0 v.references)) none)
 ending_waits v Active none = (refl, go (v.unheld && v.drained) none)
   where
     go : (b : Bool) → cond b (Some (Deactivate v.instance)) None ≡ None → b ≡ false

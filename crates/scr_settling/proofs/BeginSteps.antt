@@ -12,7 +12,7 @@ use Rattle.callback_orders.specs.declared.instance_view.HeldService.{HeldService
 use Rattle.callback_orders.specs.declared.instance_view.InstanceView.{InstanceView}
 use Rattle.callback_orders.specs.declared.instance_view.Phase.{Phase}
 use Rattle.callback_orders.specs.declared.instance_view.ReferenceView.{ReferenceView}
-use Rattle.callback_orders.specs.Due.{due_of, with_places as view_places}
+use Rattle.callback_orders.specs.Due.{due_of}
 use Rattle.callback_orders.specs.Lives.{callback_of, held_for}
 use Rattle.callback_orders.specs.References.{is_held}
 use Rattle.callback_orders.specs.Sequences.{begun}
@@ -83,7 +83,7 @@ module _ (start : World) (limit : ℕ) (entry : Entry Step) (past : History) (le
   name_at k = slice_index_or (names_of w i) k []
 
   -- a reference of the instance by its view
-  seen_at : (k : ℕ) (shown : ReferenceView) → Contains (view_places v.references) (k, shown) → (q : Reference) × Contains (with_places 0 (references_in w i)) (k, q) × (shown ≡ reference_view e w i (k, q))
+  seen_at : (k : ℕ) (shown : ReferenceView) → Contains (with_places 0 v.references) (k, shown) → (q : Reference) × Contains (with_places 0 (references_in w i)) (k, q) × (shown ≡ reference_view e w i (k, q))
   seen_at k shown h = viewed (reference_view e w i) 0 (references_in w i) k shown h
 
   touches_it : (k t : ℕ) (q : Reference) → Contains (with_places 0 (references_in w i)) (k, q) → (bytes_eq (name_at k) q.name && (t == t)) ≡ true

@@ -14,7 +14,7 @@ use Rattle.callback_orders.specs.declared.instance_view.Phase.{Phase}
 use Rattle.callback_orders.specs.declared.instance_view.Phase.TheVariants.{Active}
 use Rattle.callback_orders.specs.declared.instance_view.ReferenceView.{ReferenceView}
 use Rattle.callback_orders.specs.declared.instance_view.Wish.{Wish}
-use Rattle.callback_orders.specs.Due.{due_of, with_places as view_places}
+use Rattle.callback_orders.specs.Due.{due_of}
 use Rattle.callback_orders.specs.Grammar.{is_activate, is_deactivate, is_destroy}
 use Rattle.callback_orders.specs.Lives.{callback_of, held_for, phase_of}
 use Rattle.callback_orders.specs.References.{is_desired, is_held}
@@ -26,7 +26,7 @@ use Rattle.component_state.specs.Components.{existing}
 use Rattle.component_state.specs.Reasons.{choice_at}
 use Rattle.component_state.specs.Rows.{service_in}
 use Rattle.component_state.proofs.Apart.{any_found, any_from, in_cases, in_first, in_rest, kept_was, not_true}
-use Rattle.prop_map.specs.Words.{has, with_places}
+use Rattle.prop_map.specs.Words.{has, one_if, with_places}
 use Rattle.reference_match.specs.Targets.{is_multiple}
 use Rattle.scr_choices.proofs.WhileActive.{held_begun}
 use Rattle.scr_endings.proofs.Comings.{IsSeen, gains, one_made, whiteboard}
@@ -57,7 +57,6 @@ use Rattle.scr_minimum.proofs.CallbackSteps.{firm}
 use Rattle.scr_world.specs.Dues.{due_in, names_of}
 use Rattle.scr_world.specs.Legal.{IsLegal}
 use Rattle.scr_world.specs.Lists.{is_active_bundle, world_of}
-use Rattle.scr_world.specs.Room.{one_if}
 use Rattle.scr_world.specs.Steps.{History}
 use Rattle.scr_world.specs.Views.{awaits_modified, desired_services, desired_unless_ending, ends, is_changed, reference_view, references_in, targets_for, view_as, view_of, views_of, whiteboard_view}
 use Rattle.scr_world.specs.Wanted.{has_instance, missing, wanted}
@@ -88,7 +87,7 @@ module _ (start : World) (limit : ℕ) (past : History) (legal : IsLegal limit p
     abbrev name_at : ℕ → List ℕ
     name_at k = slice_index_or (names_of w i) k []
 
-    seen_at : (k : ℕ) (shown : ReferenceView) → Contains (view_places v.references) (k, shown) → (q : Reference) × Contains (with_places 0 (references_in w i)) (k, q) × (shown ≡ reference_view e w i (k, q))
+    seen_at : (k : ℕ) (shown : ReferenceView) → Contains (with_places 0 v.references) (k, shown) → (q : Reference) × Contains (with_places 0 (references_in w i)) (k, q) × (shown ≡ reference_view e w i (k, q))
     seen_at k shown h = viewed (reference_view e w i) 0 (references_in w i) k shown h
 
     firm_was : (name : List ℕ) → firm name i.callbacks ≡ held_for name i.callbacks

@@ -12,9 +12,10 @@ use Rattle.callback_orders.specs.declared.instance_view.InstanceView.{InstanceVi
 use Rattle.callback_orders.specs.declared.instance_view.Phase.{Phase}
 use Rattle.callback_orders.specs.declared.instance_view.Phase.TheVariants.{Making, Active, Left}
 use Rattle.callback_orders.specs.declared.instance_view.ReferenceView.{ReferenceView}
-use Rattle.callback_orders.specs.Due.{bind_at, bind_or_unbind, due_in_making, due_in_phase, due_of, due_while_active, due_while_ending, let_go_at, modified_if_stale, tell_at, unbind_at, with_places}
+use Rattle.callback_orders.specs.Due.{bind_at, bind_or_unbind, due_in_making, due_in_phase, due_of, due_while_active, due_while_ending, let_go_at, modified_if_stale, tell_at, unbind_at}
 use Rattle.callback_orders.specs.References.{differs, holds_all, is_desired, is_held, to_bind, to_let_go, to_tell, to_unbind}
 use Rattle.callback_orders.proofs.EachLemmas.{Each, OfSome, each-filter_map, first_some-each, last_or-each, of_some-or}
+use Rattle.prop_map.specs.Words.{with_places}
 use Rattle.component_state.proofs.Apart.{any_from, in_either, in_first, in_rest, kept_was, not_true}
 use Rattle.scr_laws.proofs.Listed.{found_was, mapped_was, single}
 
@@ -74,7 +75,7 @@ is_to_tell r s is = go r.told is
 -- ---- a view
 
 abbrev pub At : InstanceView → ℕ → (ReferenceView → Type 0) → Type 0
-At v k P = (r : ReferenceView) × Contains (with_places v.references) (k, r) × P r
+At v k P = (r : ReferenceView) × Contains (with_places 0 v.references) (k, r) × P r
 
 abbrev pub Says : InstanceView → DueRef → Type 0
 Says v (Create key) = ⊤
@@ -101,14 +102,14 @@ module _ (v : InstanceView) where
       go None = tt
       go (Some s) = tt
 
-  unbinds : (r : ℕ × ReferenceView) → Contains (with_places v.references) r → Behind (unbind_at v.instance r)
+  unbinds : (r : ℕ × ReferenceView) → Contains (with_places 0 v.references) r → Behind (unbind_at v.instance r)
   unbinds r h = go (to_unbind r.1) refl
     where
       go : (o : Option ℕ) → to_unbind r.1 ≡ o → Behind (option_map (λ s. Unbind v.instance r.0 s) o)
       go None is = tt
       go (Some s) is = inr (r.1, h, lets_go r.1 s is)
 
-  tells : (r : ℕ × ReferenceView) → Contains (with_places v.references) r → Behind (tell_at v.instance r)
+  tells : (r : ℕ × ReferenceView) → Contains (with_places 0 v.references) r → Behind (tell_at v.instance r)
   tells r h = go (to_tell r.1) refl
     where
       go : (o : Option ℕ) → to_tell r.1 ≡ o → Behind (option_map (λ s. Updated v.instance r.0 s) o)
@@ -123,44 +124,44 @@ module _ (v : InstanceView) where
       go (Some s) = inl on
 
   in_making : Behind (due_in_making v.instance v.references)
-  in_making = go (find (λ (r : ℕ × ReferenceView). differs r.1) (with_places v.references)) refl
+  in_making = go (find (λ (r : ℕ × ReferenceView). differs r.1) (with_places 0 v.references)) refl
     where
-      go : (o : Option (ℕ × ReferenceView)) → find (λ (r : ℕ × ReferenceView). differs r.1) (with_places v.references) ≡ o → Behind (option_map_or (bind_or_unbind v.instance) o (Some (Activate v.instance)))
+      go : (o : Option (ℕ × ReferenceView)) → find (λ (r : ℕ × ReferenceView). differs r.1) (with_places 0 v.references) ≡ o → Behind (option_map_or (bind_or_unbind v.instance) o (Some (Activate v.instance)))
       go None is = tt
-      go (Some r) is = let found = found_was (λ (x : ℕ × ReferenceView). differs x.1) (with_places v.references) r is in
+      go (Some r) is = let found = found_was (λ (x : ℕ × ReferenceView). differs x.1) (with_places 0 v.references) r is in
           of_some-or (Says v) (bind_at v.instance r) (unbind_at v.instance r) (binds r) (unbinds r found.0)
 
   while_active : Behind (due_while_active v)
   while_active = first_some-each (Says v)
-      (map (bind_at v.instance) (with_places v.references) ++ map (unbind_at v.instance) (with_places v.references) ++ map (tell_at v.instance) (with_places v.references) ++ modified_if_stale v ∷ [])
-      (in_each Behind _ (λ o h. last o (in_either (map (bind_at v.instance) (with_places v.references) ++ map (unbind_at v.instance) (with_places v.references) ++ map (tell_at v.instance) (with_places v.references)) (modified_if_stale v ∷ []) o h)))
+      (map (bind_at v.instance) (with_places 0 v.references) ++ map (unbind_at v.instance) (with_places 0 v.references) ++ map (tell_at v.instance) (with_places 0 v.references) ++ modified_if_stale v ∷ [])
+      (in_each Behind _ (λ o h. last o (in_either (map (bind_at v.instance) (with_places 0 v.references) ++ map (unbind_at v.instance) (with_places 0 v.references) ++ map (tell_at v.instance) (with_places 0 v.references)) (modified_if_stale v ∷ []) o h)))
     where
-      of_map : (f : ℕ × ReferenceView → Option DueRef) → ((r : ℕ × ReferenceView) → Contains (with_places v.references) r → Behind (f r)) → (o : Option DueRef) → Contains (map f (with_places v.references)) o → Behind o
-      of_map f each o h = let was = mapped_was f (with_places v.references) o h in subst Behind was.1.1 (each was.0 was.1.0)
+      of_map : (f : ℕ × ReferenceView → Option DueRef) → ((r : ℕ × ReferenceView) → Contains (with_places 0 v.references) r → Behind (f r)) → (o : Option DueRef) → Contains (map f (with_places 0 v.references)) o → Behind o
+      of_map f each o h = let was = mapped_was f (with_places 0 v.references) o h in subst Behind was.1.1 (each was.0 was.1.0)
 
-      one : (o : Option DueRef) → Contains (map (bind_at v.instance) (with_places v.references)) o ⊎ Contains (map (unbind_at v.instance) (with_places v.references)) o → Behind o
+      one : (o : Option DueRef) → Contains (map (bind_at v.instance) (with_places 0 v.references)) o ⊎ Contains (map (unbind_at v.instance) (with_places 0 v.references)) o → Behind o
       one o (inl h) = of_map (bind_at v.instance) (λ r k. binds r) o h
       one o (inr h) = of_map (unbind_at v.instance) unbinds o h
 
-      two : (o : Option DueRef) → Contains (map (bind_at v.instance) (with_places v.references) ++ map (unbind_at v.instance) (with_places v.references)) o ⊎ Contains (map (tell_at v.instance) (with_places v.references)) o → Behind o
-      two o (inl h) = one o (in_either (map (bind_at v.instance) (with_places v.references)) (map (unbind_at v.instance) (with_places v.references)) o h)
+      two : (o : Option DueRef) → Contains (map (bind_at v.instance) (with_places 0 v.references) ++ map (unbind_at v.instance) (with_places 0 v.references)) o ⊎ Contains (map (tell_at v.instance) (with_places 0 v.references)) o → Behind o
+      two o (inl h) = one o (in_either (map (bind_at v.instance) (with_places 0 v.references)) (map (unbind_at v.instance) (with_places 0 v.references)) o h)
       two o (inr h) = of_map (tell_at v.instance) tells o h
 
       stale : (b : Bool) → v.stale ≡ b → Behind (cond b (Some (Modified v.instance)) None)
       stale true is = is
       stale false is = tt
 
-      last : (o : Option DueRef) → Contains (map (bind_at v.instance) (with_places v.references) ++ map (unbind_at v.instance) (with_places v.references) ++ map (tell_at v.instance) (with_places v.references)) o ⊎ Contains (modified_if_stale v ∷ []) o → Behind o
-      last o (inl h) = two o (in_either (map (bind_at v.instance) (with_places v.references) ++ map (unbind_at v.instance) (with_places v.references)) (map (tell_at v.instance) (with_places v.references)) o h)
+      last : (o : Option DueRef) → Contains (map (bind_at v.instance) (with_places 0 v.references) ++ map (unbind_at v.instance) (with_places 0 v.references) ++ map (tell_at v.instance) (with_places 0 v.references)) o ⊎ Contains (modified_if_stale v ∷ []) o → Behind o
+      last o (inl h) = two o (in_either (map (bind_at v.instance) (with_places 0 v.references) ++ map (unbind_at v.instance) (with_places 0 v.references)) (map (tell_at v.instance) (with_places 0 v.references)) o h)
       last o (inr h) = subst Behind (single (modified_if_stale v) o h) (stale v.stale refl)
 
   chosen_one : (b : Bool) (x y : Option DueRef) → Behind x → Behind y → Behind (cond b x y)
   chosen_one true x y one other = one
   chosen_one false x y one other = other
 
-  leaves : v.ending ≡ true → Behind (last_or (Some (Destroy v.instance)) (filter_map (let_go_at v.instance) (with_places v.references)))
-  leaves on = last_or-each (Says v) (Some (Destroy v.instance)) (filter_map (let_go_at v.instance) (with_places v.references)) on
-      (each-filter_map (λ (r : ℕ × ReferenceView). Contains (with_places v.references) r) (Says v) (let_go_at v.instance) (with_places v.references) (in_each (λ (r : ℕ × ReferenceView). Contains (with_places v.references) r) (with_places v.references) (λ r h. h))
+  leaves : v.ending ≡ true → Behind (last_or (Some (Destroy v.instance)) (filter_map (let_go_at v.instance) (with_places 0 v.references)))
+  leaves on = last_or-each (Says v) (Some (Destroy v.instance)) (filter_map (let_go_at v.instance) (with_places 0 v.references)) on
+      (each-filter_map (λ (r : ℕ × ReferenceView). Contains (with_places 0 v.references) r) (Says v) (let_go_at v.instance) (with_places 0 v.references) (in_each (λ (r : ℕ × ReferenceView). Contains (with_places 0 v.references) r) (with_places 0 v.references) (λ r h. h))
       (λ r h. lets on r))
 
   while_ending : v.ending ≡ true → (phase : Phase) → Behind (due_while_ending v phase)

@@ -33,13 +33,13 @@ use Rattle.scr_world.specs.Dues.{names_of}
 use Rattle.scr_world.specs.Instances.{BeforeTurn, with_effect_of_begin}
 use Rattle.scr_world.specs.Legal.{IsLegal}
 use Rattle.scr_world.specs.Lists.{world_of}
-use Rattle.scr_world.specs.Room.{one_if}
 use Rattle.scr_world.specs.Steps.{History}
 use Rattle.scr_world.specs.Stepping.{before_turn}
 use Rattle.scr_world.specs.Views.{awaits_modified, view_as}
 use Rattle.scr_world.specs.declared.instance.Instance.{Instance}
 use Rattle.scr_world.specs.declared.step.Step.{Step}
 use Rattle.scr_world.specs.declared.world.World.{World}
+use Rattle.prop_map.specs.Words.{one_if}
 
 -- ---- truth
 

@@ -13,7 +13,7 @@ use Rattle.component_state.specs.Components.{has_singleton_scope, provides_no_se
 use Rattle.component_state.specs.Periods.{is_open}
 use Rattle.component_state.specs.Rows.{service_in}
 use Rattle.component_state.proofs.Apart.{in_first, in_rest, kept_from}
-use Rattle.prop_map.specs.Words.{with_places}
+use Rattle.prop_map.specs.Words.{one_if, with_places}
 use Rattle.scr_laws.proofs.Legal.{in_map}
 use Rattle.scr_laws.proofs.Listed.{found_was}
 use Rattle.scr_settling.proofs.CallbackKinds.{was_told}
@@ -22,7 +22,6 @@ use Rattle.scr_settling.proofs.Potentials.{component_left, components_with, cons
 use Rattle.scr_settling.proofs.Sums.{total, total_cons, total_count, total_low}
 use Rattle.scr_world.specs.Bounds.{providers_of}
 use Rattle.scr_world.specs.Lists.{is_active_bundle}
-use Rattle.scr_world.specs.Room.{one_if}
 use Rattle.scr_world.specs.Views.{awaits_modified, references_in}
 use Rattle.scr_world.specs.declared.instance.Instance.{Instance}
 use Rattle.scr_world.specs.declared.world.World.{World}

@@ -3,7 +3,7 @@ use Rattle.std.proofs.Common.{◌≡◌, ℕ, ◌++◌, refl, arith, true, Optio
 use Rattle.callback_orders.specs.declared.due.DueRef.{DueRef}
 use Rattle.scr_settling.specs.Bounds.{turns_begun_in}
 use Rattle.scr_settling.specs.Names.{HaveOwnNames}
-use Rattle.scr_settling.specs.Settlings.{Settles}
+use Rattle.scr_settling.specs.Settlings.{OnlySettles}
 use Rattle.scr_settling.proofs.DueLeft.{due_left}
 use Rattle.scr_settling.proofs.StartCounts.{start_at_most}
 use Rattle.scr_settling.proofs.WithinBound.{legal_before, names_then, settled, turns_spent}
@@ -13,7 +13,7 @@ use Rattle.scr_world.specs.Legal.{IsLegal}
 use Rattle.scr_world.specs.Lists.{world_of}
 use Rattle.scr_world.specs.Steps.{History}
 
-pub none_due_at_bound : (limit : ℕ) (past entries : History) → IsLegal limit (entries ++ past) → is_calm (world_of past) ≡ true → HaveOwnNames (world_of past) → Settles past entries → turns_begun_in entries ≡ settle_bound (world_of past)
+pub none_due_at_bound : (limit : ℕ) (past entries : History) → IsLegal limit (entries ++ past) → is_calm (world_of past) ≡ true → HaveOwnNames (world_of past) → OnlySettles past entries → turns_begun_in entries ≡ settle_bound (world_of past)
     → due_in (world_of (entries ++ past)) ≡ None
 none_due_at_bound limit past entries legal calm names settles all = go (due_in (world_of (entries ++ past))) refl
   where

@@ -41,7 +41,7 @@ use Rattle.scr_laws.proofs.Sounding.{legal_sound}
 use Rattle.scr_laws.proofs.StillLaw.{legal_calm, legal_still}
 use Rattle.scr_rest.proofs.Heights.{height, height_bound, provider_lower, top_of}
 use Rattle.scr_rest.proofs.Waits.{all_from, all_to}
-use Rattle.scr_settling.specs.Settlings.{NothingCloses, Settles, ends_well, is_settling}
+use Rattle.scr_settling.specs.Settlings.{NothingCloses, OnlySettles, ends_well, is_settling}
 use Rattle.scr_settling.proofs.GrowingChoices.{SeesFine, misled_later, none_from, none_to}
 use Rattle.scr_settling.proofs.GrowingServices.{SeesMore, met_later, sees_direct, sees_more}
 use Rattle.scr_settling.proofs.SettlingEnds.{none_failing, origin_was}
@@ -305,11 +305,11 @@ entry_closes_nothing limit entry past legal settles calm = go entry.step refl se
 
 -- ---- all of them
 
-pub stays_calm : (past entries : History) → Settles past entries → is_calm (world_of past) ≡ true → is_calm (world_of (entries ++ past)) ≡ true
+pub stays_calm : (past entries : History) → OnlySettles past entries → is_calm (world_of past) ≡ true → is_calm (world_of (entries ++ past)) ≡ true
 stays_calm past [] settles calm = calm
 stays_calm past (entry ∷ entries) settles calm = calm_stays entry (entries ++ past) settles.0 (stays_calm past entries settles.1 calm)
 
-pub nothing_closes : (limit : ℕ) (past entries : History) → IsLegal limit (entries ++ past) → is_calm (world_of past) ≡ true → Settles past entries → NothingCloses entries
+pub nothing_closes : (limit : ℕ) (past entries : History) → IsLegal limit (entries ++ past) → is_calm (world_of past) ≡ true → OnlySettles past entries → NothingCloses entries
 nothing_closes limit past [] legal calm settles entry h = absurd (in_none entry h)
 nothing_closes limit past (first ∷ entries) legal calm settles entry h = elim (in_cases first entries entry h) [
   | inl same ↦ ap (λ (e : Entry Step). e.closed) (sym same) ∙ entry_closes_nothing limit first (entries ++ past) legal settles.0 (stays_calm past entries settles.1 calm)

@@ -16,7 +16,7 @@ use Rattle.callback_orders.specs.declared.instance_view.InstanceView.{InstanceVi
 use Rattle.callback_orders.specs.declared.instance_view.Phase.{Phase}
 use Rattle.callback_orders.specs.declared.instance_view.ReferenceView.{ReferenceView}
 use Rattle.callback_orders.specs.declared.instance_view.Wish.{Wish}
-use Rattle.callback_orders.specs.Due.{due_of, with_places as view_places}
+use Rattle.callback_orders.specs.Due.{due_of}
 use Rattle.callback_orders.specs.Lives.{callback_of, held_by, held_for}
 use Rattle.callback_orders.specs.References.{is_desired, is_held}
 use Rattle.callback_orders.specs.Sequences.{begun, ended, is_outstanding}
@@ -204,12 +204,12 @@ module _ (limit : ℕ) (entry : Entry Step) (past : History) (legal : IsLegal li
         same_reference : (k : ℕ) (q : Reference) → Contains (with_places 0 (references_in w i)) (k, q) → name_at k ≡ name → (k, q) ≡ r
         same_reference k q h named = own (k, q) r h in_r (sym (name_there (references_in w i) k q h) ∙ named)
 
-        seen : (k : ℕ) (shown : ReferenceView) → Contains (view_places v.references) (k, shown) → name_at k ≡ name → shown ≡ reference_view e w i r
+        seen : (k : ℕ) (shown : ReferenceView) → Contains (with_places 0 v.references) (k, shown) → name_at k ≡ name → shown ≡ reference_view e w i r
         seen k shown h named =
             let found = viewed (reference_view e w i) 0 (references_in w i) k shown h in
             found.2 ∙ ap (reference_view e w i) (same_reference k found.0 found.1 named)
 
-        held_shown : (k t : ℕ) (shown : ReferenceView) → Contains (view_places v.references) (k, shown) → name_at k ≡ name → t ≡ s → is_held shown t ≡ has held s
+        held_shown : (k t : ℕ) (shown : ReferenceView) → Contains (with_places 0 v.references) (k, shown) → name_at k ≡ name → t ≡ s → is_held shown t ≡ has held s
         held_shown k t shown h named service = ap (λ (x : ReferenceView). is_held x t) (seen k shown h named) ∙ holds_seen w i e r t ∙ ap (has held) service
 
         told_revision : (q : List ℕ) (t : ℕ) → (callback ≡ Bind q t) ⊎ (callback ≡ Updated q t) → touches callback name s ≡ true → is_changed then j name s ≡ false

@@ -14,7 +14,7 @@ use Rattle.component_state.specs.Periods.{is_open}
 use Rattle.component_state.specs.Reasons.{choice_at}
 use Rattle.component_state.specs.Rows.{service_in}
 use Rattle.level_order.specs.Levels.{provides}
-use Rattle.prop_map.specs.Words.{has, with_places}
+use Rattle.prop_map.specs.Words.{has, one_if, with_places}
 use Rattle.prop_map.specs.declared.reference_words.Policy.{Policy}
 use Rattle.prop_map.specs.declared.reference_words.Policy.TheVariants.{Static, Dynamic}
 use Rattle.prop_map.specs.declared.reference_words.PolicyOption.{PolicyOption}
@@ -24,7 +24,6 @@ use Rattle.scr_minimum.proofs.CallbackSteps.{firm}
 use Rattle.scr_settling.proofs.CallbackKinds.{was_told}
 use Rattle.scr_settling.proofs.Sums.{total}
 use Rattle.scr_world.specs.Bounds.{providers_of}
-use Rattle.scr_world.specs.Room.{one_if}
 use Rattle.scr_world.specs.Views.{awaits_modified, ends, is_changed, references_in, targets_for}
 use Rattle.scr_world.specs.Worlds.{all_instances, direct_services}
 use Rattle.scr_world.specs.declared.instance.Instance.{Instance}

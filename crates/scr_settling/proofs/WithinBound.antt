@@ -4,7 +4,7 @@ use Rattle.std.specs.List.{Contains}
 use Rattle.journal_core.specs.declared.entry.Entry.{Entry}
 use Rattle.scr_settling.specs.Bounds.{IsWithinBound, turns_begun_in}
 use Rattle.scr_settling.specs.Names.{HaveOwnNames}
-use Rattle.scr_settling.specs.Settlings.{Settles}
+use Rattle.scr_settling.specs.Settlings.{OnlySettles}
 use Rattle.scr_settling.proofs.NothingCloses.{entry_closes_nothing, stays_calm}
 use Rattle.scr_settling.proofs.Potentials.{turns_left}
 use Rattle.scr_settling.proofs.SettlingWorlds.{IsSettled, settled_then}
@@ -33,14 +33,14 @@ module _ (limit : ℕ) (past : History) (legal_past : IsLegal limit past) (calm 
   names_then w is d h = names d (subst (λ (cs : List Contents). Contains (descriptions_of cs) d) is.documents h)
 
   -- all along it
-  pub settled : (entries : History) → IsLegal limit (entries ++ past) → Settles past entries → IsSettled start (world_of (entries ++ past))
+  pub settled : (entries : History) → IsLegal limit (entries ++ past) → OnlySettles past entries → IsSettled start (world_of (entries ++ past))
   settled [] legal settles = settled_at limit past legal_past
   settled (entry ∷ entries) legal settles =
       let before = settled entries legal.1 settles.1 in
       settled_then start limit entry (entries ++ past) legal settles.0 (entry_closes_nothing limit entry (entries ++ past) legal settles.0 (stays_calm past entries settles.1 calm))
       (names_then (world_of (entries ++ past)) before) before
 
-  pub turns_spent : (entries : History) → IsLegal limit (entries ++ past) → Settles past entries → turns_begun_in entries + turns_left start (world_of (entries ++ past)) ≤ turns_left start start
+  pub turns_spent : (entries : History) → IsLegal limit (entries ++ past) → OnlySettles past entries → turns_begun_in entries + turns_left start (world_of (entries ++ past)) ≤ turns_left start start
   turns_spent [] legal settles = omega arith
   turns_spent (entry ∷ entries) legal settles =
       let before = settled entries legal.1 settles.1 in
@@ -50,7 +50,7 @@ module _ (limit : ℕ) (past : History) (legal_past : IsLegal limit past) (calm 
       let count = total_cons (λ (e : Entry Step). begins_by e.step) entry entries in
       omega (arith, rest, fall, count)
 
-pub settles_within_bound : (limit : ℕ) (past entries : History) → IsLegal limit (entries ++ past) → is_calm (world_of past) ≡ true → HaveOwnNames (world_of past) → Settles past entries → IsWithinBound past entries
+pub settles_within_bound : (limit : ℕ) (past entries : History) → IsLegal limit (entries ++ past) → is_calm (world_of past) ≡ true → HaveOwnNames (world_of past) → OnlySettles past entries → IsWithinBound past entries
 settles_within_bound limit past entries legal calm names settles =
     let legal_past = legal_before limit past entries legal in
     let spent = turns_spent limit past legal_past calm names entries legal settles in

@@ -27,9 +27,9 @@ is_settling (Got bundle service) w = false
 is_settling (Released place) w = false
 
 -- behind a journal come such entries alone
-abbrev pub Settles : History → History → Type 0
-Settles past [] = ⊤
-Settles past (entry ∷ entries) = (is_settling entry.step (world_of (entries ++ past)) ≡ true) × Settles past entries
+abbrev pub OnlySettles : History → History → Type 0
+OnlySettles past [] = ⊤
+OnlySettles past (entry ∷ entries) = (is_settling entry.step (world_of (entries ++ past)) ≡ true) × OnlySettles past entries
 
 -- no entry closes a component configuration
 abbrev pub NothingCloses : History → Type 0

@@ -1,5 +1,5 @@
 //! A calm platform that settles closes no component configuration.
-ghost use Rattle.scr_settling.specs.Settlings.{NothingCloses, Settles};
+ghost use Rattle.scr_settling.specs.Settlings.{NothingCloses, OnlySettles};
 ghost use Rattle.scr_world.specs.Bounds.{is_calm};
 ghost use Rattle.scr_world.specs.Legal.{IsLegal};
 ghost use Rattle.scr_world.specs.Lists.{world_of};
@@ -10,5 +10,5 @@ ghost use Rattle.std.specs.Prelude.{◌≡◌, ◌++◌, ℕ, true};
 /// any command, and no creation or activation ends other than Done, no component configuration closes. Journals are read
 /// from the last entry back.
 pub fn note_nothing_closes()
-    ensures { (limit : ℕ) → (past entries : History) → IsLegal limit (entries ++ past) → is_calm (world_of past) ≡ true → Settles past entries → NothingCloses entries }
+    ensures { (limit : ℕ) → (past entries : History) → IsLegal limit (entries ++ past) → is_calm (world_of past) ≡ true → OnlySettles past entries → NothingCloses entries }
 {}

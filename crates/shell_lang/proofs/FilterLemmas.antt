@@ -13,7 +13,8 @@ use Rattle.ldap_filter.specs.Machine.{Frame, Mode, State, Wanted, accepted, step
 use Rattle.ldap_filter.specs.Reading.{opens, read_char, wide}
 use Rattle.ldap_filter.proofs.SoFar.{SoFar, bad_byte, bad_end, opens_bracket, so_far_byte, so_far_start, too_deep, tree_read}
 use Rattle.ldap_filter.proofs.Texts.{one_reading}
-use Rattle.component_dto.specs.Fields.{after, or_fault}
+use Rattle.prop_map.specs.Words.{after}
+use Rattle.component_dto.specs.Fields.{or_fault}
 use Rattle.shell_lang.specs.FilterTexts.{filter_from, filter_read, goes_on}
 use Rattle.shell_lang.specs.Arguments.{filter_argument, filter_fault, in_line}
 use Rattle.shell_lang.specs.LineFaults.{Reads}

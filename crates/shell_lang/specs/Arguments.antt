@@ -3,7 +3,8 @@ use Rattle.std.specs.Prelude.{ℕ, List, Result, Ok, Err}
 use Rattle.bundle_doc.specs.declared.document.BundleDoc.{BundleDoc}
 use Rattle.bundle_doc.specs.declared.fault.DocFault.{DocFault}
 use Rattle.bundle_doc.specs.Documents.{bundle_of}
-use Rattle.component_dto.specs.Fields.{after, or_fault}
+use Rattle.prop_map.specs.Words.{after}
+use Rattle.component_dto.specs.Fields.{or_fault}
 use Rattle.ldap_filter.specs.declared.filter_fault.FilterFault.{FilterFault}
 use Rattle.ldap_filter.specs.declared.filter_fault.FilterFault.TheVariants.{BadFilter, TooDeep, OutOfMemory as NoFilterMemory}
 use Rattle.ldap_filter.specs.Trees.{Tree}

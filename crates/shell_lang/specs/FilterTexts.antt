@@ -1,6 +1,7 @@
 -- What the text of a filter says, by the machine that reads filters, or why it is none. OSGi Core 8, section 3.2.7 "Filter Syntax"; the limit of 64 levels is our own.
 use Rattle.std.specs.Prelude.{ℕ, ◌+◌, ◌&&◌, List, [], ◌∷◌, Bool, true, false, Option, Some, None, Result, Ok, Err, length, nat_le, if◌then◌else◌}
-use Rattle.component_dto.specs.Fields.{after, or_fault}
+use Rattle.prop_map.specs.Words.{after}
+use Rattle.component_dto.specs.Fields.{or_fault}
 use Rattle.ldap_filter.specs.declared.filter_fault.FilterFault.{FilterFault}
 use Rattle.ldap_filter.specs.declared.filter_fault.FilterFault.TheVariants.{BadFilter, TooDeep}
 use Rattle.ldap_filter.specs.Machine.{State, accepted, start, step}

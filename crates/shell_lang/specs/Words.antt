@@ -2,7 +2,7 @@
 use Rattle.std.specs.Prelude.{ℕ, ◌+◌, ◌==◌, List, position, drop, Bool, Option, Some, None, option_map, Result, Ok, Err}
 use Rattle.std.specs.List.{before_first}
 use Rattle.std.specs.Option.{option_map_or}
-use Rattle.component_dto.specs.Fields.{after}
+use Rattle.prop_map.specs.Words.{after}
 use Rattle.fault_count.specs.DecimalText.{decimal_of}
 use Rattle.shell_lang.specs.declared.words.Misfit.{Misfit}
 

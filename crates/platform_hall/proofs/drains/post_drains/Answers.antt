@@ -18,7 +18,7 @@ pub loop-key-smaller : goal.loop-key-smaller
 loop-key-smaller c = room_falls c.loop-key.core c.drained.new.self c.in-Some.key c.in_ok-drained.ensures.limits c.in_ok-drained.ensures.ok
 
 pub drained-requires : goal.drained-requires
-drained-requires c = next_awaits (world c.loop-key.core) c.in-Some.key (sym c.in_ok-key.ensures ∙ c.in-Some.is)
+drained-requires c = next_awaits (world c.loop-key.core) c.in-Some.key (sym c.next_drain.ensures ∙ c.in-Some.is)
 
 pub returns-clause-ok : goal.returns-clause-ok
-returns-clause-ok c = none_awaits (world c.loop-key.core) (sym c.in_ok-key.ensures ∙ c.in_default.is)
+returns-clause-ok c = none_awaits (world c.loop-key.core) (sym c.next_drain.ensures ∙ c.in_default.is)

@@ -2,9 +2,9 @@ use Rattle.std.proofs.Common.{◌≡◌, ◌<◌, ℕ, ◌+◌, List, ap, sym, �
 use Rattle.std.specs.Prelude.{◌==◌, slice_index, slice_index_or}
 use Rattle.std.proofs.lemmas.Grind.{get_or_default_zero}
 use Rattle.std.proofs.lemmas.List.Sums.{sum_by-swap_remove}
-use Rattle.scr_world.specs.Room.{one_if}
 use Rattle.platform_hall.specs.Desks.{tokens_of}
 use Rattle.platform_hall.proofs.tokens.take_out.Goals as goal
+use Rattle.prop_map.specs.Words.{one_if}
 
 pub returns-clause-others : goal.returns-clause-others
 returns-clause-others c = λ n.
