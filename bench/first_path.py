@@ -1,18 +1,19 @@
 #!/usr/bin/env python3
-"""Writes a script: bundles in a chain whose consumers come before their providers, starts, stops with their cascades, and questions.
+"""Writes a script: bundles in a chain whose consumers come before their providers, starts, stops with their cascades,
+and questions.
 
 usage: first_path.py [BUNDLES [LINES]]      (100 bundles and 400 lines where nothing is said)
 
-Bundle k needs the service of bundle k + 1. So the stop of the last one takes all instances away, one callback after the other, and its
-start brings them all back.
+Bundle k needs the service of bundle k + 1. So the stop of the last one takes all instances away, one callback after
+the other, and its start brings them all back.
 """
 import json
 import sys
 
 
 def document(number, bundles):
-    """Bundle `number` references the interface of the next one, so that levels run through all of them. The first one has no service:
-    so it is immediate, and all others are wanted for its sake."""
+    """Bundle `number` references the interface of the next one, so that levels run through all of them. The first one
+    has no service: so it is immediate, and all others are wanted for its sake."""
     description = {"name": f"c{number}", "implementationClass": "Bench"}
     if number > 1:
         description["serviceInterfaces"] = [f"I{number}"]
