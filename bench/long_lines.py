@@ -44,9 +44,32 @@ def stars_without_match(size):
     return listed(size, "*x")
 
 
-def different_stars(size):
+def different(size, name):
     entries = {f"a{number}": 0 for number in range(size // 2 // 13)}
-    names = ",".join(times(size // 2 // 9, lambda number: f"*x{number}"))
+    names = ",".join(times(size // 2 // 9, name))
+    return [document_line(location(0, entries, manifest=manifest(f"Service-Component: {names}\n")))]
+
+
+def different_stars(size):
+    return different(size, lambda number: f"*x{number}")
+
+
+def different_ends(size):
+    return different(size, lambda number: f"*{number}")
+
+
+def different_beginnings(size):
+    return different(size, lambda number: f"a{number}*")
+
+
+def different_middles(size):
+    return different(size, lambda number: f"a*{number}")
+
+
+def nested_beginnings(size):
+    count = int((size // 4) ** 0.5)
+    entries = {"a" * count + f"{number}": 0 for number in range(size // 2 // (count + 9))}
+    names = ",".join(times(count, lambda number: "a" * number + "*"))
     return [document_line(location(0, entries, manifest=manifest(f"Service-Component: {names}\n")))]
 
 
@@ -139,6 +162,10 @@ ROWS = [
     ("stars over many entries", "reader_examples", stars),
     ("stars that match nothing", "reader_examples", stars_without_match),
     ("different names with stars", "reader_examples", different_stars),
+    ("names with a star at the front", "reader_examples", different_ends),
+    ("names with a star at the back", "reader_examples", different_beginnings),
+    ("names with a star inside", "reader_examples", different_middles),
+    ("beginnings that grow by a letter", "reader_examples", nested_beginnings),
     ("keys in properties", "reader_examples", property_keys),
     ("headers of a manifest", "reader_examples", manifest_headers),
     ("interfaces of a component", "osgi_run", interfaces),

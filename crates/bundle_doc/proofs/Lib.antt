@@ -1,5 +1,9 @@
+pub mod Beginnings
 pub mod EachOf
+pub mod EndLemmas
 pub mod EntryLemmas
 pub mod Machines
 pub mod Meanings
 pub mod NameLemmas
+pub mod PlaceLemmas
+pub mod StarLemmas

@@ -16,7 +16,7 @@ use Rattle.component_dto.specs.TextLists.{first_repeated}
 use Rattle.bundle_doc.specs.declared.document.BundleDoc.{BundleDoc}
 use Rattle.bundle_doc.specs.declared.fault.DocFault.{DocFault}
 use Rattle.bundle_doc.specs.declared.fault.DocFault.TheVariants.{NotJson, MissingField, WrongType, MissingEntry, SameComponent, InEntry, OutOfMemory}
-use Rattle.bundle_doc.specs.Entries.{chosen}
+use Rattle.bundle_doc.specs.Entries.{described_entries}
 use Rattle.bundle_doc.specs.Headers.{headers_of}
 
 abbrev pub text_in : List ℕ → Data → Result (List ℕ) DocFault
@@ -92,7 +92,7 @@ document_of d =
     after (text_at (codes "manifest") d) (λ manifest.
     after (object_or_none (codes "components") (given (codes "components") d)) (λ _.
     after (headers_of location manifest) (λ headers.
-    after (chosen (entries_of (given (codes "components") d)) headers.listed) (λ names.
+    after (described_entries (entries_of (given (codes "components") d)) headers.listed) (λ names.
     after (each_of (described (given (codes "components") d)) names) (λ descriptions.
     after (told_apart descriptions) (λ _.
     Ok (record {

@@ -26,6 +26,6 @@ taken_behind entries found [] = Ok found
 taken_behind entries found (name ∷ names) = after (taken entries name) (λ new. taken_behind entries (with_new found new) names)
 
 -- the entries that are descriptions, in their order
-abbrev pub chosen : List (List ℕ) → Listed → Result (List (List ℕ)) DocFault
-chosen entries Every = Ok entries
-chosen entries (Named names) = taken_behind entries [] names
+abbrev pub described_entries : List (List ℕ) → Listed → Result (List (List ℕ)) DocFault
+described_entries entries Every = Ok entries
+described_entries entries (Named names) = taken_behind entries [] names

@@ -1,16 +1,19 @@
 //! Which entries of a document are its descriptions.
-ghost use Rattle.std.specs.Prelude.{◌≡◌, [], IfOk, filter, map, option_map};
+ghost use Rattle.std.specs.Prelude.{◌≡◌, [], IfOk, filter, map, option_map, slice_get};
+ghost use Rattle.std.specs.List.{filter_map};
 ghost use Rattle.serde_json.specs.View.{members_view, view};
 ghost use Rattle.prop_map.specs.JsonProperties.{keys_of};
 ghost use Rattle.prop_map.specs.Words.{after};
 ghost use Rattle.bundle_doc.specs.Documents.{entries_of};
-ghost use Rattle.bundle_doc.specs.Entries.{chosen, taken, taken_behind, with_new};
+ghost use Rattle.bundle_doc.specs.Entries.{described_entries, taken, taken_behind, with_new};
 ghost use Rattle.bundle_doc.specs.Faults.{Reads};
 ghost use Rattle.bundle_doc.specs.Names.{matches};
 
 use crate::DocFault;
+use crate::entries_by_end::EntriesByEnd;
 use crate::headers::Listed;
-use crate::names::{folder, is_pattern, last_part, matches, parted};
+use crate::matching::matching_places;
+use crate::names::is_pattern;
 use crate::text_list::TextList;
 use component_dto::each_once;
 use prop_map::{Copies, List, OutOfMemory, Str};
@@ -63,12 +66,12 @@ fn keys_among(alloc: Global, pairs: &[(&String, &Value)]) -> Result<List<Str>, O
 ///
 /// # Errors
 /// `MissingEntry` of the first name without a star that is none of the entries.
-pub(crate) fn chosen(
+pub(crate) fn described_entries(
     alloc: Global,
     entries: List<Str>,
     listed: Listed,
 ) -> Result<List<Str>, DocFault>
-    ensures { Reads result (chosen entries listed) }
+    ensures { Reads result (described_entries entries listed) }
 {
     match listed {
         Listed::Every => Ok(entries),
@@ -80,12 +83,12 @@ pub(crate) fn chosen(
 fn taken(alloc: Global, entries: List<Str>, names: List<Str>) -> Result<List<Str>, DocFault>
     ensures { Reads result (taken_behind entries [] names) }
 {
-    let entries = TextList::of(alloc, entries)?;
+    let entries = EntriesByEnd::of(alloc, entries)?;
     let names = each_once(alloc, names)?;
     taken_once(alloc, &entries, names.as_slice())
 }
 
-fn taken_once(alloc: Global, entries: &TextList, names: &[Str]) -> Result<List<Str>, DocFault>
+fn taken_once(alloc: Global, entries: &EntriesByEnd, names: &[Str]) -> Result<List<Str>, DocFault>
     ensures { Reads result (taken_behind entries.now [] names.now) }
 {
     let mut found = TextList::new(alloc);
@@ -98,14 +101,14 @@ fn taken_once(alloc: Global, entries: &TextList, names: &[Str]) -> Result<List<S
 // With the entries that one more name takes.
 fn with_name(
     alloc: Global,
-    entries: &TextList,
+    entries: &EntriesByEnd,
     found: TextList,
     name: &Str,
 ) -> Result<TextList, DocFault>
     ensures { Reads result (after (taken entries.now name.now) (λ new. Ok (with_new found new))) }
 {
     if is_pattern(name.as_str()) {
-        return Ok(with_matching(alloc, entries.as_slice(), found, name)?);
+        return Ok(with_matching(alloc, entries, found, name)?);
     }
     if !entries.has(name) {
         return Err(DocFault::MissingEntry {
@@ -117,17 +120,27 @@ fn with_name(
 
 fn with_matching(
     alloc: Global,
-    entries: &[Str],
+    entries: &EntriesByEnd,
     found: TextList,
     name: &Str,
 ) -> Result<TextList, OutOfMemory>
     ensures { IfOk result (λ now. now ≡ with_new found (filter (matches name.now) entries.now)) }
 {
-    let folder = folder(name.as_str());
-    let parts = parted(alloc, last_part(name.as_str()), '*')?;
+    let places = matching_places(alloc, entries, name.as_str())?;
+    with_entries_at(alloc, entries, found, &places)
+}
+
+fn with_entries_at(
+    alloc: Global,
+    entries: &EntriesByEnd,
+    found: TextList,
+    places: &[usize],
+) -> Result<TextList, OutOfMemory>
+    ensures { IfOk result (λ now. now ≡ with_new found (filter_map (slice_get entries.now) places.now)) }
+{
     let mut found = found;
-    for entry in entries {
-        if matches(folder, parts.as_slice(), entry.as_str()) {
+    for place in places {
+        if let Some(entry) = entries.get(*place) {
             found = found.with(alloc, entry)?;
         }
     }

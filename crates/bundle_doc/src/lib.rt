@@ -3,9 +3,11 @@
 
 mod document;
 mod entries;
+mod entries_by_end;
 mod fault;
 mod fields;
 mod headers;
+mod matching;
 mod names;
 mod reading;
 mod shared_texts;

@@ -5,7 +5,7 @@ ghost use Rattle.component_dto.specs.Descriptions.{description_of};
 ghost use Rattle.bundle_doc.specs.Documents.{bundle_of, described, document_of, each_of, in_entry, names_of, told_apart};
 ghost use Rattle.bundle_doc.specs.Faults.{Reads};
 
-use crate::entries::{chosen, entries_of};
+use crate::entries::{described_entries, entries_of};
 use crate::fields::{check_object, needed_text_at, text_at};
 use crate::headers::headers_of;
 use crate::{BundleDoc, DocFault};
@@ -57,7 +57,7 @@ fn document(alloc: Global, json: &Value) -> Result<BundleDoc, DocFault>
     let components = given(json, "components");
     check_object(alloc, components, "components")?;
     let headers = headers_of(alloc, &location, manifest)?;
-    let names = chosen(alloc, entries_of(alloc, components)?, headers.listed)?;
+    let names = described_entries(alloc, entries_of(alloc, components)?, headers.listed)?;
     let descriptions = all_described(alloc, components, names.as_slice())?;
     check_names(alloc, descriptions.as_slice())?;
     Ok(BundleDoc {

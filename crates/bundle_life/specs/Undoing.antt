@@ -6,7 +6,7 @@ use Rattle.prop_map.specs.Words.{insert_by}
 use Rattle.bundle_life.specs.declared.bundle.BundleEvent.{BundleEvent}
 use Rattle.bundle_life.specs.declared.bundle.BundleLife.{BundleLife}
 use Rattle.bundle_life.specs.Lives.{BundleTable, bundle_of, is_installed, is_stopping, state_is}
-use Rattle.bundle_life.specs.Numbers.{AreNumbered, IsGiven, stops, without_number}
+use Rattle.bundle_life.specs.Numbers.{AreNumbered, IsGiven, SavedBundles, stops, without_number}
 
 -- what is kept of a bundle before a step: its row, how many events there were, and for how many rows there is room
 pub record Kept : Type 0 where
@@ -52,6 +52,10 @@ pub record IsKeptOf (kept : Kept) (t : BundleTable) : Type 0 where
 -- a step of the bundle that was kept, which it undoes to be put back
 abbrev pub IsUndoneBy : Kept → BundleTable → BundleTable → Type 0
 IsUndoneBy kept before now = CanPutBack kept now × IsStepped kept.row.number before now
+
+-- the table as it was saved, with of the events that stand the first, as many as there were
+abbrev pub gone_back : SavedBundles → BundleTable → BundleTable
+gone_back saved t = record { rows = saved.rows; numbered = saved.numbered; events = take saved.events t.events }
 
 -- the bundle and the event that came last are those of an install
 abbrev pub is_install : ℕ → Option BundleLife → Option BundleEvent → Bool

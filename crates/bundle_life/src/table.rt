@@ -2,7 +2,7 @@
 ghost use Rattle.bundle_life.specs.Numbers.{saved_of, stops};
 ghost use Rattle.bundle_life.specs.Lives.{BundleTable, after_install, after_uninstall, after_update, bundle_at, bundle_of, events_of, in_state, is_active, is_stopping, namesake, new_row, no_bundles, state_is, state_number, stop_completed, unresolving};
 ghost use Rattle.bundle_life.specs.Refusals.{IsRefusedBy, install_answer, install_refusal, installed_once, no_bundle, start_refusal, started_once, stop_begun_once, stop_refusal, uninstall_refusal, update_refusal};
-ghost use Rattle.bundle_life.specs.Undoing.{CanPutBack, IsKeptOf, IsStepped, IsUndoneBy, Kept, is_install, last_of, with_kept};
+ghost use Rattle.bundle_life.specs.Undoing.{CanPutBack, IsKeptOf, IsStepped, IsUndoneBy, Kept, gone_back, is_install, last_of, with_kept};
 ghost use Rattle.bundle_life.specs.declared.bundle.BundleEvent.{BundleEvent};
 ghost use Rattle.bundle_life.specs.declared.bundle.BundleLife.{BundleLife};
 ghost use Rattle.bundle_life.specs.declared.bundle.BundleState.TheVariants.{Active};
@@ -388,10 +388,12 @@ impl Bundles {
         })
     }
 
-    /// Makes the table what it was when it was saved, where it has only gained events since. It takes no memory.
+    /// Leaves the rows and the numbers that were saved, and of the events that stand the first, as many as there were. This
+    /// is the table that was saved where it has only gained events since. It takes no memory.
     pub fn go_back(&mut self, saved: Saved)
         requires { saved.events + count_by stops saved.rows ≤ length self.old.events + count_by stops self.old.rows }
-        ensures { (before : BundleTable) (more : List BundleEvent) → saved ≡ saved_of before → self.old.events ≡ before.events ++ more → self.new ≡ before }
+        ensures back { self.new ≡ gone_back saved self.old }
+        ensures undone { (before : BundleTable) (more : List BundleEvent) → saved ≡ saved_of before → self.old.events ≡ before.events ++ more → self.new ≡ before }
     {
         let Saved { rows, owed, events } = saved;
         self.events.cut(events, owed);

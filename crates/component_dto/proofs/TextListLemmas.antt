@@ -1,7 +1,7 @@
 -- A list of texts that is taken in text by text.
 use Rattle.std.proofs.Common.{◌≡◌, ℕ, List, [], ◌∷◌, ◌++◌, ap, sym, ◌∙◌, refl, Bool, true, false, cond, not, ◌||◌, append-nil, Bor, ◌<◌, ◌+◌, suc, length, get_or, take, drop, Some, Option, add-one, drop-cons}
 use Rattle.std.specs.Prelude.{map}
-use Rattle.std.specs.List.{list_any, filter}
+use Rattle.std.specs.List.{filter}
 use Rattle.std.specs.Str.{bytes_eq}
 use Rattle.std.proofs.lemmas.Slice.Eq.{bytes_eq-Decides}
 use Rattle.std.proofs.lemmas.List.Elements.{filter-append}

@@ -69,9 +69,6 @@ impl GivenFields {
 fn references(alloc: Global, fields: List<ReferenceFields>) -> Result<List<Reference>, OutOfMemory>
     ensures { IfOk result (λ references. references ≡ map (λ (r : ReferenceFields). r.reference) fields) }
 {
-    let mut references = Vec::new(alloc);
-    for fields in fields.items() {
-        references.push(fields.reference)?;
-    }
-    Ok(List::of(references))
+    let references = fields.items().into_iter().map(|fields| fields.reference);
+    Ok(List::of(references.collect(alloc)?))
 }

@@ -38,11 +38,11 @@ period_same cs p = go (component_of cs p.configuration)
     go None = (refl, refl)
     go (Some c) = (refl, refl)
 
-open_same : (cs : List Component) (ps : List OpenPeriod) (n : ℕ) → is_open (map (with_present_properties cs) ps) n ≡ is_open ps n
+pub open_same : (cs : List Component) (ps : List OpenPeriod) (n : ℕ) → is_open (map (with_present_properties cs) ps) n ≡ is_open ps n
 open_same cs [] n = refl
 open_same cs (p ∷ ps) n = ap (λ k. (k == n) || is_open (map (with_present_properties cs) ps) n) (period_same cs p).0 ∙ ap (λ b. (p.configuration == n) || b) (open_same cs ps n)
 
-current_same : (cs : List Component) (ps : List OpenPeriod) (o : Origin) → is_current (map (with_present_properties cs) ps) o ≡ is_current ps o
+pub current_same : (cs : List Component) (ps : List OpenPeriod) (o : Origin) → is_current (map (with_present_properties cs) ps) o ≡ is_current ps o
 current_same cs [] o = refl
 current_same cs (p ∷ ps) o =
     ap (λ k. ((k == o.configuration) && nat_lt (with_present_properties cs p).opened o.created) || is_current (map (with_present_properties cs) ps) o) (period_same cs p).0

@@ -13,8 +13,9 @@ mod how_many;
 mod properties;
 mod property_draft;
 
-use crate::{BundleRow, ComponentRow, WorldRows};
+use crate::{ComponentRow, WorldRows};
 pub use bundle_view::BundleView;
+pub(crate) use bundle_view::bundle_views;
 use component_dto::{ConfigurationPolicy, Description};
 pub use component_view::ComponentView;
 pub(crate) use component_view::with_number;
@@ -26,9 +27,9 @@ use prop_map::{OutOfMemory, Str};
 use properties::component_properties;
 use std::alloc::Global;
 
-/// The component configurations that there are to be, by bundle, then in the order of the descriptions, then by the PIDs
-/// of the factory's configurations, without their numbers: of each ACTIVE bundle, for each of its enabled descriptions one
-/// for each configuration of its factory PID, or just one where it has none.
+/// The component configurations that there are to be, by bundle, then in the order of the descriptions, then by the
+/// PIDs of the factory's configurations, without their numbers: of each ACTIVE bundle, for each of its enabled
+/// descriptions one for each configuration of its factory PID, or just one where it has none.
 ///
 /// # Errors
 /// Only want of memory.
@@ -38,7 +39,7 @@ pub fn configurations_of(
 ) -> Result<Vec<ComponentRow>, OutOfMemory>
     ensures { IfOk result (λ rows. rows.items ≡ configurations_of worlds.now.bundles worlds.now.configurations) }
 {
-    let bundles = views_of(alloc, worlds.bundles.as_slice())?;
+    let bundles = bundle_views(alloc, worlds.bundles.as_slice())?;
     let components = components_for_bundles(
         alloc,
         bundles.as_slice(),
@@ -58,27 +59,12 @@ pub fn components_for_bundles<'d>(
 ) -> Result<Vec<ComponentView<'d>>, OutOfMemory>
     ensures { IfOk result (λ components. components.items ≡ component_configurations bundles.now configurations.entry.now) }
 {
-    let index = ConfigurationIndex::of(alloc, configurations)?;
+    let index = ConfigurationIndex::of(configurations);
     let mut found = Vec::new(alloc);
     for bundle in bundles {
         push_for_bundle(alloc, bundle, &index, &mut found)?;
     }
     Ok(found)
-}
-
-fn views_of<'d>(alloc: Global, bundles: &'d [BundleRow]) -> Result<Vec<BundleView<'d>>, OutOfMemory>
-    ensures { IfOk result (λ views. views.items ≡ bundles.entry.now) }
-{
-    let mut views = Vec::new(alloc);
-    for bundle in bundles {
-        views.push(BundleView::of(
-            bundle.id,
-            bundle.state,
-            bundle.descriptions.as_slice(),
-            bundle.enabled.as_slice(),
-        ))?;
-    }
-    Ok(views)
 }
 
 fn rows_of(

@@ -10,9 +10,10 @@ use crate::component_configurations::{ComponentView, with_number};
 use prop_map::{Copies, List, OutOfMemory, Str};
 use std::alloc::{AllocError, Global};
 
-/// The component configurations after the entry at a place, where so many were numbered before it and these are to be in it.
-/// One that there was and that is to be goes on under its number, with the properties that it is to have; where these differ
-/// from those that it had, the place is noted. One that isn't to be any more ceases. Those that come are numbered on.
+/// The component configurations after the entry at a place, where so many were numbered before it and these are to be
+/// in it. One that there was and that is to be goes on under its number, with the properties that it is to have; where
+/// these differ from those that it had, the place is noted. One that isn't to be any more ceases. Those that come are
+/// numbered on.
 ///
 /// # Errors
 /// Only want of memory. That no number is left counts as such.

@@ -122,9 +122,9 @@ impl ComponentStates {
         without(&mut self.instances, instance);
     }
 
-    /// The state of a component configuration, as it is since the last pass: 1 where it lacks the configuration that its
-    /// policy asks for, 2 where it isn't satisfied, 16 where it failed, 8 where it is open with an active instance, else 4.
-    /// None where there is no such component configuration, or it has ceased.
+    /// The state of a component configuration, as it is since the last pass: 1 where it lacks the configuration that
+    /// its policy asks for, 2 where it isn't satisfied, 16 where it failed, 8 where it is open with an active instance,
+    /// else 4. None where there is no such component configuration, or it has ceased.
     pub fn state_of(&self, configuration: u64) -> Option<u8>
         ensures { result ≡ state_of self.now configuration }
     {

@@ -44,8 +44,8 @@ pub fn needs_of(alloc: Global, component: &Component) -> Result<List<Need>, OutO
     )
 }
 
-/// Whether the policy of a component configuration asks for a configuration, and one of its PIDs has none that counts. It takes
-/// no memory.
+/// Whether the policy of a component configuration asks for a configuration, and one of its PIDs has none that counts.
+/// It takes no memory.
 pub fn lacks_configuration(component: &Component) -> bool
     ensures { result ≡ lacks_configuration component.now }
 {

@@ -1,5 +1,5 @@
-//! Component configurations and their open periods: which there are to be, what is satisfied, evaluated from scratch, and the
-//! pass that closes and opens after each entry of the journal (OSGi Compendium 8, chapter 112).
+//! Component configurations and their open periods: which there are to be, what is satisfied, evaluated from scratch,
+//! and the pass that closes and opens after each entry of the journal (OSGi Compendium 8, chapter 112).
 #![tactic(auto)]
 
 mod choices;

@@ -40,13 +40,13 @@ fn still_failed(
 ) -> Result<Vec<u64>, OutOfMemory>
     ensures { IfOk result (λ v. v.items ≡ filter (λ n. has satisfied.now n && exists_unchanged place components.now n) failed.now) }
 {
-    let mut found = Vec::new(alloc);
-    for &number in failed {
-        if has(satisfied, number) && exists_unchanged(place, components, number) {
-            found.push(number)?;
-        }
-    }
-    Ok(found)
+    failed
+        .iter()
+        .copied()
+        .filter(|number| {
+            has(satisfied, *number) && exists_unchanged(place, components, *number)
+        })
+        .collect(alloc)
 }
 
 fn existing(
@@ -56,13 +56,11 @@ fn existing(
 ) -> Result<Vec<u64>, OutOfMemory>
     ensures { IfOk result (λ v. v.items ≡ filter (exists components.now) numbers.now) }
 {
-    let mut found = Vec::new(alloc);
-    for &number in numbers {
-        if exists(components, number) {
-            found.push(number)?;
-        }
-    }
-    Ok(found)
+    numbers
+        .iter()
+        .copied()
+        .filter(|number| exists(components, *number))
+        .collect(alloc)
 }
 
 // Whether it hasn't ceased, and the entry at this place didn't change its properties.

@@ -9,8 +9,8 @@ ghost use Rattle.prop_map.specs.Words.{has};
 ghost use Rattle.std.specs.List.{Contains};
 ghost use Rattle.std.specs.Prelude.{◌≡◌, ◌≤◌, ℕ};
 
-/// For contracts alone: where no living instance's Create began after the entry, the pass of an entry has one result. And
-/// after a pass those are open that are satisfied from scratch and aren't held back.
+/// For contracts alone: where no living instance's Create began after the entry, the pass of an entry has one result.
+/// And after a pass those are open that are satisfied from scratch and aren't held back.
 #[tactic(auto, using(crate::proofs::OnePass::one_pass))]
 pub fn note_one_pass()
     ensures one { (s : Stage) → IsReady s → ((l : Origin) → Contains s.origins l → l.created ≤ s.place) → (p q : Passed) → HasPassed s p → HasPassed s q → p ≡ q }

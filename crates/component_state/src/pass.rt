@@ -1,5 +1,5 @@
-//! The pass after an entry's step: what closes and what opens (OSGi Compendium 8, chapter 112, "Satisfied"; the order is our
-//! own).
+//! The pass after an entry's step: what closes and what opens (OSGi Compendium 8, chapter 112, "Satisfied"; the order
+//! is our own).
 ghost use Rattle.component_state.specs.Inside.Ready.{IsReady};
 ghost use Rattle.component_state.specs.Passes.{HasPassed};
 ghost use Rattle.std.specs.Prelude.{◌≡◌, IfOk};
@@ -26,8 +26,8 @@ pub struct Passed {
     pub next_service: u64,
 }
 
-/// The pass of an entry: it goes up the levels, closes what was open and has a reason to close, and opens what is satisfied,
-/// isn't held back and wasn't open. New services are numbered on. It changes nothing that it looks at.
+/// The pass of an entry: it goes up the levels, closes what was open and has a reason to close, and opens what is
+/// satisfied, isn't held back and wasn't open. New services are numbered on. It changes nothing that it looks at.
 ///
 /// # Errors
 /// Only want of memory. That no number is left for a service counts as such.

@@ -1,5 +1,5 @@
-//! The plain pass: the pass over the rows of a platform, with its component configurations asked for anew (OSGi Compendium
-//! 8, chapter 112, "Satisfied").
+//! The plain pass: the pass over the rows of a platform, with its component configurations asked for anew (OSGi
+//! Compendium 8, chapter 112, "Satisfied").
 ghost use Rattle.component_state.specs.ComponentStates.{IsPlainPass, MayPass, components_in, failed_in, numbered_in, origins_of, remains, stage_in};
 ghost use Rattle.component_state.specs.Marks.{failed_after};
 ghost use Rattle.component_state.specs.Passes.{HasPassed};
@@ -10,7 +10,7 @@ ghost use Rattle.service_registry.specs.declared.row.ServiceRow.{ServiceRow};
 ghost use Rattle.std.specs.List.{list_any};
 ghost use Rattle.std.specs.Prelude.{◌≡◌, ◌≤◌, ◌+◌, ◌-◌, ◌==◌, ◌||◌, IfOk, OnErr, filter, flat_map, length, map};
 
-use crate::component_configurations::{BundleView, components_for_bundles};
+use crate::component_configurations::{bundle_views, components_for_bundles};
 use crate::component_rows::components_after;
 use crate::instance_lives::{has_instance, origins_of};
 use crate::marks::failed_after;
@@ -34,8 +34,9 @@ pub struct PassEnd {
     pub opened: List<Opened>,
 }
 
-/// The pass over the rows of a platform. The component configurations are asked for anew, then the pass goes up the levels,
-/// closes what was open and has a reason to close, and opens what is satisfied, isn't held back and wasn't open.
+/// The pass over the rows of a platform. The component configurations are asked for anew, then the pass goes up the
+/// levels, closes what was open and has a reason to close, and opens what is satisfied, isn't held back and wasn't
+/// open.
 ///
 /// # Errors
 /// Only want of memory, and nothing has changed. That no number is left counts as such.
@@ -126,24 +127,6 @@ fn numbered_after(
     numbered.checked_add(came as u64).ok_or(AllocError)
 }
 
-fn bundle_views<'d>(
-    alloc: Global,
-    bundles: &'d [BundleRow],
-) -> Result<Vec<BundleView<'d>>, OutOfMemory>
-    ensures { IfOk result (λ views. views.items ≡ bundles.entry.now) }
-{
-    let mut views = Vec::new(alloc);
-    for bundle in bundles {
-        views.push(BundleView::of(
-            bundle.id,
-            bundle.state,
-            bundle.descriptions.as_slice(),
-            bundle.enabled.as_slice(),
-        ))?;
-    }
-    Ok(views)
-}
-
 // Those of these that haven't ceased, are open or have a living instance.
 fn remaining<'c>(
     alloc: Global,
@@ -152,13 +135,10 @@ fn remaining<'c>(
 ) -> Result<Vec<&'c Component>, OutOfMemory>
     ensures { IfOk result (λ v. map (λ c. c.now) v.items ≡ filter (remains state.now) components.entry.now) }
 {
-    let mut found = Vec::new(alloc);
-    for component in components {
-        if remains(state, component) {
-            found.push(component)?;
-        }
-    }
-    Ok(found)
+    components
+        .iter()
+        .filter(|component| remains(state, component))
+        .collect(alloc)
 }
 
 fn remains(state: &ComponentStates, component: &Component) -> bool

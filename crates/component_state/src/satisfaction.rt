@@ -11,8 +11,8 @@ use crate::components::lacks_configuration;
 use crate::{Component, OpenPeriod, Stage};
 use reference_match::{Need, is_met_standing};
 
-// Whether a component configuration hasn't ceased, has the configuration that its policy asks for, and each of its needs
-// has its minimum of targets where these are open.
+// Whether a component configuration hasn't ceased, has the configuration that its policy asks for, and each of its
+// needs has its minimum of targets where these are open.
 pub(crate) fn exists_satisfied(
     stage: &Stage,
     open_now: &[OpenPeriod],

@@ -1,5 +1,5 @@
-//! The services of component configurations (OSGi Compendium 8, chapter 112, "Service Properties"; OSGi Core 8, chapter 5,
-//! "Service Properties", "Service Scope").
+//! The services of component configurations (OSGi Compendium 8, chapter 112, "Service Properties"; OSGi Core 8, chapter
+//! 5, "Service Properties", "Service Scope").
 ghost use Rattle.component_state.specs.Components.{component_of};
 ghost use Rattle.component_state.specs.Rows.{no_row, published_by, row_by, row_in, scope_text};
 ghost use Rattle.prop_map.specs.Maps.{IsInOrder, put};
@@ -13,8 +13,8 @@ use prop_map::{Copies, List, OutOfMemory, Properties, Property};
 use service_registry::{ServiceRow, with_service_properties};
 use std::alloc::Global;
 
-// The service of the component configuration of a number, as it is under a service's number at a revision. Where there is
-// no such component configuration, it offers nothing.
+// The service of the component configuration of a number, as it is under a service's number at a revision. Where there
+// is no such component configuration, it offers nothing.
 pub(crate) fn row_in(
     alloc: Global,
     components: &[Component],
@@ -61,8 +61,8 @@ fn no_row(alloc: Global, service: u64, revision: u64) -> ServiceRow
     }
 }
 
-/// What a component configuration publishes under a service's number: its properties but for the private ones, and those
-/// that every service has over them.
+/// What a component configuration publishes under a service's number: its properties but for the private ones, and
+/// those that every service has over them.
 ///
 /// # Errors
 /// Only want of memory. That a number is none of 64 bits with a sign counts as such.

@@ -2,8 +2,9 @@
 ghost use Rattle.config_admin.specs.Configurations.{of_pid, with_configuration, without_pid};
 ghost use Rattle.config_admin.specs.Orders.{AreByPid};
 ghost use Rattle.config_admin.specs.Refusals.{IsRefusedBy, delete_refusal};
+ghost use Rattle.config_admin.specs.declared.config_fault.ConfigFault.TheVariants.{NoConfiguration};
 ghost use Rattle.config_admin.specs.Undoing.{overwritten, with_exchanged};
-ghost use Rattle.std.specs.Prelude.{◌≡◌, ◌<◌, length, IfOk, OnErr, OnOk, Some};
+ghost use Rattle.std.specs.Prelude.{◌≡◌, ◌<◌, length, IfErr, IfOk, OnErr, OnOk, Some};
 
 use crate::rows::place_of;
 use crate::{ConfigFault, Configuration, Overwritten};
@@ -57,6 +58,7 @@ pub(crate) fn take_out(
     ensures configuration { IfOk result (λ configuration. of_pid pid.now rows.old.items ≡ Some configuration) }
     ensures pid { IfOk result (λ configuration. configuration.pid ≡ pid.now) }
     ensures refused { IsRefusedBy (delete_refusal pid.now rows.old.items) result }
+    ensures fault { IfErr result (λ fault. fault ≡ NoConfiguration) }
     ensures now { rows.new.items ≡ without_pid pid.now rows.old.items }
     ensures fewer { OnOk result (length rows.new.items < length rows.old.items) }
     ensures err { OnErr result (rows.new.items ≡ rows.old.items) }

@@ -3,10 +3,11 @@ ghost use Rattle.config_admin.specs.Configurations.{factory_configuration, facto
 ghost use Rattle.config_admin.specs.Orders.{AreByPid};
 ghost use Rattle.config_admin.specs.Undoing.{overwritten, with_earlier};
 ghost use Rattle.config_admin.specs.Refusals.{IsRefusedBy, delete_refusal, set_factory_refusal, set_refusal};
+ghost use Rattle.config_admin.specs.declared.config_fault.ConfigFault.TheVariants.{NoConfiguration};
 ghost use Rattle.config_admin.specs.declared.configuration.Configuration.{Configuration};
 ghost use Rattle.std.specs.Option.{option_copied};
 ghost use Rattle.config_admin.specs.declared.overwritten.Overwritten.{Overwritten};
-ghost use Rattle.std.specs.Prelude.{◌≡◌, ◌<◌, [], List, Some, length, map, IfOk, OnErr, OnOk};
+ghost use Rattle.std.specs.Prelude.{◌≡◌, ◌<◌, [], List, Some, length, map, IfErr, IfOk, OnErr, OnOk};
 
 use crate::configuration::{factory_configuration, own_configuration};
 use crate::refusals::{set_factory_refusal, set_refusal};
@@ -189,13 +190,15 @@ impl Configurations {
     pub fn delete(&mut self, pid: &str) -> Result<(), ConfigFault>
         ensures ok { OnOk result (self.new ≡ without_pid pid.now self.old) }
         ensures refused { IsRefusedBy (delete_refusal pid.now self.old) result }
+        ensures fault { IfErr result (λ fault. fault ≡ NoConfiguration) }
         ensures err { OnErr result (self.new ≡ self.old) }
     {
         let _configuration = self.remove(pid)?;
         Ok(())
     }
 
-    /// Deletes the configuration of a PID as `delete` does, and hands it out. To `put_back` it undoes that.
+    /// Deletes the configuration of a PID as `delete` does, and hands it out. To `put_back` it undoes that. It takes no
+    /// memory.
     ///
     /// # Errors
     /// As those of `delete`.
@@ -204,6 +207,7 @@ impl Configurations {
         ensures pid { IfOk result (λ configuration. configuration.pid ≡ pid.now) }
         ensures ok { OnOk result (self.new ≡ without_pid pid.now self.old) }
         ensures refused { IsRefusedBy (delete_refusal pid.now self.old) result }
+        ensures fault { IfErr result (λ fault. fault ≡ NoConfiguration) }
         ensures fewer { OnOk result (length self.new < length self.old) }
         ensures err { OnErr result (self.new ≡ self.old) }
     {

@@ -2,6 +2,7 @@
 ghost use Rattle.callback_orders.specs.Lives.{held_by, held_for};
 ghost use Rattle.instance_callbacks.specs.ByName.{held_in, services_in};
 ghost use Rattle.std.specs.Prelude.{◌≡◌, ◌==◌, ◌++◌, ◌∷◌, ℕ, [], filter, not, List, IfOk, OnOk, if◌then◌else◌};
+ghost use Rattle.std.specs.Option.{unwrap_or};
 ghost use Rattle.std.specs.Str.{bytes_eq};
 
 use crate::services::Services;
@@ -69,9 +70,27 @@ fn add(
 ) -> Result<(), OutOfMemory>
     ensures { OnOk result ((name : List ℕ) → services_in by_name.new name ≡ (if bytes_eq reference.now name then services_in by_name.old name ++ service ∷ [] else services_in by_name.old name)) }
 {
-    let mut services = taken(alloc, by_name, reference);
+    let one = Services::one(alloc, service)?;
+    match put(alloc, by_name, reference, one)? {
+        Some(services) => add_behind(alloc, by_name, reference, services, service),
+        None => Ok(()),
+    }
+}
+
+// One service more behind those that a reference has had.
+fn add_behind(
+    alloc: Global,
+    by_name: &mut BTreeMap<String, Services>,
+    reference: &Str,
+    services: Services,
+    service: u64,
+) -> Result<(), OutOfMemory>
+    ensures { OnOk result ((name : List ℕ) → services_in by_name.new name ≡ (if bytes_eq reference.now name then services ++ service ∷ [] else services_in by_name.old name)) }
+{
+    let mut services = services;
     services.add(service)?;
-    put(alloc, by_name, reference, services)
+    put(alloc, by_name, reference, services)?;
+    Ok(())
 }
 
 // A service is held no more for a reference.
@@ -85,7 +104,8 @@ fn let_go(
 {
     let mut services = taken(alloc, by_name, reference);
     services.let_go(service);
-    put(alloc, by_name, reference, services)
+    put(alloc, by_name, reference, services)?;
+    Ok(())
 }
 
 // Takes the services of a reference out.
@@ -99,18 +119,19 @@ fn taken(alloc: Global, by_name: &mut BTreeMap<String, Services>, reference: &St
     }
 }
 
-// Puts services in for a reference.
+// Puts services in for a reference, and gives those that it had.
 fn put(
     alloc: Global,
     by_name: &mut BTreeMap<String, Services>,
     reference: &Str,
     services: Services,
-) -> Result<(), OutOfMemory>
-    ensures { OnOk result ((name : List ℕ) → services_in by_name.new name ≡ (if bytes_eq reference.now name then services else services_in by_name.old name)) }
+) -> Result<Option<Services>, OutOfMemory>
+    ensures had { IfOk result (λ had. unwrap_or had [] ≡ services_in by_name.old reference.now) }
+    ensures rest { OnOk result ((name : List ℕ) → services_in by_name.new name ≡ (if bytes_eq reference.now name then services else services_in by_name.old name)) }
 {
     let key = String::from_str(alloc, reference.as_str())?;
     match by_name.insert(key, services) {
-        Ok(_) => Ok(()),
+        Ok(had) => Ok(had),
         Err(_) => Err(AllocError),
     }
 }

@@ -13,13 +13,13 @@ use Rattle.component_state.proofs.Apart.{any_found, any_from, either_way, in_cas
 use Rattle.journal_core.specs.declared.entry.Entry.{Entry}
 use Rattle.turn_runner.specs.declared.turn_work.TurnWork.{TurnWork}
 use Rattle.turn_runner.specs.Outcomes.{needs_object}
-use Rattle.scr_entries.proofs.Activated.{outstanding_begun}
-use Rattle.scr_entries.proofs.Begins.{Makes}
-use Rattle.scr_entries.proofs.CallbackFronts.{none_out}
-use Rattle.scr_entries.proofs.Sequences.{told_one, told_other}
+use Rattle.scr_laws.proofs.Activated.{outstanding_begun}
+use Rattle.scr_laws.proofs.Begins.{Makes}
+use Rattle.scr_laws.proofs.CallbackFronts.{none_out}
+use Rattle.scr_laws.proofs.Sequences.{told_one, told_other}
 use Rattle.scr_laws.proofs.Listed.{found_was}
-use Rattle.scr_numbers.proofs.InstanceLemmas.{begun_cases, mapped_in, told_same}
-use Rattle.scr_numbers.proofs.Numbering.{next_turn}
+use Rattle.scr_laws.proofs.InstanceLemmas.{begun_cases, mapped_in, told_same}
+use Rattle.scr_laws.proofs.Numbering.{next_turn}
 use Rattle.scr_world.specs.Calls.{Takes, world_at}
 use Rattle.scr_world.specs.Dues.{next_begin}
 use Rattle.scr_world.specs.Instances.{begun_by, created_at, has_turn, last_callback, with_callback_begun}

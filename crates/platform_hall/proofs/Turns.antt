@@ -12,13 +12,13 @@ use Rattle.callback_orders.specs.Sequences.{begun, have_ended, is_outstanding}
 use Rattle.component_state.specs.declared.origin.Choice.{Choice}
 use Rattle.component_state.specs.Inside.Ready.{are_apart}
 use Rattle.component_state.proofs.Apart.{in_cases, in_first, in_rest, one_of}
-use Rattle.scr_entries.proofs.Begins.{Makes, Tells, TellsBoard, begin_is}
-use Rattle.scr_entries.proofs.LegalOrder.{legal_ordered}
-use Rattle.scr_entries.proofs.Ordered.{AreOrdered}
-use Rattle.scr_entries.proofs.Sequences.{no_board}
-use Rattle.scr_entries.proofs.TurnOrder.{legal_turns_apart}
-use Rattle.scr_gates.proofs.LivingLaws.{legal_told}
-use Rattle.scr_numbers.proofs.Numbering.{next_turn}
+use Rattle.scr_laws.proofs.Begins.{Makes, Tells, TellsBoard, begin_is}
+use Rattle.scr_laws.proofs.LegalOrder.{legal_ordered}
+use Rattle.scr_laws.proofs.Ordered.{AreOrdered}
+use Rattle.scr_laws.proofs.Sequences.{no_board}
+use Rattle.scr_laws.proofs.TurnOrder.{legal_turns_apart}
+use Rattle.scr_laws.proofs.LivingLaws.{legal_told}
+use Rattle.scr_laws.proofs.Numbering.{next_turn}
 use Rattle.scr_world.specs.Dues.{begin_for, begin_of, due_in, next_begin}
 use Rattle.scr_world.specs.Instances.{BeforeTurn, has_turn, with_callback_begun, with_effect_of_begin, with_outcome}
 use Rattle.scr_world.specs.Legal.{IsLegal, MayCome}

@@ -1,3 +1,4 @@
+pub mod Cores
 pub mod Platforms
 pub mod SettleBounds
 pub mod Desks

@@ -2,7 +2,7 @@
 use Rattle.std.proofs.Common.{◌≡◌, ℕ, List, subst, sym, refl, Bool, false, Ok, Err, inl, inr}
 use Rattle.std.specs.declared.option.Option.{Option}
 use Rattle.fault_count.specs.Steps.{Rose}
-use Rattle.scr_core.specs.Cores.{CoreView}
+use Rattle.platform_hall.specs.Cores.{CoreView}
 use Rattle.shell_lang.specs.ShellLines.{Asked, shell_line, is_quit}
 use Rattle.turn_runner.specs.declared.settle_fault.SettleFault.{SettleFault}
 use Rattle.turn_runner.specs.declared.settle_fault.SettleFault.TheVariants.{Unsettled as StillDue, JournalFull as NoRoom, OutOfMemory}

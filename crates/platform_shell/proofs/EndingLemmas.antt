@@ -9,7 +9,7 @@ use Rattle.turn_runner.specs.declared.settle_fault.SettleFault.TheVariants.{Unse
 use Rattle.platform_shell.specs.declared.status.Status.{Status}
 use Rattle.platform_shell.specs.declared.status.Status.TheVariants.{Done, Usage, ReadFault, WriteFault, NoMemory, JournalFull, LineTooLong, Unsettled}
 use Rattle.platform_shell.specs.Lines.{Line, is_too_long, lines_of}
-use Rattle.scr_core.specs.Cores.{CoreView}
+use Rattle.platform_hall.specs.Cores.{CoreView}
 use Rattle.shell_lang.specs.ShellLines.{shell_line, is_quit}
 use Rattle.platform_shell.specs.Asks.{Setting}
 use Rattle.platform_shell.specs.Cuts.{CutsFirst}

@@ -17,7 +17,7 @@ use Rattle.scr_world.specs.declared.reply.Reply.{Reply}
 use Rattle.scr_world.specs.declared.step.Step.{Step}
 use Rattle.scr_world.specs.declared.step.Step.TheVariants.{Command as Stepped, Begin, End, Drained as DrainStep, Got, Released}
 use Rattle.scr_world.specs.Calls.{Grown, GrownIf}
-use Rattle.scr_core.specs.Cores.{CoreView}
+use Rattle.platform_hall.specs.Cores.{CoreView}
 use Rattle.scr_world.specs.Legal.{IsLegal}
 use Rattle.scr_world.specs.Refusals.{refusal, refuse_if}
 use Rattle.scr_world.specs.Replies.{answer, changes, has_effect, reply}

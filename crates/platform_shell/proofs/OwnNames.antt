@@ -7,10 +7,10 @@ use Rattle.component_dto.specs.declared.description.Description.{Description}
 use Rattle.component_state.proofs.Apart.{in_cases, in_either, in_first, in_left, in_none, in_right, kept_was}
 use Rattle.component_state.proofs.Plain.{in_mapped}
 use Rattle.journal_core.specs.declared.entry.Entry.{Entry}
-use Rattle.scr_core.specs.Cores.{CoreView}
+use Rattle.platform_hall.specs.Cores.{CoreView}
 use Rattle.scr_laws.proofs.Described.{flagged_keeps, into_flat}
 use Rattle.scr_laws.proofs.Documents.{in_flat, set_back_keeps}
-use Rattle.scr_settling.specs.Names.{HaveOwnNames}
+use Rattle.scr_life_laws.specs.Names.{HaveOwnNames}
 use Rattle.scr_world.specs.declared.command.Command.{Command}
 use Rattle.scr_world.specs.declared.command.Command.TheVariants.{Install, Update, Start, Stop, Uninstall, Enable, Disable, Register, Unregister, SetProperties, Get, Unget, Listen, Unlisten, Configure, ConfigureFactory, Unconfigure}
 use Rattle.scr_world.specs.declared.contents.Contents.{Contents}

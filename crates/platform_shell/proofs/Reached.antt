@@ -4,7 +4,7 @@ use Rattle.std.specs.declared.option.Option.{Option}
 use Rattle.std.specs.Io.KnownBytes.{Appends, Consumes}
 use Rattle.std.proofs.KnownBytes.{Consumes-nil, Consumes-trans}
 use Rattle.fault_count.specs.Steps.{next_count}
-use Rattle.scr_core.specs.Cores.{CoreView}
+use Rattle.platform_hall.specs.Cores.{CoreView}
 use Rattle.shell_lang.specs.declared.shell_reply.ShellReply.{ShellReply}
 use Rattle.shell_lang.specs.ShellLines.{shell_line, is_quit}
 use Rattle.platform_shell.specs.declared.line_input.LineStep.TheVariants.{Line as OfLine, Failed}

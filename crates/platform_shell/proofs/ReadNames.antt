@@ -8,7 +8,7 @@ use Rattle.bundle_doc.specs.declared.document.BundleDoc.{BundleDoc}
 use Rattle.bundle_doc.specs.declared.fault.DocFault.{DocFault}
 use Rattle.bundle_doc.specs.declared.fault.DocFault.TheVariants.{MissingEntry, NotJson}
 use Rattle.bundle_doc.specs.Documents.{bundle_of, described, document_of, each_of, entries_of, in_entry, json_of, needed_text_at, object_or_none, of_object, text_at, told_apart}
-use Rattle.bundle_doc.specs.Entries.{chosen}
+use Rattle.bundle_doc.specs.Entries.{described_entries}
 use Rattle.bundle_doc.specs.Headers.{headers_of}
 use Rattle.component_dto.specs.declared.description.Description.{Description}
 use Rattle.component_dto.specs.declared.description.Reference.{Reference}
@@ -93,7 +93,7 @@ document_named value doc is =
     goes_on (text_at (codes "manifest") value) _ doc rest (λ manifest three rest.
     goes_on (object_or_none (codes "components") (given (codes "components") value)) _ doc rest (λ b four rest.
     goes_on (headers_of location manifest) _ doc rest (λ headers five rest.
-    goes_on (chosen (entries_of (given (codes "components") value)) headers.listed) _ doc rest (λ names six rest.
+    goes_on (described_entries (entries_of (given (codes "components") value)) headers.listed) _ doc rest (λ names six rest.
     goes_on (each_of (described (given (codes "components") value)) names) _ doc rest (λ ds seven rest.
     goes_on (told_apart ds) _ doc rest (λ c eight last.
     (let same : ds ≡ doc.descriptions = cc in same_named ds doc.descriptions same (each_named (given (codes "components") value) names ds seven))))))))))

@@ -1,7 +1,7 @@
 -- A line that is run, and its reply written. Our own form.
 use Rattle.std.specs.Prelude.{◌≡◌, ◌<◌, ◌⊎◌, ℕ, List, Option, Result, Ok, Err, is_some, length, take, true}
 use Rattle.std.specs.Io.KnownBytes.{Appends}
-use Rattle.scr_core.specs.Cores.{CoreView}
+use Rattle.platform_hall.specs.Cores.{CoreView}
 use Rattle.shell_lang.specs.declared.shell_reply.ShellReply.{ShellReply}
 use Rattle.shell_lang.specs.ShellLines.{Asked}
 use Rattle.turn_runner.specs.declared.settle_fault.SettleFault.TheVariants.{Unsettled as StillDue, JournalFull as NoRoom, OutOfMemory}

@@ -13,7 +13,7 @@ use Rattle.scr_world.specs.declared.reply.Reply.{Reply}
 use Rattle.scr_world.specs.declared.reply.Reply.TheVariants.{Done as InCore, Bundle as OfBundle, Service as OfService, Uses as OfUses, Listener as OfListener}
 use Rattle.scr_world.specs.declared.lines.HeldLine.{HeldLine}
 use Rattle.scr_world.specs.declared.lines.TurnLine.{TurnLine}
-use Rattle.scr_core.specs.Cores.{CoreView}
+use Rattle.platform_hall.specs.Cores.{CoreView}
 use Rattle.scr_readers.specs.Events.{events_told, has_listener}
 use Rattle.scr_report.specs.Reports.{report_in}
 use Rattle.scr_world.specs.declared.world.World.{World}

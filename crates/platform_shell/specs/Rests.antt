@@ -1,6 +1,6 @@
 -- A platform at rest behind a line. Our own form.
 use Rattle.std.specs.Prelude.{◌≡◌, ℕ, Bool, true, false, Ok}
-use Rattle.scr_core.specs.Cores.{CoreView}
+use Rattle.platform_hall.specs.Cores.{CoreView}
 use Rattle.scr_world.specs.Quiet.{IsQuiet, IsRight}
 use Rattle.platform_hall.specs.Platforms.{none_under_way, world}
 use Rattle.platform_hall.specs.SettleBounds.{SettlesWithin}

@@ -8,7 +8,7 @@ use Rattle.journal_core.specs.declared.entry.Entry.{Entry}
 use Rattle.scr_world.specs.declared.command.Command.{Command}
 use Rattle.scr_world.specs.declared.step.Step.{Step}
 use Rattle.scr_world.specs.declared.step.Step.TheVariants.{Command as Stepped}
-use Rattle.scr_core.specs.Cores.{CoreView}
+use Rattle.platform_hall.specs.Cores.{CoreView}
 use Rattle.scr_world.specs.Legal.{IsLegal}
 use Rattle.scr_world.specs.Steps.{history_of}
 use Rattle.turn_runner.specs.declared.settle_fault.SettleFault.{SettleFault}

@@ -1,5 +1,5 @@
 //! Room for the rows of a table, taken before a row is taken out, so that it can be put back without memory.
-ghost use Rattle.std.specs.Prelude.{◌≡◌, ◌≤◌, ◌<◌, IfOk, insert, vec_len};
+ghost use Rattle.std.specs.Prelude.{◌≡◌, ◌≤◌, ◌<◌, [], IfOk, insert, vec_capacity, vec_len};
 
 use prop_map::OutOfMemory;
 use std::alloc::Global;
@@ -34,8 +34,17 @@ impl<T: Drop> RowRoom<T> {
         })
     }
 
-    /// Puts a row at a place among others. Where there is no room beside them they move into this one. It
-    /// takes no memory.
+    /// An empty list with this room. It takes no memory.
+    pub fn list(self) -> Vec<T>
+        ensures empty { result.items ≡ [] }
+        ensures room { vec_capacity result ≡ self }
+    {
+        let RowRoom { rows } = self;
+        rows
+    }
+
+    /// Puts a row at a place among others, and never fails: rows without room beside them may grow where there is memory,
+    /// and move into this room where there is none.
     pub fn insert(self, rows: &mut Vec<T>, place: usize, row: T)
         requires within { place ≤ vec_len rows.old }
         requires room { vec_len rows.old < self }

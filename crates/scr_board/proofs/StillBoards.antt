@@ -11,13 +11,13 @@ use Rattle.journal_core.specs.declared.entry.Entry.{Entry}
 use Rattle.prop_map.specs.Words.{has}
 use Rattle.scr_board.specs.Board.{HasSameRows}
 use Rattle.scr_board.proofs.SameRows.{same_rows}
-use Rattle.scr_holdings.proofs.HeldSteps.{board_references}
-use Rattle.scr_holdings.proofs.KnownLaws.{IsHeldAs, hold_as, known_found}
+use Rattle.scr_life_laws.proofs.HeldSteps.{board_references}
+use Rattle.scr_life_laws.proofs.KnownLaws.{IsHeldAs, hold_as, known_found}
 use Rattle.scr_readers.specs.Board.{board_changes, changes_board}
-use Rattle.scr_services.specs.Services.{known_services}
-use Rattle.scr_services.proofs.PeriodSteps.{renewed}
-use Rattle.scr_services.proofs.RegistrySteps.{number_of}
-use Rattle.scr_services.proofs.ServiceLaws.{AreServices, IsKind, of_platform, of_command, of_component, of_those_left, are_services, component_in, direct_in, goes_up, known_given, known_kind, known_one, new_number, platform_in, registered_known, rows_then, then_was, was_known}
+use Rattle.scr_life_laws.specs.Services.{known_services}
+use Rattle.scr_life_laws.proofs.PeriodSteps.{renewed}
+use Rattle.scr_life_laws.proofs.RegistrySteps.{number_of}
+use Rattle.scr_life_laws.proofs.ServiceLaws.{AreServices, IsKind, of_platform, of_command, of_component, of_those_left, are_services, component_in, direct_in, goes_up, known_given, known_kind, known_one, new_number, platform_in, registered_known, rows_then, then_was, was_known}
 use Rattle.scr_world.specs.Instances.{has_turn}
 use Rattle.scr_world.specs.Legal.{IsLegal}
 use Rattle.scr_world.specs.Lists.{world_after_entry, world_of}

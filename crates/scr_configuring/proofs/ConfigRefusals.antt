@@ -10,7 +10,7 @@ use Rattle.config_admin.specs.declared.configuration.Configuration.{Configuratio
 use Rattle.journal_core.specs.Rooms.{JournalRows}
 use Rattle.prop_map.specs.Words.{first_some, is_empty}
 use Rattle.prop_map.specs.declared.properties.Property.{Property}
-use Rattle.scr_changing.specs.Changing.{Changes}
+use Rattle.scr_judgements.specs.Changing.{Changes}
 use Rattle.scr_configuring.specs.ConfigRefusals.{core_fault}
 use Rattle.scr_judgements.proofs.Drafted.{descriptions_stay, levels_stay}
 use Rattle.scr_judgements.proofs.Judged.{no_memory, refused}

@@ -1,6 +1,6 @@
 //! The refusals of the table of configurations as those of commands, and what a command comes to that it takes (OSGi Compendium
 //! 8, chapter 104, "Configuration Objects").
-ghost use Rattle.scr_changing.specs.Changing.{ChangesUnlessFull};
+ghost use Rattle.scr_judgements.specs.Changing.{ChangesUnlessFull};
 ghost use Rattle.scr_configuring.specs.ConfigRefusals.{core_fault};
 ghost use Rattle.scr_judgements.specs.Drafting.{no_tables};
 ghost use Rattle.scr_judgements.specs.Judgements.{JudgesStep};
@@ -10,8 +10,7 @@ ghost use Rattle.std.specs.Prelude.{◌≡◌, Some};
 
 use config_admin::{ConfigFault, Configurations};
 use journal_core::Journal;
-use scr_changing::change_asking;
-use scr_judgements::{Judgement, TablesAfter};
+use scr_judgements::{Judgement, TablesAfter, change_asking};
 use scr_state::State;
 use scr_world::{CoreFault, Reply, Step};
 use std::alloc::Global;

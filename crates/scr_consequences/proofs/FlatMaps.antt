@@ -29,3 +29,8 @@ module _ {X A : Type 0} where
   flat_map_fewer f r m nothing (x ∷ xs) =
       by_tests f x (filter r xs) (filter r (filter m xs)) (r x) (m x) (nothing x) (flat_map_fewer f r m nothing xs)
       ∙ ap (flat_map f) (sym (filtered_first r x (filter m xs) (m x)))
+
+  -- where no item gives anything nothing is given
+  pub flat_map_nothing : (f : X → List A) → ((x : X) → f x ≡ []) → (xs : List X) → flat_map f xs ≡ []
+  flat_map_nothing f nothing [] = refl
+  flat_map_nothing f nothing (x ∷ xs) = ap (λ (l : List A). l ++ flat_map f xs) (nothing x) ∙ flat_map_nothing f nothing xs

@@ -1,4 +1,5 @@
 pub mod AllChanges
+pub mod BoundLemmas
 pub mod BundleNumbers
 pub mod DirectLemmas
 pub mod DrainingLemmas

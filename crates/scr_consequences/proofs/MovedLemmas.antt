@@ -1,7 +1,7 @@
 -- A component configuration whose periods stand in both lists has one service in both, with one revision: nothing happened to it.
-use Rattle.std.proofs.Common.{◌≡◌, ℕ, zero, suc, Bool, true, false, List, [], ◌∷◌, ◌++◌, ◌∙◌, ap, sym, refl, cond}
+use Rattle.std.proofs.Common.{◌≡◌, ℕ, zero, suc, Bool, true, false, List, [], ◌∷◌, ◌++◌, ◌∙◌, ap, sym, refl, cond, arith, length}
 use Rattle.std.specs.Prelude.{Option, Some, None, ◌==◌, ◌&&◌, not}
-use Rattle.std.proofs.lemmas.Bool.{and_parts, eqb-true}
+use Rattle.std.proofs.lemmas.Bool.{and_parts, eq-eqb, eqb-true}
 use Rattle.std.proofs.lemmas.Grind.{flat_map-append}
 use Rattle.std.specs.List.{flat_map}
 use Rattle.prop_map.specs.Words.{has}
@@ -11,14 +11,14 @@ use Rattle.component_state.specs.declared.component.Component.{Component}
 use Rattle.component_state.specs.declared.open_period.OpenPeriod.{OpenPeriod}
 use Rattle.scr_world.specs.Lists.{change_between, change_of_one, row_at}
 use Rattle.scr_consequences.specs.Changes.{change_at}
-use Rattle.scr_consequences.specs.Moves.{is_unmoved, moved, numbered_in}
-use Rattle.scr_consequences.proofs.FlatMaps.{flat_map_fewer}
+use Rattle.scr_consequences.specs.Moves.{is_unmoved, moved, numbered_in, period_stays, periods_behind}
+use Rattle.scr_consequences.proofs.FlatMaps.{flat_map_fewer, flat_map_nothing}
 use Rattle.scr_consequences.proofs.RowAtLemmas.{is_of, is_real, not_open, or_left, or_right, row_at-cons, skipped}
 use Rattle.service_listeners.specs.Listening.{Change}
 use Rattle.service_registry.specs.declared.row.ServiceRow.{ServiceRow}
 
 -- one service with one revision
-one_service : (old new : ServiceRow) → (old.id == new.id) ≡ true → (old.revision == new.revision) ≡ true → change_of_one old new ≡ []
+pub one_service : (old new : ServiceRow) → (old.id == new.id) ≡ true → (old.revision == new.revision) ≡ true → change_of_one old new ≡ []
 one_service old new same kept = rw (same, kept)
 
 kept_by : (p q : OpenPeriod) (old new : Option ServiceRow) (of real : Bool) → change_of_one p.row q.row ≡ [] → change_between old new ≡ []
@@ -44,20 +44,46 @@ kept p q was now n unmoved later =
 left : (p : OpenPeriod) (was : List OpenPeriod) (new : Option ServiceRow) (n : ℕ) → is_of n p ≡ false → change_between (row_at was n) new ≡ [] → change_between (row_at (p ∷ was) n) new ≡ []
 left p was new n other later = ap (λ (o : Option ServiceRow). change_between o new) (skipped p was n other) ∙ later
 
-along : (p q : OpenPeriod) (was now : List OpenPeriod) (n : ℕ) (same : Bool) → is_unmoved p q ≡ same → has (cond same (moved was now) (p.configuration ∷ moved was (q ∷ now))) n ≡ false
-    → (has (moved was now) n ≡ false → change_between (row_at was n) (row_at now n) ≡ [])
-    → (has (moved was (q ∷ now)) n ≡ false → change_between (row_at was n) (row_at (q ∷ now) n) ≡ [])
-    → change_between (row_at (p ∷ was) n) (row_at (q ∷ now) n) ≡ []
-along p q was now n true e none both one = kept p q was now n e (both none)
-along p q was now n false e none both one =
-    left p was (row_at (q ∷ now) n) n (or_left (is_of n p) (has (moved was (q ∷ now)) n) none) (one (or_right (is_of n p) (has (moved was (q ∷ now)) n) none))
+-- behind a period of another component configuration
+behind_at : (configuration n : ℕ) (now : List OpenPeriod) → (configuration == n) ≡ false → row_at (periods_behind configuration now) n ≡ row_at now n
+behind_at configuration n [] other = refl
+behind_at configuration n (q ∷ now) other = by_first (q.configuration == configuration) refl
+  where
+    by_first : (b : Bool) → (q.configuration == configuration) ≡ b → row_at (cond b now (q ∷ now)) n ≡ row_at (q ∷ now) n
+    by_first true same = sym (skipped q now n (ap (λ (m : ℕ). m == n) (eqb-true q.configuration configuration same) ∙ other))
+    by_first false same = refl
+
+-- behind one that stays
+behind_same : (p q : OpenPeriod) (now : List OpenPeriod) → is_unmoved p q ≡ true → periods_behind p.configuration (q ∷ now) ≡ now
+behind_same p q now unmoved =
+    let parts = and_parts (p.configuration == q.configuration) ((p.row.id == q.row.id) && (p.row.revision == q.row.revision)) unmoved in
+    ap (λ b. cond b now (q ∷ now)) (eq-eqb q.configuration p.configuration (sym (eqb-true p.configuration q.configuration parts.0)))
+
+along : (p : OpenPeriod) (was now : List OpenPeriod) (n : ℕ) (stays : Bool) → period_stays p now ≡ stays
+    → has (cond stays (moved was (periods_behind p.configuration now)) (p.configuration ∷ moved was (periods_behind p.configuration now))) n ≡ false
+    → (has (moved was (periods_behind p.configuration now)) n ≡ false → change_between (row_at was n) (row_at (periods_behind p.configuration now) n) ≡ [])
+    → change_between (row_at (p ∷ was) n) (row_at now n) ≡ []
+along p was [] n true e none more = cc
+along p was (q ∷ now) n true e none more = kept p q was now n e (ap (λ (ps : List OpenPeriod). change_between (row_at was n) (row_at ps n)) (sym (behind_same p q now e)) ∙ more none)
+along p was now n false e none more =
+    let rest = moved was (periods_behind p.configuration now) in
+    let other : is_of n p ≡ false = or_left (is_of n p) (has rest n) none in
+    left p was (row_at now n) n other (ap (change_between (row_at was n)) (sym (behind_at p.configuration n now other)) ∙ more (or_right (is_of n p) (has rest n) none))
 
 -- a component configuration of which no period moved
 pub unmoved_at : (was now : List OpenPeriod) (n : ℕ) → has (moved was now) n ≡ false → change_between (row_at was n) (row_at now n) ≡ []
 unmoved_at [] now n none = ap (change_between None) (not_open now n none)
-unmoved_at (p ∷ was) [] n none =
-    left p was (row_at [] n) n (or_left (is_of n p) (has (moved was []) n) none) (unmoved_at was [] n (or_right (is_of n p) (has (moved was []) n) none))
-unmoved_at (p ∷ was) (q ∷ now) n none = along p q was now n (is_unmoved p q) refl none (unmoved_at was now n) (unmoved_at was (q ∷ now) n)
+unmoved_at (p ∷ was) now n none = along p was now n (period_stays p now) refl none (unmoved_at was (periods_behind p.configuration now) n)
+
+-- where no period moved nothing happened
+pub nothing_moved : (was now : List OpenPeriod) → moved was now ≡ [] → (ds : List Description) (levels : List ℕ) (cs : List Component)
+    → flat_map (change_at was now) (pass_order ds levels cs) ≡ []
+nothing_moved was now none ds levels cs =
+    flat_map_nothing (change_at was now) (λ c. unmoved_at was now c.number (ap (λ (ns : List ℕ). has ns c.number) none)) (pass_order ds levels cs)
+
+pub none_left : (numbers : List ℕ) (n : ℕ) → length numbers ≡ n → (n == 0) ≡ true → numbers ≡ []
+none_left [] n long none = refl
+none_left (m ∷ numbers) n long none = absurd (omega (arith, long, eqb-true n 0 none))
 
 -- so the others need not be looked at
 module _ (was now : List OpenPeriod) (numbers : List ℕ) (all : (n : ℕ) → has numbers n ≡ has (moved was now) n) (ds : List Description) (levels : List ℕ) where

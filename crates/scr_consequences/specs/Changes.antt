@@ -8,6 +8,10 @@ use Rattle.component_state.specs.declared.component.Component.{Component}
 use Rattle.component_state.specs.declared.open_period.OpenPeriod.{OpenPeriod}
 use Rattle.scr_world.specs.Lists.{change_between, row_at}
 
+-- a direct service is the one that its number finds
+abbrev pub IsOwn : List ServiceRow → ServiceRow → Type 0
+IsOwn rows r = row_of rows r.id ≡ Some r
+
 -- a direct service that was there, and what it is now
 abbrev pub change_from : List ServiceRow → ServiceRow → List Change
 change_from now r = change_between (Some r) (row_of now r.id)

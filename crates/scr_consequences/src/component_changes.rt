@@ -89,7 +89,11 @@ pub(crate) fn tell_of_components(
     ensures ok { OnOk result (listeners.new ≡ after_changes (flat_map (change_at was_periods.now now_periods.now) (pass_order descriptions.now levels.now components.now)) listeners.old) }
     ensures told { HasTold listeners.old listeners.new }
 {
-    let moved = SortedNumbers::of(moved_periods(alloc, was_periods, now_periods)?);
+    let numbers = moved_periods(alloc, was_periods, now_periods)?;
+    if numbers.is_empty() {
+        return Ok(());
+    }
+    let moved = SortedNumbers::of(numbers);
     let some = numbered_in(alloc, &moved, components)?;
     let ordered = in_pass_order(alloc, some.as_slice(), descriptions, levels)?;
     tell_of_each(

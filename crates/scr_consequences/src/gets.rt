@@ -1,15 +1,17 @@
 //! The gets that stand (OSGi Core 8, chapter 5, "Unregistering Services"; chapter 4, "Stopping Bundles"): those of registered
 //! services for ACTIVE bundles.
+ghost use Rattle.component_state.specs.Rows.{rows_of};
 ghost use Rattle.prop_map.specs.Words.{has};
 ghost use Rattle.scr_consequences.specs.Gets.{stands, token_stands, use_stands};
 ghost use Rattle.scr_world.specs.Lists.{is_active_bundle, tokens_in, uses_in};
 ghost use Rattle.scr_world.specs.Worlds.{is_registered};
+ghost use Rattle.service_registry.specs.Services.{ids};
 ghost use Rattle.std.specs.List.{Contains};
 ghost use Rattle.std.specs.Prelude.{◌≡◌, ◌<◌, ℕ, IfNone, IfOk, IfSome, false, filter, length};
 ghost use Rattle.use_counts.specs.declared.uses.UseRow.{UseRow};
 
 use crate::endings::is_active_bundle;
-use crate::registered::registered_numbers;
+use crate::registered::{is_registered_with, opened_numbers};
 use crate::sorted_numbers::SortedNumbers;
 use prop_map::{Copies, List, OutOfMemory};
 use scr_world::{Token, World};
@@ -18,22 +20,22 @@ use use_counts::{UseCounts, UseRow};
 
 // Whether a get of a service for a bundle stands.
 #[tactic(auto, unfolding(crate::specs::Gets::stands))]
-fn stands(now: &World, registered: &SortedNumbers, service: u64, bundle: u64) -> bool
-    requires { (number : ℕ) → has registered.now number ≡ is_registered now.now number }
+fn stands(now: &World, opened: &SortedNumbers, service: u64, bundle: u64) -> bool
+    requires { (number : ℕ) → has opened.now number ≡ has (ids (rows_of now.now.open_periods)) number }
     ensures { result ≡ stands now.now service bundle }
 {
-    registered.has(service) && is_active_bundle(&now.bundles, bundle)
+    is_registered_with(now, opened, service) && is_active_bundle(&now.bundles, bundle)
 }
 
 // A get that doesn't stand, if there is one.
 #[tactic(auto, using(crate::proofs::FilterLemmas::there_at))]
-fn first_ended(now: &World, registered: &SortedNumbers, uses: &[UseRow]) -> Option<UseRow>
-    requires { (number : ℕ) → has registered.now number ≡ is_registered now.now number }
+fn first_ended(now: &World, opened: &SortedNumbers, uses: &[UseRow]) -> Option<UseRow>
+    requires { (number : ℕ) → has opened.now number ≡ has (ids (rows_of now.now.open_periods)) number }
     ensures none { IfNone result (filter (use_stands now.now) uses.now ≡ uses.now) }
     ensures some { IfSome result (λ row. (use_stands now.now row ≡ false) × Contains uses.now row) }
 {
     for row in uses {
-        if !stands(now, registered, row.service, row.bundle) {
+        if !stands(now, opened, row.service, row.bundle) {
             return Some(*row);
         }
     }
@@ -62,13 +64,13 @@ fn end_of_service(now: &World, row: &UseRow, uses: &mut UseCounts)
 
 // Ends the gets that end with one that doesn't stand.
 #[tactic(auto, using(crate::proofs::GetLemmas::ends_for_bundle))]
-fn end_like(now: &World, registered: &SortedNumbers, row: &UseRow, uses: &mut UseCounts)
-    requires known { (number : ℕ) → has registered.now number ≡ is_registered now.now number }
+fn end_like(now: &World, opened: &SortedNumbers, row: &UseRow, uses: &mut UseCounts)
+    requires known { (number : ℕ) → has opened.now number ≡ has (ids (rows_of now.now.open_periods)) number }
     requires ended { use_stands now.now row.now ≡ false }
     ensures kept { filter (use_stands now.now) uses.new ≡ filter (use_stands now.now) uses.old }
     ensures less { Contains uses.old row.now → length uses.new < length uses.old }
 {
-    if registered.has(row.service) {
+    if is_registered_with(now, opened, row.service) {
         end_of_bundle(now, row, uses);
     } else {
         end_of_service(now, row, uses);
@@ -76,12 +78,12 @@ fn end_like(now: &World, registered: &SortedNumbers, row: &UseRow, uses: &mut Us
 }
 
 // Ends the gets that don't stand. It takes no memory.
-fn end_others(now: &World, registered: &SortedNumbers, uses: &mut UseCounts)
-    requires { (number : ℕ) → has registered.now number ≡ is_registered now.now number }
+fn end_others(now: &World, opened: &SortedNumbers, uses: &mut UseCounts)
+    requires { (number : ℕ) → has opened.now number ≡ has (ids (rows_of now.now.open_periods)) number }
     ensures { uses.new ≡ filter (use_stands now.now) uses.old }
 {
-    while let Some(row) = first_ended(now, registered, uses.rows()) {
-        end_like(now, registered, &row, uses);
+    while let Some(row) = first_ended(now, opened, uses.rows()) {
+        end_like(now, opened, &row, uses);
     }
 }
 
@@ -93,9 +95,12 @@ fn end_others(now: &World, registered: &SortedNumbers, uses: &mut UseCounts)
 pub fn uses_in(alloc: Global, now: &World) -> Result<UseCounts, OutOfMemory>
     ensures { IfOk result (λ uses. uses ≡ uses_in now.now) }
 {
-    let registered = registered_numbers(alloc, now)?;
     let mut uses = now.uses.copy(alloc)?;
-    end_others(now, &registered, &mut uses);
+    if uses.rows().is_empty() {
+        return Ok(uses);
+    }
+    let opened = opened_numbers(alloc, now)?;
+    end_others(now, &opened, &mut uses);
     Ok(uses)
 }
 
@@ -103,15 +108,15 @@ pub fn uses_in(alloc: Global, now: &World) -> Result<UseCounts, OutOfMemory>
 fn tokens_standing(
     alloc: Global,
     now: &World,
-    registered: &SortedNumbers,
+    opened: &SortedNumbers,
     tokens: &[Token],
 ) -> Result<List<Token>, OutOfMemory>
-    requires { (number : ℕ) → has registered.now number ≡ is_registered now.now number }
+    requires { (number : ℕ) → has opened.now number ≡ has (ids (rows_of now.now.open_periods)) number }
     ensures { IfOk result (λ found. found ≡ filter (token_stands now.now) tokens.now) }
 {
     let mut found = Vec::new(alloc);
     for token in tokens {
-        if stands(now, registered, token.service, token.bundle) {
+        if stands(now, opened, token.service, token.bundle) {
             found.push(*token)?;
         }
     }
@@ -126,6 +131,10 @@ fn tokens_standing(
 pub fn tokens_in(alloc: Global, now: &World) -> Result<List<Token>, OutOfMemory>
     ensures { IfOk result (λ tokens. tokens ≡ tokens_in now.now) }
 {
-    let registered = registered_numbers(alloc, now)?;
-    tokens_standing(alloc, now, &registered, now.tokens.as_slice())
+    let tokens = now.tokens.as_slice();
+    if tokens.is_empty() {
+        return Ok(List::of(Vec::new(alloc)));
+    }
+    let opened = opened_numbers(alloc, now)?;
+    tokens_standing(alloc, now, &opened, tokens)
 }

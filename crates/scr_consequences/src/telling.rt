@@ -13,8 +13,7 @@ ghost use Rattle.std.specs.List.{AllPairs};
 ghost use Rattle.std.specs.Prelude.{◌≡◌, ◌<◌, OnErr, OnOk};
 
 use crate::component_changes::tell_of_components;
-use crate::direct_changes::{ids_of, tell_of_new, tell_of_old};
-use crate::sorted_numbers::SortedNumbers;
+use crate::direct_changes::{tell_of_new, tell_of_old};
 use component_dto::Description;
 use component_state::OpenPeriod;
 use prop_map::OutOfMemory;
@@ -41,9 +40,8 @@ fn tell_all(
         → listeners.new ≡ after_changes (changes_between was now.now) listeners.old) }
     ensures told { HasTold listeners.old listeners.new }
 {
-    let before = SortedNumbers::of(ids_of(alloc, was_rows)?);
     tell_of_old(alloc, listeners, was_rows, &now.registry)?;
-    tell_of_new(alloc, listeners, &before, now.registry.rows())?;
+    tell_of_new(alloc, listeners, was_rows, now.registry.rows())?;
     tell_of_components(
         alloc,
         listeners,

@@ -5,7 +5,7 @@ use Rattle.callback_orders.specs.declared.callback.Callback.TheVariants.{Create}
 use Rattle.callback_orders.specs.declared.due.DueRef.{DueRef}
 use Rattle.callback_orders.specs.declared.due.DueRef.TheVariants.{Create as CreateDue, Bind, Updated, Unbind, Activate, Modified, Deactivate, Destroy}
 use Rattle.scr_core.specs.Steps.{is_beginning}
-use Rattle.scr_gates.specs.Gates.{shuts_nothing}
+use Rattle.scr_laws.specs.Gates.{shuts_nothing}
 use Rattle.scr_world.specs.Dues.{begin_for, begin_of, choices, due_in, next_begin}
 use Rattle.scr_world.specs.Legal.{MayCome}
 use Rattle.scr_world.specs.TurnSteps.{is_turn_step}

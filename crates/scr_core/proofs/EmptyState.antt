@@ -2,7 +2,7 @@
 use Rattle.std.proofs.Common.{◌≡◌, ◌∙◌, ℕ, [], ap, refl, sym}
 use Rattle.journal_core.specs.Rooms.{empty_journal}
 use Rattle.prop_map.specs.Words.{has}
-use Rattle.scr_entries.proofs.Reserved.{first_reserved}
+use Rattle.scr_laws.proofs.Reserved.{first_reserved}
 use Rattle.scr_state.specs.Keeps.{Keeps}
 use Rattle.scr_state.specs.declared.state.State.{State}
 use Rattle.scr_world.specs.Levels.{levels_of}

@@ -8,9 +8,9 @@ use Rattle.callback_orders.specs.declared.due.DueRef.{DueRef}
 use Rattle.callback_orders.specs.declared.due.DueRef.TheVariants.{Create as CreateDue, Bind, Updated, Unbind, Activate, Modified, Deactivate, Destroy}
 use Rattle.callback_orders.specs.Due.{due_of}
 use Rattle.component_state.proofs.Apart.{in_cases, in_first, in_rest}
-use Rattle.scr_entries.proofs.DueCallbacks.{IsFor, due_is_own, first_is}
+use Rattle.scr_laws.proofs.DueCallbacks.{IsFor, due_is_own, first_is}
 use Rattle.scr_laws.proofs.Listed.{none_found}
-use Rattle.scr_numbers.proofs.InstanceLemmas.{mapped_was}
+use Rattle.scr_laws.proofs.InstanceLemmas.{mapped_was}
 use Rattle.scr_world.specs.Dues.{begin_for, begin_of, choices, due_in, next_begin}
 use Rattle.scr_world.specs.Views.{view_of, views_of, whiteboard_view}
 use Rattle.scr_world.specs.Wanted.{missing}

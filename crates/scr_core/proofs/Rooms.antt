@@ -4,7 +4,7 @@ use Rattle.std.specs.Prelude.{nat_le}
 use Rattle.std.proofs.lemmas.Bool.Decides.{nat_tests}
 use Rattle.std.proofs.lemmas.List.{length-reverse}
 use Rattle.journal_core.specs.Rooms.{JournalRows}
-use Rattle.scr_numbers.proofs.CreatedLaws.{entries_of}
+use Rattle.scr_laws.proofs.CreatedLaws.{entries_of}
 use Rattle.scr_state.specs.Keeps.{Keeps}
 use Rattle.scr_state.specs.declared.state.State.{State}
 use Rattle.scr_world.specs.Room.{has_room}

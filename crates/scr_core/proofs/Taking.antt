@@ -9,9 +9,9 @@ use Rattle.scr_core.proofs.Begun.{next_is_beginning}
 use Rattle.scr_core.proofs.Idle.{idle}
 use Rattle.scr_core.proofs.Lines.{grown_work}
 use Rattle.scr_core.proofs.UnderWay.{begun_work, work_number}
-use Rattle.scr_entries.proofs.LegalOrder.{legal_ordered}
-use Rattle.scr_entries.proofs.Ordered.{AreOrdered}
-use Rattle.scr_numbers.proofs.Numbering.{next_turn}
+use Rattle.scr_laws.proofs.LegalOrder.{legal_ordered}
+use Rattle.scr_laws.proofs.Ordered.{AreOrdered}
+use Rattle.scr_laws.proofs.Numbering.{next_turn}
 use Rattle.scr_state.specs.Drafts.{with_draft}
 use Rattle.scr_state.specs.Keeps.{IsDraft, Keeps}
 use Rattle.scr_state.specs.declared.draft.Draft.{Draft}

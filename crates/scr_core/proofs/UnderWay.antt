@@ -11,10 +11,10 @@ use Rattle.callback_orders.specs.Sequences.{begun, is_outstanding}
 use Rattle.component_state.specs.declared.origin.Choice.{Choice}
 use Rattle.component_state.proofs.Apart.{in_first, in_rest, in_right}
 use Rattle.scr_core.proofs.Idle.{some_found}
-use Rattle.scr_entries.proofs.Begins.{Tells, begin_is}
-use Rattle.scr_entries.proofs.Ordered.{AreOrdered}
+use Rattle.scr_laws.proofs.Begins.{Tells, begin_is}
+use Rattle.scr_laws.proofs.Ordered.{AreOrdered}
 use Rattle.scr_laws.proofs.Listed.{found_was}
-use Rattle.scr_numbers.proofs.InstanceLemmas.{begun_cases, mapped_in}
+use Rattle.scr_laws.proofs.InstanceLemmas.{begun_cases, mapped_in}
 use Rattle.scr_world.specs.Dues.{next_begin}
 use Rattle.scr_world.specs.Instances.{BeforeTurn, begun_by, created_at, has_turn, last_callback, with_callback_begun, with_effect_of_begin}
 use Rattle.scr_world.specs.Stepping.{before_turn, instances_by, whiteboard_by, world_after_step}

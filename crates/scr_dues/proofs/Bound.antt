@@ -1,6 +1,6 @@
 -- A service that was never bound isn't held.
 use Rattle.std.proofs.Common.{◌≡◌, ◌∙◌, ap, sym, refl, ℕ, List, [], ◌∷◌, ◌++◌, Bool, true, false, ◌||◌, Option, Some, None, cond}
-use Rattle.std.specs.Prelude.{◌==◌, filter, not, ◌&&◌}
+use Rattle.std.specs.Prelude.{◌==◌, filter, not}
 use Rattle.std.specs.List.{list_any}
 use Rattle.std.specs.Str.{bytes_eq}
 use Rattle.std.proofs.lemmas.Bool.{false≢true}

@@ -1,5 +1,5 @@
 -- What is chosen from a place on.
-use Rattle.std.proofs.Common.{◌≡◌, ◌<◌, ◌≤◌, ap, sym, arith, ℕ, List, [], ◌∷◌, Bool, false, cond, Some}
+use Rattle.std.proofs.Common.{◌≡◌, ◌<◌, ◌≤◌, ap, sym, arith, ℕ, List, [], ◌∷◌, false, cond, Some}
 use Rattle.std.specs.Prelude.{◌==◌, find}
 use Rattle.std.specs.Cmp.{both_ways}
 use Rattle.std.specs.Option.{option_map_or}

@@ -16,9 +16,10 @@ use Rattle.scr_world.specs.declared.world.World.{World}
 use Rattle.scr_world.specs.Instances.{is_active_phase}
 use Rattle.scr_world.specs.Views.{bundle_of_instance, desired_unless_ending, is_changed, is_ready, reference_view, references_in, view_as}
 use Rattle.scr_dues.specs.FirstDues.{due_as}
-use Rattle.scr_dues.specs.LeanViews.{best_held, lean, lean_held, lean_reference, lean_view, lean_view_as, lean_wish}
+use Rattle.scr_dues.specs.LeanViews.{best_held, due_view, lean, lean_held, lean_reference, lean_view, lean_view_as, lean_wish}
 use Rattle.scr_dues.proofs.DueLemmas.{by_view}
 use Rattle.scr_dues.proofs.LeanLemmas.{lean_due}
+use Rattle.scr_dues.proofs.Staying.{looked_at}
 
 both : {A B C : Type 0} (f : A → C) (g : B → C) (h : A → B) → ((x : A) → f x ≡ g (h x)) → (xs : List A) → map f xs ≡ map g (map h xs)
 both f g h same [] = refl
@@ -51,7 +52,7 @@ module _ (w : World) (i : Instance) (ending : Bool) where
   unfolding lean_view_as lean_view
   lean_is phase = ap (λ (rs : List ReferenceView). let made : InstanceView = record (view_as phase ending w i) { unheld = true; references = rs } in made) (both (lean_reference ending w i) lean (reference_view ending w i) reference_is (with_places 0 (references_in w i)))
 
-  pub by_lean_view : (phase : Phase) (v : InstanceView) → v ≡ lean_view_as phase ending w i → (ending && is_active_phase phase) ≡ false → due_of v ≡ due_as phase ending w i
-  by_lean_view phase v is aside =
-      ap due_of (is ∙ lean_is phase) ∙ lean_due (record (view_as phase ending w i) { unheld = true })
+  pub by_due_view : (phase : Phase) (v : InstanceView) → v ≡ due_view phase ending w i → (ending && is_active_phase phase) ≡ false → due_of v ≡ due_as phase ending w i
+  by_due_view phase v is aside =
+      ap due_of is ∙ looked_at w i phase ending ∙ ap due_of (lean_is phase) ∙ lean_due (record (view_as phase ending w i) { unheld = true })
       ∙ by_view w i phase ending (record (view_as phase ending w i) { unheld = true }) refl aside

@@ -11,3 +11,6 @@ pub mod LeanLemmas
 pub mod LeanViews
 pub mod Bound
 pub mod ChosenFrom
+pub mod Settled
+pub mod Wants
+pub mod Staying

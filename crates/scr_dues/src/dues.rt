@@ -10,7 +10,7 @@ ghost use Rattle.std.specs.Prelude.{◌≡◌, ◌&&◌, IfOk, None, Some, false
 ghost use Rattle.std.specs.List.{slice_get};
 
 use crate::endings::ends;
-use crate::lean_views::lean_view_as;
+use crate::lean_views::due_view;
 use crate::own_rows::OwnRows;
 use crate::readiness::{has_holder, is_active_phase};
 use crate::wanted::missing_keys;
@@ -31,7 +31,7 @@ fn due_by_view(
     requires { (ending && is_active_phase phase) ≡ false }
     ensures { IfOk result (λ due. due ≡ due_as phase ending world.now instance.now) }
 {
-    let view = lean_view_as(alloc, own, world, phase, ending, instance)?;
+    let view = due_view(alloc, own, world, phase, ending, instance)?;
     Ok(due_of(&view))
 }
 

@@ -5,13 +5,13 @@ ghost use Rattle.component_state.specs.Reasons.{choice_at};
 ghost use Rattle.instance_callbacks.specs.ByName.{held_in};
 ghost use Rattle.prop_map.specs.Words.{has, with_places};
 ghost use Rattle.prop_map.specs.declared.reference_words.Policy.TheVariants.{Static};
-ghost use Rattle.scr_dues.specs.LeanViews.{lean_reference, lean_view_as};
-ghost use Rattle.scr_world.specs.Views.{is_changed, is_ready};
+ghost use Rattle.scr_dues.specs.LeanViews.{due_view, is_making, is_settled, is_unbound, lean_reference, references_looked_at, staying_reference, staying_references, wants_nothing};
+ghost use Rattle.scr_world.specs.Views.{is_changed, is_ready, references_in};
 ghost use Rattle.std.specs.Prelude.{◌≡◌, ◌&&◌, ℕ, IfOk, List, map, not};
 
 use crate::changes::{awaits_modified, is_changed};
 use crate::components::references_in;
-use crate::desires::{choice_where_static, choices_from, desired_holding};
+use crate::desires::{choice_where_static, choices_from, desired_holding, is_static};
 use crate::own_rows::OwnRows;
 use crate::readiness::{bundle_of_instance, is_ready};
 use crate::services::sorted;
@@ -142,10 +142,133 @@ fn lean_references(
     Ok(found)
 }
 
-/// What decides it, where the instance is in this phase, and ends or doesn't, as if nobody held it. Its callbacks are gone
-/// over once, however many references it has.
-#[tactic(auto, unfolding(crate::specs::LeanViews::lean_view_as))]
-pub(crate) fn lean_view_as(
+// Whether a static reference holds just what was chosen for it, and nobody is told of changes.
+#[tactic(auto, using(crate::proofs::Staying::where_static))]
+fn is_settled(
+    instance: &Instance,
+    services: &[u64],
+    choice: &[u64],
+    place: u64,
+    reference: &Reference,
+) -> bool
+    requires held { services.now ≡ held_for reference.now.name instance.now.callbacks }
+    requires choice { reference.now.policy ≡ Static → choice.now ≡ choice_at instance.now.origin.chosen place }
+    ensures { result ≡ is_settled instance.now (place, reference.now) }
+{
+    is_static(reference.policy) && reference.updated.is_none() && services == choice
+}
+
+// Whether a static reference holds nothing, where something was chosen for it.
+fn is_unbound(
+    instance: &Instance,
+    services: &[u64],
+    choice: &[u64],
+    place: u64,
+    reference: &Reference,
+) -> bool
+    requires held { services.now ≡ held_for reference.now.name instance.now.callbacks }
+    requires choice { reference.now.policy ≡ Static → choice.now ≡ choice_at instance.now.origin.chosen place }
+    ensures { result ≡ is_unbound instance.now (place, reference.now) }
+{
+    is_static(reference.policy) && services.is_empty() && !choice.is_empty()
+}
+
+// A reference for which nothing is due. It takes no memory.
+fn wants_nothing(alloc: Global) -> ReferenceView
+    ensures { result ≡ wants_nothing }
+{
+    ReferenceView {
+        told: false,
+        desired: List::of(Vec::new(alloc)),
+        held: List::of(Vec::new(alloc)),
+    }
+}
+
+// A reference of an instance that goes on. For one that is settled no memory is taken.
+#[tactic(auto, unfolding(crate::specs::LeanViews::staying_reference))]
+fn staying_reference(
+    alloc: Global,
+    own: &OwnRows,
+    world: &World,
+    instance: &Instance,
+    services: &[u64],
+    choice: &[u64],
+    place: u64,
+    reference: &Reference,
+) -> Result<ReferenceView, OutOfMemory>
+    requires held { services.now ≡ held_for reference.now.name instance.now.callbacks }
+    requires choice { reference.now.policy ≡ Static → choice.now ≡ choice_at instance.now.origin.chosen place }
+    ensures { IfOk result (λ v. v ≡ staying_reference world.now instance.now (place, reference.now)) }
+{
+    if is_settled(instance, services, choice, place, reference) {
+        return Ok(wants_nothing(alloc));
+    }
+    lean_reference(
+        alloc, own, world, false, instance, services, choice, place, reference,
+    )
+}
+
+// The references of an instance that goes on, in the making up to the first that is known to differ: what is due for it is due
+// first.
+fn staying_references(
+    alloc: Global,
+    own: &OwnRows,
+    world: &World,
+    making: bool,
+    instance: &Instance,
+    all_held: &HeldServices,
+    references: &[Reference],
+) -> Result<Vec<ReferenceView>, OutOfMemory>
+    requires { (name : List ℕ) → held_in all_held.now name ≡ held_for name instance.now.callbacks }
+    ensures { IfOk result (λ v. v.items ≡ staying_references making world.now instance.now (with_places 0 references.now)) }
+{
+    let mut found = Vec::new(alloc);
+    let mut choices = instance.origin.chosen.as_slice();
+    for (at, reference) in references.iter().enumerate() {
+        let place = at as u64;
+        choices = choices_from(choices, place);
+        let choice = choice_where_static(choices, place, reference);
+        let services = all_held.held(&reference.name);
+        found.push(staying_reference(
+            alloc, own, world, instance, services, choice, place, reference,
+        )?)?;
+        if making && is_unbound(instance, services, choice, place, reference) {
+            return Ok(found);
+        }
+    }
+    Ok(found)
+}
+
+fn is_making(phase: Phase) -> bool
+    ensures { result ≡ is_making phase }
+{
+    matches!(phase, Phase::Making)
+}
+
+// What is looked at of the references of an instance. Its callbacks are gone over once, however many references it has.
+#[tactic(auto, unfolding(crate::specs::LeanViews::references_looked_at))]
+fn references_looked_at(
+    alloc: Global,
+    own: &OwnRows,
+    world: &World,
+    phase: Phase,
+    ending: bool,
+    instance: &Instance,
+) -> Result<Vec<ReferenceView>, OutOfMemory>
+    ensures { IfOk result (λ v. v.items ≡ references_looked_at phase ending world.now instance.now (with_places 0 (references_in world.now instance.now))) }
+{
+    let references = references_in(own, world, instance);
+    let all_held = HeldServices::of(alloc, instance.callbacks.as_slice())?;
+    if ending {
+        return lean_references(alloc, own, world, true, instance, &all_held, references);
+    }
+    let making = is_making(phase);
+    staying_references(alloc, own, world, making, instance, &all_held, references)
+}
+
+/// What decides it, where the instance is in this phase, and ends or doesn't, as if nobody held it.
+#[tactic(auto, unfolding(crate::specs::LeanViews::lean_view_as, crate::specs::LeanViews::due_view))]
+pub(crate) fn due_view(
     alloc: Global,
     own: &OwnRows,
     world: &World,
@@ -153,11 +276,9 @@ pub(crate) fn lean_view_as(
     ending: bool,
     instance: &Instance,
 ) -> Result<InstanceView, OutOfMemory>
-    ensures { IfOk result (λ v. v ≡ lean_view_as phase ending world.now instance.now) }
+    ensures { IfOk result (λ v. v ≡ due_view phase ending world.now instance.now) }
 {
-    let references = references_in(own, world, instance);
-    let all_held = HeldServices::of(alloc, instance.callbacks.as_slice())?;
-    let views = lean_references(alloc, own, world, ending, instance, &all_held, references)?;
+    let views = references_looked_at(alloc, own, world, phase, ending, instance)?;
     Ok(InstanceView {
         instance: instance.number,
         phase,

@@ -13,7 +13,7 @@ use Rattle.journal_core.specs.declared.entry.Entry.{Entry}
 use Rattle.ldap_filter.specs.Trees.{Tree}
 use Rattle.ldap_filter.specs.Matching.{matches}
 use Rattle.prop_map.specs.Words.{has}
-use Rattle.scr_endings.proofs.PassOrders.{in_pass_order}
+use Rattle.scr_life_laws.proofs.PassOrders.{in_pass_order}
 use Rattle.scr_events.specs.Events.{IsToldAll, IsToldOf, IsToldTruth, matching, replayed, tells_truth}
 use Rattle.scr_events.proofs.ChangeLaws.{IsPair, Keeps, Made, match_gone, match_is, match_was, pair_keeps, pair_makes_new, pair_makes_old}
 use Rattle.scr_events.proofs.ListenerSteps.{added_there, count_rises, listeners_counted, listeners_one, told_was}
@@ -24,8 +24,8 @@ use Rattle.scr_laws.proofs.Described.{into_flat}
 use Rattle.scr_laws.proofs.Legal.{in_map, legal_scratch, open_lives}
 use Rattle.scr_laws.proofs.Listed.{joined_was}
 use Rattle.scr_laws.proofs.Sounding.{legal_sound}
-use Rattle.scr_services.specs.Services.{IsSameService, known_services}
-use Rattle.scr_services.proofs.ServiceLaws.{AreServices, Period, are_services, component_in, direct_in, goes_up, known_given, known_one, new_number, registered_known, stay_services, then_was}
+use Rattle.scr_life_laws.specs.Services.{IsSameService, known_services}
+use Rattle.scr_life_laws.proofs.ServiceLaws.{AreServices, Period, are_services, component_in, direct_in, goes_up, known_given, known_one, new_number, registered_known, stay_services, then_was}
 use Rattle.scr_world.specs.Legal.{IsLegal}
 use Rattle.scr_world.specs.Levels.{levels_of}
 use Rattle.scr_world.specs.Lists.{change_between, changes_between, direct_between, row_at, world_after_entry, world_of}

@@ -13,7 +13,7 @@ use Rattle.component_state.proofs.Apart.{in_either, in_left, in_right, kept_from
 use Rattle.scr_laws.proofs.Legal.{in_map}
 use Rattle.scr_laws.proofs.Listed.{found_is, found_was, mapped_was, none_found}
 use Rattle.scr_laws.proofs.Sounding.{legal_sound}
-use Rattle.scr_services.proofs.ServiceLaws.{AreServices}
+use Rattle.scr_life_laws.proofs.ServiceLaws.{AreServices}
 use Rattle.scr_world.specs.Legal.{IsLegal}
 use Rattle.scr_world.specs.Lists.{row_at, world_of}
 use Rattle.scr_world.specs.Readers.{listed}

@@ -6,10 +6,10 @@ use Rattle.std.proofs.lemmas.Bool.{and_parts, both_ways, eqb-true}
 use Rattle.component_state.proofs.Apart.{any_found}
 use Rattle.scr_gets.specs.Gets.{GotGoOn}
 use Rattle.scr_gets.proofs.GetNumbers.{uses_numbered_in}
-use Rattle.scr_holdings.proofs.InstanceServices.{have_periods}
-use Rattle.scr_holdings.proofs.ServingLaws.{serving_goes_on}
-use Rattle.scr_services.proofs.ServiceLaws.{IsKind, are_services, of_command, of_component, of_platform, of_those_left, registered_is, registered_kind}
-use Rattle.scr_tables.proofs.OwnerLaws.{active_owners}
+use Rattle.scr_life_laws.proofs.InstanceServices.{have_periods}
+use Rattle.scr_life_laws.proofs.ServingLaws.{serving_goes_on}
+use Rattle.scr_life_laws.proofs.ServiceLaws.{IsKind, are_services, of_command, of_component, of_platform, of_those_left, registered_is, registered_kind}
+use Rattle.scr_laws.proofs.OwnerLaws.{active_owners}
 use Rattle.scr_world.specs.Legal.{IsLegal}
 use Rattle.scr_world.specs.Lists.{world_of}
 use Rattle.scr_world.specs.Steps.{History}

@@ -5,10 +5,10 @@ use Rattle.std.specs.List.{Contains}
 use Rattle.std.specs.Option.{option_map_or}
 use Rattle.component_state.proofs.Apart.{in_either, in_first, in_none, in_rest, kept_was}
 use Rattle.prop_map.specs.Words.{insert_by}
-use Rattle.scr_holdings.proofs.TargetRows.{inserted_was}
+use Rattle.scr_life_laws.proofs.TargetRows.{inserted_was}
 use Rattle.scr_laws.proofs.Described.{none_first, not_refused}
 use Rattle.scr_laws.proofs.Listed.{found_was, single}
-use Rattle.scr_tables.proofs.LimitLaws.{not_full}
+use Rattle.scr_laws.proofs.LimitLaws.{not_full}
 use Rattle.scr_world.specs.Legal.{IsLegal, MayCome}
 use Rattle.scr_world.specs.Lists.{is_active_bundle, world_after_entry, world_of}
 use Rattle.scr_world.specs.Refusals.{activation_failed, no_bundle, no_service, not_active, refusal, refuse_if}

@@ -9,10 +9,10 @@ use Rattle.component_state.specs.declared.pass.Passed.{Passed}
 use Rattle.journal_core.specs.Rooms.{JournalRows}
 use Rattle.journal_core.specs.declared.entry.Entry.{Entry}
 use Rattle.prop_map.specs.Words.{has}
-use Rattle.scr_entries.specs.Following.{entry_of}
-use Rattle.scr_entries.proofs.FollowingEntries.{follows}
-use Rattle.scr_entries.proofs.Reserved.{room_in}
-use Rattle.scr_entries.proofs.Scratch.{satisfied_then}
+use Rattle.scr_laws.specs.Following.{entry_of}
+use Rattle.scr_laws.proofs.FollowingEntries.{follows}
+use Rattle.scr_laws.proofs.Reserved.{room_in}
+use Rattle.scr_laws.proofs.Scratch.{satisfied_then}
 use Rattle.scr_growth.specs.Growths.{AreCached, HasFinished, IsAmid, IsBefore, IsTold, MayGrow}
 use Rattle.scr_growth.specs.declared.passing.Finished.{Finished}
 use Rattle.scr_growth.specs.declared.told.Told.{Told}

@@ -11,7 +11,7 @@ use Rattle.journal_core.specs.declared.entry.Entry.{Entry}
 use Rattle.journal_core.specs.declared.entry.GateKey.{GateKey}
 use Rattle.journal_core.specs.declared.entry.Opened.{Opened}
 use Rattle.scr_consequences.specs.Ends.{draining_in}
-use Rattle.scr_entries.specs.Following.{entry_of}
+use Rattle.scr_laws.specs.Following.{entry_of}
 use Rattle.scr_growth.specs.Growths.{HasEntered, HasSettled, IsBefore, IsRest, IsSettling, entry_with, passed_world, services_among, settled_world, with_listeners_told}
 use Rattle.scr_growth.specs.declared.settling.Lists.{Lists}
 use Rattle.scr_growth.specs.declared.settling.Rest.{Rest}

@@ -13,7 +13,7 @@ use Rattle.component_state.specs.Passes.{HasPassed}
 use Rattle.component_state.specs.Periods.{is_current, open_after}
 use Rattle.component_state.proofs.Apart.{in_first, in_rest}
 use Rattle.prop_map.specs.Words.{has}
-use Rattle.scr_entries.specs.Following.{entry_of}
+use Rattle.scr_laws.specs.Following.{entry_of}
 use Rattle.scr_growth.specs.Growths.{IsRest, passed_world, reserved_with_tokens, services_among, settled_world, with_listeners_told}
 use Rattle.scr_growth.specs.declared.settling.Rest.{Rest}
 use Rattle.scr_laws.proofs.Resting.{stopped_was_stopping}

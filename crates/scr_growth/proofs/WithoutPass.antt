@@ -5,9 +5,9 @@ use Rattle.journal_core.specs.Rooms.{JournalRows}
 use Rattle.journal_core.specs.declared.entry.Entry.{Entry}
 use Rattle.journal_core.specs.declared.entry.GateKey.{GateKey}
 use Rattle.prop_map.specs.Words.{has}
-use Rattle.scr_entries.specs.Following.{entry_of}
-use Rattle.scr_entries.proofs.FollowingEntries.{follows}
-use Rattle.scr_entries.proofs.Scratch.{satisfied_then}
+use Rattle.scr_laws.specs.Following.{entry_of}
+use Rattle.scr_laws.proofs.FollowingEntries.{follows}
+use Rattle.scr_laws.proofs.Scratch.{satisfied_then}
 use Rattle.scr_growth.specs.Growths.{HasFinished, HasSettled, IsAmid, no_lists, passed_world}
 use Rattle.scr_growth.specs.declared.passing.Finished.{Finished}
 use Rattle.scr_growth.specs.declared.told.Told.{Told}

@@ -11,7 +11,7 @@ use Rattle.journal_core.specs.declared.entry.Opened.{Opened}
 use Rattle.prop_map.specs.Words.{has}
 use Rattle.bundle_life.specs.Lives.{stop_completed}
 use Rattle.scr_consequences.specs.Ends.{draining_in}
-use Rattle.scr_entries.specs.Following.{entry_of}
+use Rattle.scr_laws.specs.Following.{entry_of}
 use Rattle.scr_growth.specs.declared.listener_change.ListenerChange.{ListenerChange}
 use Rattle.scr_growth.specs.declared.listener_change.ListenerChange.TheVariants.{Nothing, Listen, Unlisten, Remove}
 use Rattle.scr_growth.specs.declared.passing.Finished.{Finished}

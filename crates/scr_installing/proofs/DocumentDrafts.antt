@@ -1,7 +1,7 @@
 -- The draft of a command that changes what the bundles hold.
 use Rattle.std.proofs.Common.{◌≡◌, ◌∙◌, ◌+◌, List, ap, refl, true}
-use Rattle.scr_asking.specs.Asked.{IsAskedAfter}
-use Rattle.scr_asking.specs.declared.asked.Asked.{Asked}
+use Rattle.scr_judgements.specs.Asked.{IsAskedAfter}
+use Rattle.scr_judgements.specs.declared.asked.Asked.{Asked}
 use Rattle.scr_installing.specs.Described.{AreDescribed}
 use Rattle.scr_installing.specs.Drafting.{changes_documents, is_of_documents, tables_with}
 use Rattle.scr_installing.specs.declared.described.Described.{Described}

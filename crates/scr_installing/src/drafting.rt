@@ -9,8 +9,7 @@ ghost use Rattle.std.specs.Prelude.{◌≡◌, ◌+◌, ℕ, IfOk, true};
 
 use crate::described::Described;
 use prop_map::{List, OutOfMemory};
-use scr_asking::asked_after;
-use scr_judgements::{TablesAfter, command_draft};
+use scr_judgements::{TablesAfter, asked_after, command_draft};
 use scr_state::{Draft, State};
 use scr_world::{Contents, Step};
 use std::alloc::Global;

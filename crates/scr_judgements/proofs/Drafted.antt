@@ -2,8 +2,8 @@
 use Rattle.std.proofs.Common.{◌≡◌, ◌+◌, ◌∙◌, ℕ, List, ap, append-nil, arith, refl, subst, sym}
 use Rattle.std.specs.Option.{unwrap_or}
 use Rattle.journal_core.specs.Rooms.{JournalRows}
-use Rattle.scr_asking.specs.Asked.{IsAskedAfter}
-use Rattle.scr_asking.specs.declared.asked.Asked.{Asked}
+use Rattle.scr_judgements.specs.Asked.{IsAskedAfter}
+use Rattle.scr_judgements.specs.declared.asked.Asked.{Asked}
 use Rattle.scr_judgements.specs.Drafting.{AreTablesAfter, AreTablesBy, command_draft}
 use Rattle.scr_judgements.specs.declared.drafting.TablesAfter.{TablesAfter}
 use Rattle.scr_laws.proofs.Histories.{legal_is_asked}

@@ -1,4 +1,11 @@
+mod Commands
+mod Leaving
+mod States
+mod Given
+mod Filling
 pub mod CommandRoom
 pub mod Drafted
 pub mod Judged
 pub mod Plain
+pub mod Tables
+pub mod Changed

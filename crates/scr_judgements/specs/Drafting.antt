@@ -1,7 +1,7 @@
 -- The tables after a command, and its draft. Our own.
 use Rattle.std.specs.Prelude.{◌≡◌, ◌+◌, Some, None}
 use Rattle.std.specs.Option.{unwrap_or}
-use Rattle.scr_asking.specs.declared.asked.Asked.{Asked}
+use Rattle.scr_judgements.specs.declared.asked.Asked.{Asked}
 use Rattle.scr_judgements.specs.declared.drafting.TablesAfter.{TablesAfter}
 use Rattle.scr_state.specs.declared.draft.Draft.{Draft}
 use Rattle.scr_state.specs.declared.draft.InstanceChange.TheVariants.{Same}

@@ -1,2 +1,5 @@
+pub mod Asked
+pub mod Given
 pub mod Drafting
 pub mod Judgements
+pub mod Changing

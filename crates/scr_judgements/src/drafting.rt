@@ -2,10 +2,10 @@
 ghost use Rattle.scr_judgements.specs.Drafting.{command_draft, no_tables};
 ghost use Rattle.std.specs.Prelude.{◌≡◌};
 
+use crate::Asked;
 use component_dto::Description;
 use config_admin::Configurations;
 use prop_map::List;
-use scr_asking::Asked;
 use scr_state::{Draft, InstanceChange};
 use scr_world::{Contents, World};
 use service_registry::Registry;

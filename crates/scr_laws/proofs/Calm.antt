@@ -44,7 +44,7 @@ use Rattle.scr_laws.proofs.Tables.{tables_apart}
 use Rattle.scr_laws.specs.Entries.{passed_by}
 use Rattle.scr_laws.proofs.Listed.{any_was, found_is, kept_in, mapped_was}
 use Rattle.scr_laws.proofs.Passing.{follows_passes}
-use Rattle.scr_laws.proofs.Stopping.{any_within}
+use Rattle.scr_laws.proofs.StoppingBundles.{any_within}
 
 -- ---- numbers
 

@@ -37,7 +37,7 @@ use Rattle.scr_laws.proofs.Calm.{choices_stand_then, known, legal_is_behind, not
 use Rattle.scr_laws.proofs.Histories.{legal_is_asked}
 use Rattle.scr_laws.proofs.Listed.{any_was, mapped_was}
 use Rattle.scr_laws.proofs.OpensFirst.{opens_first}
-use Rattle.scr_laws.proofs.Stopping.{none_wait_for_nothing}
+use Rattle.scr_laws.proofs.StoppingBundles.{none_wait_for_nothing}
 
 -- ---- what a Create begins with
 

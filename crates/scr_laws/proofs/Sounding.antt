@@ -57,7 +57,7 @@ use Rattle.scr_laws.proofs.Documents.{IsActive, IsDocumented, asked_was, kept_li
 use Rattle.scr_laws.proofs.Ends.{either_of, taken_life}
 use Rattle.scr_laws.proofs.Legal.{AreWell, in_map, legal_scratch, legal_well, open_lives, step_well}
 use Rattle.scr_laws.proofs.Listed.{mapped_was, single}
-use Rattle.scr_laws.proofs.Stopping.{found_kept}
+use Rattle.scr_laws.proofs.StoppingBundles.{found_kept}
 
 -- ---- where instances come from
 

@@ -29,7 +29,7 @@ use Rattle.scr_laws.specs.Entries.{IsCalm, is_still_step}
 use Rattle.scr_laws.proofs.Commands.{get_still, listen_still, unget_still, unlisten_still}
 use Rattle.scr_laws.proofs.Ends.{all_stay, either_of, end_is_quiet, instances_live, taken_consumer, taken_life}
 use Rattle.scr_laws.proofs.Histories.{asking_leaves}
-use Rattle.scr_laws.proofs.Stopping.{added_keep, all_wait, mapped_keep, remembered_keep}
+use Rattle.scr_laws.proofs.StoppingBundles.{added_keep, all_wait, mapped_keep, remembered_keep}
 
 -- ---- nothing stops
 

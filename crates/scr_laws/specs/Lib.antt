@@ -5,3 +5,17 @@ pub mod Journals
 pub mod Opens
 pub mod Sound
 pub mod Stills
+pub mod GateKeys
+pub mod Numbers
+pub mod Slots
+pub mod Answers
+pub mod BundleEvents
+pub mod Keys
+pub mod Limits
+pub mod Owners
+pub mod Stopping
+pub mod Callbacks
+pub mod Gates
+pub mod Services
+pub mod Following
+pub mod Reserving

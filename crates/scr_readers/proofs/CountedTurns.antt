@@ -2,7 +2,7 @@
 use Rattle.std.proofs.Common.{◌≡◌, ℕ, ◌+◌, suc, length, List, [], ◌∷◌, ◌++◌, refl, ap, ◌∙◌, Bool, true, false, cond, Some, arith}
 use Rattle.std.specs.Prelude.{map, ◌==◌}
 use Rattle.callback_orders.specs.declared.callback.Outcome.{Outcome}
-use Rattle.scr_numbers.proofs.Numbering.{next_turn}
+use Rattle.scr_laws.proofs.Numbering.{next_turn}
 use Rattle.scr_readers.specs.Turns.{AreCounted}
 use Rattle.scr_world.specs.Legal.{IsLegal, MayCome}
 use Rattle.scr_world.specs.Lists.{world_after_entry, world_of}

@@ -12,13 +12,13 @@ use Rattle.component_state.specs.Inside.Ready.{are_apart}
 use Rattle.component_state.proofs.Apart.{any_found, in_either, in_none, kept_was, key_in, not_true}
 use Rattle.journal_core.specs.declared.entry.Entry.{Entry}
 use Rattle.prop_map.specs.Words.{has}
-use Rattle.scr_endings.proofs.Comings.{its_number}
-use Rattle.scr_endings.proofs.EndingLaws.{board_number}
-use Rattle.scr_gates.proofs.LivingLaws.{legal_told}
-use Rattle.scr_gates.proofs.TurnCallbacks.{are_told_apart}
+use Rattle.scr_life_laws.proofs.Comings.{its_number}
+use Rattle.scr_life_laws.proofs.EndingLaws.{board_number}
+use Rattle.scr_laws.proofs.LivingLaws.{legal_told}
+use Rattle.scr_laws.proofs.TurnCallbacks.{are_told_apart}
 use Rattle.scr_laws.proofs.Listed.{mapped_was, single}
-use Rattle.scr_numbers.proofs.InstanceLemmas.{begun_cases, drained_same, ended_same, told_same}
-use Rattle.scr_numbers.proofs.Numbering.{made_is_next}
+use Rattle.scr_laws.proofs.InstanceLemmas.{begun_cases, drained_same, ended_same, told_same}
+use Rattle.scr_laws.proofs.Numbering.{made_is_next}
 use Rattle.scr_reserved.specs.Reserves.{drains, has_drain}
 use Rattle.scr_world.specs.Instances.{BeforeTurn, begun_by, created_at, drained_in, ended_in, has_turn, lives_on, with_callback_begun, with_effect_of_begin, with_outcome}
 use Rattle.scr_world.specs.Legal.{IsLegal, MayCome, awaits_drain}

@@ -5,8 +5,8 @@ use Rattle.std.specs.List.{Contains}
 use Rattle.callback_orders.specs.declared.word.Called.{Called}
 use Rattle.callback_orders.specs.Sequences.{is_outstanding}
 use Rattle.component_state.proofs.Apart.{in_cases, in_first, in_rest}
-use Rattle.scr_gates.specs.Callbacks.{callbacks_told}
-use Rattle.scr_gates.proofs.TurnCallbacks.{have_their_turns}
+use Rattle.scr_laws.specs.Callbacks.{callbacks_told}
+use Rattle.scr_laws.proofs.TurnCallbacks.{have_their_turns}
 use Rattle.scr_reserved.specs.Reserves.{IsReservedBy, has_drain, reserved_by}
 use Rattle.scr_reserved.proofs.DrainLaws.{board_drained, drained_is}
 use Rattle.scr_reserved.proofs.TurnsUnderWay.{turns_under_way}

@@ -8,14 +8,14 @@ use Rattle.callback_orders.specs.declared.callback.Outcome.{Outcome}
 use Rattle.callback_orders.specs.declared.callback.Callback.TheVariants.{Create, Bind, Updated, Unbind, Activate, Modified, Deactivate, Destroy}
 use Rattle.callback_orders.specs.declared.instance_view.InstanceView.{InstanceView}
 use Rattle.callback_orders.specs.Grammar.{is_create}
-use Rattle.scr_endings.proofs.Comings.{IsSeen, TellsDue, how_begun, its_number, one_made, whiteboard}
-use Rattle.scr_endings.proofs.DueCallbacks.{due_ended}
-use Rattle.scr_endings.proofs.EndingLaws.{board_number}
-use Rattle.scr_gates.proofs.LivingLaws.{legal_told}
-use Rattle.scr_gates.proofs.NothingShut.{taken_calls}
-use Rattle.scr_gates.proofs.TurnCallbacks.{are_told_apart}
+use Rattle.scr_life_laws.proofs.Comings.{IsSeen, TellsDue, how_begun, its_number, one_made, whiteboard}
+use Rattle.scr_life_laws.proofs.DueCallbacks.{due_ended}
+use Rattle.scr_life_laws.proofs.EndingLaws.{board_number}
+use Rattle.scr_laws.proofs.LivingLaws.{legal_told}
+use Rattle.scr_laws.proofs.NothingShut.{taken_calls}
+use Rattle.scr_laws.proofs.TurnCallbacks.{are_told_apart}
 use Rattle.scr_laws.proofs.Sounding.{legal_sound}
-use Rattle.scr_numbers.proofs.InstanceLemmas.{begun_cases}
+use Rattle.scr_laws.proofs.InstanceLemmas.{begun_cases}
 use Rattle.scr_world.specs.Instances.{BeforeTurn, created_at, drained_in, ended_in, has_turn, lives_on, with_callback_begun, with_effect_of_begin, with_outcome}
 use Rattle.scr_world.specs.Stepping.{before_turn, instances_by, whiteboard_by, world_after_step}
 use Rattle.scr_world.specs.declared.instance.Instance.{Instance}

@@ -3,7 +3,7 @@ use Rattle.std.specs.Prelude.{◌≡◌, ℕ, ◌+◌, ◌==◌, ◌&&◌, Bool,
 use Rattle.std.specs.List.{Contains, list_any}
 use Rattle.callback_orders.specs.Sequences.{is_outstanding}
 use Rattle.journal_core.specs.declared.entry.Entry.{Entry}
-use Rattle.scr_gates.specs.Callbacks.{callbacks_told}
+use Rattle.scr_laws.specs.Callbacks.{callbacks_told}
 use Rattle.scr_world.specs.Instances.{is_activated}
 use Rattle.scr_world.specs.Legal.{is_under_way}
 use Rattle.scr_world.specs.Lists.{world_of}

@@ -1,12 +1,11 @@
 //! The draft of a command that leaves bundles, documents and configurations.
-ghost use Rattle.scr_asking.specs.Asked.{leaves_asked};
+ghost use Rattle.scr_judgements.specs.Asked.{leaves_asked};
 ghost use Rattle.scr_judgements.specs.Drafting.{AreTablesBy, no_tables};
 ghost use Rattle.scr_state.specs.Keeps.{IsDraft, IsKept};
 ghost use Rattle.std.specs.Prelude.{◌≡◌, IfOk, Some, true};
 
 use prop_map::OutOfMemory;
-use scr_asking::asked_as_before;
-use scr_judgements::{TablesAfter, command_draft};
+use scr_judgements::{TablesAfter, asked_as_before, command_draft};
 use scr_state::{Draft, State};
 use scr_world::Step;
 use service_registry::Registry;

@@ -15,13 +15,13 @@ use Rattle.callback_orders.specs.Lives.{is_living, phase_by, phase_of}
 use Rattle.callback_orders.specs.Sequences.{begun, done_with, ended, have_ended, is_done, is_outstanding, is_sequence}
 use Rattle.callback_orders.proofs.FollowLemmas.{may_follow}
 use Rattle.component_state.proofs.Apart.{any_found, any_from, in_right, not_true, one_of}
-use Rattle.scr_endings.specs.Endings.{has_deactivate}
-use Rattle.scr_entries.proofs.CallbackFronts.{IsFront, ended_front, front_of, is_making, phase_over, sequence_may}
-use Rattle.scr_entries.proofs.DrainOrder.{DrainsInTurn, activate_after, last_more, one_at_a_time_of, outstanding_may, phase_before}
-use Rattle.scr_entries.proofs.Reserved.{never_ceases, never_created}
-use Rattle.scr_entries.proofs.RoomAfter.{told_drained}
-use Rattle.scr_gates.proofs.LivingLaws.{AreTold}
-use Rattle.scr_gates.proofs.NothingShut.{told_drains}
+use Rattle.scr_life_laws.specs.Endings.{has_deactivate}
+use Rattle.scr_laws.proofs.CallbackFronts.{IsFront, ended_front, front_of, is_making, phase_over, sequence_may}
+use Rattle.scr_laws.proofs.DrainOrder.{DrainsInTurn, activate_after, last_more, one_at_a_time_of, outstanding_may, phase_before}
+use Rattle.scr_laws.proofs.Reserved.{never_ceases, never_created}
+use Rattle.scr_laws.proofs.RoomAfter.{told_drained}
+use Rattle.scr_laws.proofs.LivingLaws.{AreTold}
+use Rattle.scr_laws.proofs.NothingShut.{told_drains}
 use Rattle.scr_world.specs.Consequences.{is_draining}
 use Rattle.scr_world.specs.Instances.{becomes_active, drained_in, ended_in, has_turn, is_active_instance, is_active_phase, last_is, lives_on, with_callback_begun, with_outcome}
 use Rattle.scr_world.specs.Legal.{MayCome, awaits_drain}
@@ -31,7 +31,7 @@ use Rattle.scr_world.specs.declared.instance.Instance.{Instance}
 use Rattle.scr_world.specs.declared.step.Step.{Step}
 use Rattle.scr_world.specs.declared.step.Step.TheVariants.{Command as Commanded, Begin, End, Drained, Got, Released}
 use Rattle.scr_world.specs.declared.world.World.{World}
-use Rattle.scr_numbers.proofs.GateKeyLaws.{reopens}
+use Rattle.scr_laws.proofs.GateKeyLaws.{reopens}
 
 -- what a step makes of an instance that was there
 abbrev pub moved : Step → World → Instance → Instance

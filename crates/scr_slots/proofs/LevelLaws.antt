@@ -15,17 +15,17 @@ use Rattle.component_state.specs.Inside.Ready.{are_apart}
 use Rattle.component_state.proofs.Apart.{in_either, in_left, in_none, kept_from, kept_was, not_true, one_of}
 use Rattle.journal_core.specs.declared.entry.Entry.{Entry}
 use Rattle.journal_core.specs.declared.entry.GateKey.{GateKey}
-use Rattle.scr_endings.proofs.EndingLaws.{end_in_time, go_on_ending}
-use Rattle.scr_entries.proofs.DrainOrder.{legal_drains}
-use Rattle.scr_entries.proofs.LegalOrder.{legal_ordered}
-use Rattle.scr_entries.proofs.Reserved.{any_of_one}
-use Rattle.scr_gates.proofs.LastGenerations.{last_generations}
-use Rattle.scr_gates.proofs.LivingLaws.{AreTold, legal_told}
-use Rattle.scr_entries.proofs.Ordered.{AreOrdered}
+use Rattle.scr_life_laws.proofs.EndingLaws.{end_in_time, go_on_ending}
+use Rattle.scr_laws.proofs.DrainOrder.{legal_drains}
+use Rattle.scr_laws.proofs.LegalOrder.{legal_ordered}
+use Rattle.scr_laws.proofs.Reserved.{any_of_one}
+use Rattle.scr_laws.proofs.LastGenerations.{last_generations}
+use Rattle.scr_laws.proofs.LivingLaws.{AreTold, legal_told}
+use Rattle.scr_laws.proofs.Ordered.{AreOrdered}
 use Rattle.scr_laws.proofs.Listed.{found_was}
-use Rattle.scr_numbers.proofs.GateKeyLaws.{count_of, counted_in, counts_kept, reopened_first, reopened_is, reopens, room_in}
-use Rattle.scr_numbers.proofs.InstanceLemmas.{IsSame, alone, drained_same, ended_same, mapped_alike, mapped_in, mapped_was, told_same}
-use Rattle.scr_numbers.proofs.SlotLaws.{slots_differ_in}
+use Rattle.scr_laws.proofs.GateKeyLaws.{count_of, counted_in, counts_kept, reopened_first, reopened_is, reopens, room_in}
+use Rattle.scr_laws.proofs.InstanceLemmas.{IsSame, alone, drained_same, ended_same, mapped_alike, mapped_in, mapped_was, told_same}
+use Rattle.scr_laws.proofs.SlotLaws.{slots_differ_in}
 use Rattle.scr_world.specs.Consequences.{begins_draining, gate_of, is_draining, shut_between}
 use Rattle.scr_world.specs.Instances.{created_at, drained_in, ended_in, first_free_slot, has_turn, is_active_instance, lives_on, next_generation, with_callback_begun}
 use Rattle.scr_world.specs.Legal.{IsLegal, MayCome}

@@ -16,10 +16,10 @@ use Rattle.component_state.specs.declared.origin.Origin.{Origin}
 use Rattle.component_state.proofs.Among.{Among, among_contains, filter_all, filter_none, filter_same}
 use Rattle.component_state.proofs.Apart.{any_found, any_from, in_none, kept_over, kept_was}
 use Rattle.prop_map.specs.Words.{has}
-use Rattle.scr_entries.proofs.Sequences.{told_calls}
-use Rattle.scr_gates.specs.Gates.{shuts_nothing}
+use Rattle.scr_laws.proofs.Sequences.{told_calls}
+use Rattle.scr_laws.specs.Gates.{shuts_nothing}
 use Rattle.scr_laws.proofs.Listed.{in_mapped}
-use Rattle.scr_numbers.proofs.InstanceLemmas.{begun_cases, drained_same, told_same}
+use Rattle.scr_laws.proofs.InstanceLemmas.{begun_cases, drained_same, told_same}
 use Rattle.scr_still.proofs.HeldThrough.{held_begins}
 use Rattle.scr_world.specs.Instances.{begun_by, created_at, drained_in, with_callback_begun}
 use Rattle.scr_world.specs.Lists.{holds, is_service_held, unregistered_held_between, world_after_entry, world_of}

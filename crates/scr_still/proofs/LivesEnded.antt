@@ -19,8 +19,8 @@ use Rattle.component_dto.specs.declared.description.Reference.{Reference}
 use Rattle.component_state.specs.declared.component.Component.{Component}
 use Rattle.component_state.proofs.Among.{none_passes}
 use Rattle.prop_map.specs.Words.{has}
-use Rattle.scr_entries.proofs.CallbackFronts.{front_of, sequence_may}
-use Rattle.scr_entries.proofs.DrainOrder.{last_more, one_at_a_time_of}
+use Rattle.scr_laws.proofs.CallbackFronts.{front_of, sequence_may}
+use Rattle.scr_laws.proofs.DrainOrder.{last_more, one_at_a_time_of}
 use Rattle.scr_world.specs.Instances.{last_is}
 use Rattle.scr_world.specs.Lists.{holds}
 use Rattle.scr_world.specs.Whiteboard.{component_in}

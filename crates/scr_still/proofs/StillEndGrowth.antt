@@ -17,11 +17,11 @@ use Rattle.journal_core.specs.Rooms.{JournalRows}
 use Rattle.journal_core.specs.declared.entry.Entry.{Entry}
 use Rattle.journal_core.specs.declared.entry.GateKey.{GateKey}
 use Rattle.prop_map.specs.Words.{has, one_if}
-use Rattle.scr_entries.specs.Following.{entry_of}
-use Rattle.scr_entries.specs.Reserving.{given_back_by, stands_for, stands_in, tokens_dropped}
-use Rattle.scr_entries.proofs.FollowingEntries.{follows}
-use Rattle.scr_entries.proofs.Reserved.{reserved_then}
-use Rattle.scr_entries.proofs.StandingGets.{tokens_stand, uses_stand}
+use Rattle.scr_laws.specs.Following.{entry_of}
+use Rattle.scr_laws.specs.Reserving.{given_back_by, stands_for, stands_in, tokens_dropped}
+use Rattle.scr_laws.proofs.FollowingEntries.{follows}
+use Rattle.scr_laws.proofs.Reserved.{reserved_then}
+use Rattle.scr_laws.proofs.StandingGets.{tokens_stand, uses_stand}
 use Rattle.scr_laws.specs.Opens.{meets_all, some_numbered}
 use Rattle.scr_laws.specs.Stills.{bare, passed_nothing}
 use Rattle.scr_laws.proofs.Described.{legal_in_order}

@@ -20,13 +20,13 @@ use Rattle.component_state.specs.Scratch.{is_satisfied}
 use Rattle.journal_core.specs.Rooms.{JournalRows}
 use Rattle.journal_core.specs.declared.entry.Entry.{Entry}
 use Rattle.prop_map.specs.Words.{has}
-use Rattle.scr_entries.specs.Following.{entry_of}
-use Rattle.scr_entries.specs.Reserving.{given_back_by, reserved_with}
-use Rattle.scr_entries.proofs.FollowingEntries.{follows}
-use Rattle.scr_entries.proofs.Reserved.{reserved_then}
-use Rattle.scr_entries.proofs.StandingGets.{none_dropped, tokens_left, uses_left}
-use Rattle.scr_gates.specs.Gates.{shuts_nothing}
-use Rattle.scr_gates.proofs.NothingShut.{nothing_shut}
+use Rattle.scr_laws.specs.Following.{entry_of}
+use Rattle.scr_laws.specs.Reserving.{given_back_by, reserved_with}
+use Rattle.scr_laws.proofs.FollowingEntries.{follows}
+use Rattle.scr_laws.proofs.Reserved.{reserved_then}
+use Rattle.scr_laws.proofs.StandingGets.{none_dropped, tokens_left, uses_left}
+use Rattle.scr_laws.specs.Gates.{shuts_nothing}
+use Rattle.scr_laws.proofs.NothingShut.{nothing_shut}
 use Rattle.scr_laws.specs.Entries.{is_still_step}
 use Rattle.scr_laws.specs.Opens.{meets_all, some_numbered}
 use Rattle.scr_laws.specs.Stills.{IsStill, bare, passed_nothing}

@@ -15,8 +15,8 @@ use Rattle.component_state.specs.declared.component.Component.{Component}
 use Rattle.component_state.proofs.Apart.{any_found, any_from, in_cases, in_none, in_rest, kept_from, kept_over, kept_was, not_true, one_of}
 use Rattle.component_state.proofs.Among.{among_contains, any_same, contains_among, fails_each, filter_all, filter_none, filter_same}
 use Rattle.prop_map.specs.Words.{has}
-use Rattle.scr_entries.proofs.LegalOrder.{legal_ordered}
-use Rattle.scr_entries.proofs.TurnOrder.{legal_turns_apart}
+use Rattle.scr_laws.proofs.LegalOrder.{legal_ordered}
+use Rattle.scr_laws.proofs.TurnOrder.{legal_turns_apart}
 use Rattle.scr_laws.proofs.Listed.{found_is, in_mapped}
 use Rattle.scr_still.specs.StillEnds.{ends_life, held_still, service_unbound, unbound_by, without}
 use Rattle.scr_still.proofs.HeldThrough.{held_ends, unbinds}

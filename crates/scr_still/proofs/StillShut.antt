@@ -21,12 +21,12 @@ use Rattle.component_state.specs.Periods.{is_current}
 use Rattle.component_state.proofs.Apart.{in_first, in_rest, one_of}
 use Rattle.prop_map.specs.Words.{has}
 use Rattle.scr_consequences.specs.Ends.{opens_gate}
-use Rattle.scr_entries.proofs.CallbackFronts.{IsFront, ended_front, front_of, is_making, phase_over}
-use Rattle.scr_entries.proofs.DrainOrder.{activate_after, last_more, one_at_a_time_of, phase_before}
-use Rattle.scr_entries.proofs.LegalOrder.{legal_ordered}
-use Rattle.scr_entries.proofs.Ordered.{AreOrdered}
-use Rattle.scr_entries.proofs.Reserved.{any_of_one}
-use Rattle.scr_numbers.proofs.InstanceLemmas.{ended_same}
+use Rattle.scr_laws.proofs.CallbackFronts.{IsFront, ended_front, front_of, is_making, phase_over}
+use Rattle.scr_laws.proofs.DrainOrder.{activate_after, last_more, one_at_a_time_of, phase_before}
+use Rattle.scr_laws.proofs.LegalOrder.{legal_ordered}
+use Rattle.scr_laws.proofs.Ordered.{AreOrdered}
+use Rattle.scr_laws.proofs.Reserved.{any_of_one}
+use Rattle.scr_laws.proofs.InstanceLemmas.{ended_same}
 use Rattle.scr_still.specs.StillEnds.{ends_life, key_opened, shut_by_end}
 use Rattle.scr_still.proofs.LivesEnded.{life_goes_on}
 use Rattle.scr_world.specs.Consequences.{begins_draining, gate_of, is_draining, shut_between}

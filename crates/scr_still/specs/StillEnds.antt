@@ -13,7 +13,7 @@ use Rattle.journal_core.specs.declared.entry.GateKey.{GateKey}
 use Rattle.journal_core.specs.Rooms.{JournalRows}
 use Rattle.prop_map.specs.Words.{has}
 use Rattle.scr_consequences.specs.Ends.{opens_gate}
-use Rattle.scr_entries.specs.Reserving.{activates_by}
+use Rattle.scr_laws.specs.Reserving.{activates_by}
 use Rattle.scr_laws.specs.Stills.{bare}
 use Rattle.scr_still.specs.declared.leavings.Leaving.{Leaving}
 use Rattle.scr_world.specs.Consequences.{keeps_bundle}

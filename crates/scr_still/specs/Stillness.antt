@@ -1,7 +1,7 @@
 -- Entries without consequences, as code adds them. Our own.
 use Rattle.std.specs.Prelude.{◌≡◌, ◌<◌, ◌+◌, ◌-◌, ◌++◌, ◌∷◌, [], List, Bool, true, false}
 use Rattle.journal_core.specs.Rooms.{JournalRows}
-use Rattle.scr_entries.specs.Reserving.{given_back_by, reserved_with}
+use Rattle.scr_laws.specs.Reserving.{given_back_by, reserved_with}
 use Rattle.scr_laws.specs.Stills.{bare}
 use Rattle.scr_world.specs.declared.step.Step.{Step}
 use Rattle.scr_world.specs.declared.step.Step.TheVariants.{Command as Commanded, Begin, End, Drained, Got, Released}

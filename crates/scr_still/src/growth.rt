@@ -1,6 +1,6 @@
 //! The entry of a step that has no consequences, and the state after it, or neither.
-ghost use Rattle.scr_entries.specs.Reserving.{reserved_with};
-ghost use Rattle.scr_gates.specs.Gates.{shuts_nothing};
+ghost use Rattle.scr_laws.specs.Reserving.{reserved_with};
+ghost use Rattle.scr_laws.specs.Gates.{shuts_nothing};
 ghost use Rattle.scr_state.specs.Keeps.{IsDraft, Keeps};
 ghost use Rattle.scr_still.specs.Stillness.{HasRoomLeft, is_release, with_bare};
 ghost use Rattle.scr_world.specs.Calls.{Grown, world_at};

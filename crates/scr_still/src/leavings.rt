@@ -1,7 +1,7 @@
 //! What an end without consequences leaves: the gate that is shut with it, and the service that isn't held any more (OSGi
 //! Compendium 8, chapter 112, "Unbinding"; gates are our own).
 ghost use Rattle.scr_consequences.specs.Ends.{opens_gate};
-ghost use Rattle.scr_entries.specs.Reserving.{activates_by};
+ghost use Rattle.scr_laws.specs.Reserving.{activates_by};
 ghost use Rattle.scr_still.specs.StillEnds.{IsLeaving, IsLost, gives_drain_back, is_shut_by, key_opened, left_world, service_unbound};
 ghost use Rattle.scr_still.specs.StillEnds.{shut_by_end, unbound_by, without};
 ghost use Rattle.scr_world.specs.Instances.{has_turn, last_callback, next_generation};

@@ -7,8 +7,8 @@ use Rattle.std.proofs.lemmas.Bool.{and_from, and_parts, both_ways, eq-eqb, eqb-t
 use Rattle.component_state.specs.Inside.Ready.{are_apart}
 use Rattle.component_state.proofs.Apart.{kept_from, kept_over, length_over, not_true}
 use Rattle.prop_map.specs.Words.{has}
-use Rattle.scr_entries.specs.Reserving.{stands_for}
-use Rattle.scr_entries.proofs.TokenOrder.{tokens_spread}
+use Rattle.scr_laws.specs.Reserving.{stands_for}
+use Rattle.scr_laws.proofs.TokenOrder.{tokens_spread}
 use Rattle.scr_tokens.specs.Tokens.{AreCounted, is_get_of}
 use Rattle.scr_tokens.proofs.UseTables.{are_same, found_gone, found_kept, got_by_shell, got_by_token, ungot_by_shell, ungot_by_token, use_is}
 use Rattle.scr_world.specs.Lists.{with_lists_of, world_after_entry, world_of}

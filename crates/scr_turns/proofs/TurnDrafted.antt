@@ -8,7 +8,7 @@ use Rattle.component_state.specs.declared.component.Component.{Component}
 use Rattle.component_state.specs.Components.{exists}
 use Rattle.component_state.specs.Marks.{exists_unchanged, failed_after}
 use Rattle.prop_map.specs.Words.{has}
-use Rattle.scr_gates.proofs.TurnCallbacks.{are_told_apart}
+use Rattle.scr_laws.proofs.TurnCallbacks.{are_told_apart}
 use Rattle.scr_laws.proofs.Sounding.{legal_sound}
 use Rattle.scr_state.specs.Drafts.{with_draft}
 use Rattle.scr_state.specs.Keeps.{IsDraft, IsKept, with_bundles_by}

@@ -1,3 +1,4 @@
 pub mod CutRows
+pub mod TakenRows
 pub mod ToldRows
 pub mod Untold

@@ -25,6 +25,10 @@ cut_to [] counts = []
 cut_to (l ∷ ls) [] = []
 cut_to (l ∷ ls) (n ∷ ns) = with_first n l ∷ cut_to ls ns
 
+-- the table with the first listeners, as many as were saved, each told no more than it was, and the numbers that were given
+abbrev pub gone_back : SavedListeners → ListenerTable → ListenerTable
+gone_back saved t = record { rows = cut_to t.rows saved.told; numbered = saved.numbered }
+
 -- the listeners are those that were there, each perhaps told more, and then others
 abbrev pub HaveGrown : List Listener → List Listener → Type 0
 HaveGrown [] now = Unit {0}

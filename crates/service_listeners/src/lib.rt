@@ -3,6 +3,7 @@
 #![tactic(auto)]
 
 mod cutting;
+mod kept;
 mod listen_fault;
 mod listener;
 mod rows;
@@ -10,6 +11,7 @@ mod saved;
 mod table;
 mod telling;
 
+pub use kept::KeptListeners;
 pub use listen_fault::ListenFault;
 pub use listener::{Listener, ServiceEvent};
 pub use saved::Saved;

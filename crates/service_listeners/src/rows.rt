@@ -1,12 +1,12 @@
 //! The rows of listeners, found by their numbers, and told one after another.
 ghost use Rattle.service_listeners.specs.Listening.{with_changes};
 ghost use Rattle.service_listeners.specs.Numbers.{AreNumbered, AreRising, IsGiven, has_number};
-ghost use Rattle.service_listeners.specs.Undoing.{untold, with_row};
+ghost use Rattle.service_listeners.specs.Undoing.{untold, with_row, with_rows};
 ghost use Rattle.service_listeners.specs.declared.listener.Listener.{Listener};
 ghost use Rattle.row_places.specs.RowPlaces.{IsOnlyPlace, IsPlaceOrGap};
 ghost use Rattle.std.specs.Option.{option_copied};
 ghost use Rattle.std.specs.Ordering.{nat_cmp};
-ghost use Rattle.std.specs.Prelude.{◌≡◌, ◌<◌, ◌≤◌, ◌==◌, ◌++◌, ℕ, [], ◌∷◌, drop, filter, length, map, not, take, MatchResult, OnErr, OnOk};
+ghost use Rattle.std.specs.Prelude.{◌≡◌, ◌<◌, ◌≤◌, ◌==◌, ◌+◌, ◌++◌, ℕ, [], ◌∷◌, drop, filter, insert, length, map, not, take, vec_capacity, vec_len, MatchResult, OnErr, OnOk};
 
 use crate::Listener;
 use crate::telling::{tell_one, untell_one};
@@ -43,6 +43,61 @@ pub(crate) fn put_into(rows: &mut Vec<Listener>, listener: Listener, room: RowRo
     match place_or_gap(rows.as_slice(), listener.number) {
         Ok(place) => rows[place] = listener,
         Err(gap) => room.insert(rows, gap, listener),
+    }
+}
+
+// Puts a listener in the place of the one of its number, or where it belongs, for which the list has room.
+fn put(rows: &mut Vec<Listener>, listener: Listener)
+    requires order { AreRising rows.old.items }
+    requires room { vec_len rows.old < vec_capacity rows.old }
+    ensures now { rows.new.items ≡ with_row listener rows.old.items }
+    ensures rising { AreRising rows.new.items }
+    ensures room { vec_capacity rows.old ≤ vec_capacity rows.new }
+    ensures more { vec_len rows.new ≤ vec_len rows.old + 1 }
+{
+    match place_or_gap(rows.as_slice(), listener.number) {
+        Ok(place) => rows[place] = listener,
+        Err(gap) => insert(rows, gap, listener),
+    }
+}
+
+// Puts a listener at a place, for which the list has room.
+fn insert(rows: &mut Vec<Listener>, place: usize, listener: Listener)
+    requires within { place ≤ vec_len rows.old }
+    requires room { vec_len rows.old < vec_capacity rows.old }
+    ensures now { rows.new.items ≡ insert rows.old.items place listener }
+    ensures room { vec_capacity rows.old ≤ vec_capacity rows.new }
+    ensures more { vec_len rows.new ≤ vec_len rows.old + 1 }
+{
+    let _inserted = rows.insert(place, listener);
+}
+
+/// Puts each of some listeners at its place among others, which have room for them.
+pub(crate) fn put_each(rows: &mut Vec<Listener>, listeners: &mut Vec<Listener>)
+    requires order { AreRising rows.old.items }
+    requires room { vec_len rows.old + vec_len listeners.old ≤ vec_capacity rows.old }
+    ensures { rows.new.items ≡ with_rows listeners.old.items rows.old.items }
+{
+    while let Some(listener) = listeners.pop() {
+        put(rows, listener);
+    }
+}
+
+/// Moves the listeners of a bundle behind others, which have room for them.
+pub(crate) fn move_those_of(rows: &mut Vec<Listener>, bundle: u64, moved: &mut Vec<Listener>)
+    requires { vec_len moved.old + vec_len rows.old ≤ vec_capacity moved.old }
+    ensures left { rows.new.items ≡ filter (λ (l : Listener). not (l.bundle == bundle)) rows.old.items }
+    ensures moved { moved.new.items ≡ moved.old.items ++ filter (λ (l : Listener). l.bundle == bundle) rows.old.items }
+    ensures room { vec_capacity moved.new ≡ vec_capacity moved.old }
+    ensures fits { vec_len moved.new + vec_len rows.new ≤ vec_capacity moved.new }
+{
+    let mut at = 0;
+    while at < rows.len() {
+        if rows[at].bundle == bundle {
+            moved.push_reserved(rows.remove(at));
+        } else {
+            at += 1;
+        }
     }
 }
 

@@ -3,15 +3,19 @@ ghost use Rattle.ldap_filter.specs.Trees.{Tree};
 ghost use Rattle.service_listeners.specs.Listening.{after_changes, after_listen, after_unlisten, listener_of, ListenerTable, no_listeners, without_listeners_of};
 ghost use Rattle.service_listeners.specs.Numbers.{AreNumbered, IsGiven};
 ghost use Rattle.service_listeners.specs.Refusals.{IsRefusedBy, listen_refusal, no_listener};
-ghost use Rattle.service_listeners.specs.Saves.{HaveGrown, cut_to, saved_of};
-ghost use Rattle.service_listeners.specs.Undoing.{with_listener, without_change};
+ghost use Rattle.service_listeners.specs.Saves.{HaveGrown, cut_to, gone_back, saved_of};
+ghost use Rattle.service_listeners.specs.Undoing.{listeners_of, with_listener, with_listeners, without_change};
+ghost use Rattle.service_listeners.specs.declared.listen_fault.ListenFault.TheVariants.{NoListener};
 ghost use Rattle.service_listeners.specs.declared.listener.Listener.{Listener};
+ghost use Rattle.std.specs.List.{All};
 ghost use Rattle.std.specs.Option.{option_copied, option_map_or, option_to_list};
-ghost use Rattle.std.specs.Prelude.{◌≡◌, ◌<◌, ◌≤◌, ◌+◌, ◌-◌, ◌↔◌, [], ◌∷◌, ◌++◌, drop, length, IfOk, IsTrue, MatchOption, None, OnErr, OnOk, Some};
+ghost use Rattle.std.specs.Prelude.{◌≡◌, ◌<◌, ◌≤◌, ◌+◌, ◌-◌, ◌↔◌, ℕ, [], ◌∷◌, ◌++◌, drop, length, IfErr, IfOk, IsTrue, MatchOption, None, OnErr, OnOk, Some};
 
 use crate::cutting::{counts_told, cut_rows};
-use crate::rows::{keep_others, place_of, put_into, tell_from, untell_from};
-use crate::{ListenFault, Listener, Saved, ServiceEvent};
+use crate::rows::{
+    keep_others, move_those_of, place_of, put_each, put_into, tell_from, untell_from,
+};
+use crate::{KeptListeners, ListenFault, Listener, Saved, ServiceEvent};
 use ldap_filter::Filter;
 use prop_map::{List, OutOfMemory};
 use row_places::RowRoom;
@@ -109,21 +113,21 @@ impl Listeners {
         Ok(number)
     }
 
-    /// Removes a listener. Its number isn't given again.
+    /// Removes a listener. Its number isn't given again. It takes no memory.
     ///
     /// # Errors
     /// `NoListener` where there is none of this number.
     pub fn unlisten(&mut self, listener: u64) -> Result<(), ListenFault>
         ensures ok { OnOk result (self.new ≡ after_unlisten listener self.old) }
         ensures refused { IsRefusedBy (no_listener listener self.old) result }
+        ensures fault { IfErr result (λ fault. fault ≡ NoListener listener) }
         ensures err { OnErr result (self.new ≡ self.old) }
     {
         let _row = self.remove(listener)?;
         Ok(())
     }
 
-    /// Removes a listener as `unlisten` does, and hands it out. To `put_back` it undoes that. The listeners of a bundle can
-    /// be removed and put back one after another.
+    /// Removes a listener as `unlisten` does, and hands it out. To `put_back` it undoes that.
     ///
     /// # Errors
     /// As those of `unlisten`.
@@ -133,6 +137,7 @@ impl Listeners {
         ensures number { IfOk result (λ row. row.number ≡ listener) }
         ensures ok { OnOk result (self.new ≡ after_unlisten listener self.old) }
         ensures refused { IsRefusedBy (no_listener listener self.old) result }
+        ensures fault { IfErr result (λ fault. fault ≡ NoListener listener) }
         ensures fewer { OnOk result (length self.new.rows < length self.old.rows) }
         ensures err { OnErr result (self.new ≡ self.old) }
     {
@@ -164,11 +169,41 @@ impl Listeners {
         put_into(&mut self.rows, listener, room);
     }
 
-    /// Removes the listeners of a bundle.
+    /// Removes the listeners of a bundle. It takes no memory. Where it may have to be undone, `take_listeners_of` does it.
     pub fn remove_listeners_of(&mut self, bundle: u64)
         ensures { self.new ≡ without_listeners_of bundle self.old }
     {
         keep_others(&mut self.rows, bundle);
+    }
+
+    /// Removes the listeners of a bundle as `remove_listeners_of` does, and hands them out in the room that was taken for
+    /// them. To `put_listeners_back` undoes that. It takes no memory.
+    pub fn take_listeners_of(&mut self, bundle: u64, room: RowRoom<Listener>) -> KeptListeners
+        requires { length self.old.rows ≤ room }
+        ensures listeners { result.listeners ≡ listeners_of bundle self.old }
+        ensures room { result.room ≡ room }
+        ensures given { All (IsGiven self.new.numbered) result.listeners }
+        ensures fits { length self.new.rows + length result.listeners ≤ result.room }
+        ensures left { self.new ≡ without_listeners_of bundle self.old }
+    {
+        let mut rows = room.list();
+        move_those_of(&mut self.rows, bundle, &mut rows);
+        KeptListeners { rows }
+    }
+
+    /// Puts listeners that were removed back: each that stands comes to its place among them. It takes no memory. Where
+    /// only they are missing, as behind `take_listeners_of`, the table is as it was before they were removed.
+    pub fn put_listeners_back(&mut self, kept: KeptListeners)
+        requires given { All (IsGiven self.old.numbered) kept.listeners }
+        requires room { length self.old.rows + length kept.listeners ≤ kept.room }
+        ensures back { self.new ≡ with_listeners kept.listeners self.old }
+        ensures undone { (before : ListenerTable) (bundle : ℕ) → AreNumbered before.numbered before.rows →
+            kept.listeners ≡ listeners_of bundle before →
+            self.old ≡ without_listeners_of bundle before → self.new ≡ before }
+    {
+        let KeptListeners { mut rows } = kept;
+        put_each(&mut rows, &mut self.rows);
+        self.rows = rows;
     }
 
     /// Tells each listener what happened to a service: it came (no `before`), it left (no `after`), or its properties
@@ -232,10 +267,12 @@ impl Listeners {
         })
     }
 
-    /// Makes the table what it was when it was saved, where listeners and events only came since. It takes no memory.
+    /// Leaves the first listeners, as many as were saved, each told no more than it was then, and the numbers that were
+    /// given. This is the table that was saved where listeners and events only came since. It takes no memory.
     pub fn go_back(&mut self, saved: Saved)
         requires { AreNumbered saved.numbered (cut_to self.old.rows saved.told) }
-        ensures { (before : ListenerTable) → saved ≡ saved_of before → HaveGrown before.rows self.old.rows → self.new ≡ before }
+        ensures back { self.new ≡ gone_back saved self.old }
+        ensures undone { (before : ListenerTable) → saved ≡ saved_of before → HaveGrown before.rows self.old.rows → self.new ≡ before }
     {
         let Saved {
             told,
@@ -264,6 +301,7 @@ impl Listeners {
     ) -> Result<&[ServiceEvent], ListenFault>
         ensures events { IfOk result (λ events. events.now ≡ drop position (option_map_or (λ (l : Listener). l.events) (listener_of self.now.rows listener) [])) }
         ensures refused { IsRefusedBy (no_listener listener self.now) result }
+        ensures fault { IfErr result (λ fault. fault ≡ NoListener listener) }
     {
         match self.listener(listener) {
             Some(row) => Ok(events_behind(row.events.as_slice(), position)),

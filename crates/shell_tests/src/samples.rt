@@ -2,7 +2,7 @@
 
 use kind_trait::Kinds;
 use platform_shell::Platform;
-use scr_core::{Limits, Reply};
+use scr_world::{Limits, Reply};
 use shell_lang::{ShellLine, read_line};
 use std::alloc::Global;
 

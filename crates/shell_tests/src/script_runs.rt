@@ -1,11 +1,11 @@
 //! Runs over a source and a sink in memory.
-ghost use Rattle.scr_core.specs.Cores.{AreWithinGreatest};
+ghost use Rattle.platform_hall.specs.Cores.{AreWithinGreatest};
 
 use crate::samples::{LIMITS, LINES, PROVIDER};
 use demonstration_kinds::Demonstration;
 use fault_count::{MemorySink, MemorySource};
 use platform_shell::{Platform, run_script};
-use scr_core::Limits;
+use scr_world::Limits;
 use std::alloc::Global;
 
 // A script, what it is answered, and which reads and writes fail.

@@ -1,7 +1,7 @@
 //! Lines and replies of the shell.
 
 use prop_map::Str;
-use scr_core::Command;
+use scr_world::Command;
 use shell_lang::{LineFault, ShellLine, ShellReply, read_line, write_reply};
 use std::alloc::Global;
 use std::test::Fail;

@@ -159,7 +159,7 @@ fn more_than_there_may_be_are_told(rt: HostRuntime) -> Result<(), Fail> {
         rows.enabled.as_slice(),
     )];
     let configurations = [of_factory(alloc, "m", "m~one", 3)?];
-    assert!(rt; are_more_than(alloc, 0, &bundles, &configurations)?);
-    assert!(rt; !are_more_than(alloc, 1, &bundles, &configurations)?);
+    assert!(rt; are_more_than(0, &bundles, &configurations));
+    assert!(rt; !are_more_than(1, &bundles, &configurations));
     Ok(())
 }

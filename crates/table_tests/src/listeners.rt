@@ -115,3 +115,20 @@ fn a_removed_listener_is_put_back_at_its_place(rt: HostRuntime) -> Result<(), Fa
     assert!(rt; listeners.numbered() == 2);
     Ok(())
 }
+
+#[test]
+fn the_listeners_of_a_bundle_are_put_back(rt: HostRuntime) -> Result<(), Fail> {
+    let alloc = rt.alloc();
+    let mut listeners = with_one(alloc, "(v=1)")?.ok_or("a listener")?;
+    let filter = Filter::parse(alloc, "(v=*)")?;
+    assert!(rt; listeners.listen(alloc, 2, filter) == Ok(2));
+    let one = service(alloc, 1)?;
+    assert!(rt; listeners.tell(alloc, None, Some(&one)).is_ok());
+    let room = listeners.room(alloc)?;
+    let kept = listeners.take_listeners_of(1, room);
+    assert!(rt; listeners.rows().first().map(|row| row.number) == Some(2));
+    listeners.put_listeners_back(kept);
+    assert!(rt; listeners.rows().first().map(|row| row.number) == Some(1));
+    assert!(rt; was_told(&listeners, 1, 0, &[1]));
+    Ok(())
+}

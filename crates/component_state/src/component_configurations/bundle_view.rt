@@ -1,8 +1,11 @@
 //! A bundle as its component configurations are made of it.
 ghost use Rattle.component_state.specs.declared.rows.BundleRow.{BundleRow};
-ghost use Rattle.std.specs.Prelude.{◌≡◌, ◌==◌};
+ghost use Rattle.std.specs.Prelude.{◌≡◌, ◌==◌, IfOk};
 
+use crate::BundleRow;
 use component_dto::Description;
+use prop_map::OutOfMemory;
+use std::alloc::Global;
 use std::marker::Model;
 
 /// A bundle with its descriptions and whether each is enabled, all borrowed. Contracts see a `BundleRow`.
@@ -23,8 +26,8 @@ impl<'b> Model for BundleView<'b> {
 }
 
 impl<'b> BundleView<'b> {
-    /// The bundle of a number, with the number of its state, the descriptions of its document in their order, and which of
-    /// them are enabled.
+    /// The bundle of a number, with the number of its state, the descriptions of its document in their order, and which
+    /// of them are enabled.
     pub fn of(
         id: u64,
         state: u32,
@@ -68,4 +71,26 @@ impl<'b> BundleView<'b> {
     {
         self.enabled
     }
+}
+
+/// The bundles of these rows.
+///
+/// # Errors
+/// Only want of memory.
+pub(crate) fn bundle_views<'d>(
+    alloc: Global,
+    bundles: &'d [BundleRow],
+) -> Result<Vec<BundleView<'d>>, OutOfMemory>
+    ensures { IfOk result (λ views. views.items ≡ bundles.entry.now) }
+{
+    let mut views = Vec::new(alloc);
+    for bundle in bundles {
+        views.push(BundleView::of(
+            bundle.id,
+            bundle.state,
+            bundle.descriptions.as_slice(),
+            bundle.enabled.as_slice(),
+        ))?;
+    }
+    Ok(views)
 }

@@ -33,8 +33,8 @@ impl<'d> Model for ComponentView<'d> {
 }
 
 impl<'d> ComponentView<'d> {
-    /// A component configuration of a bundle's description, by its index, with the PID of the factory's configuration that
-    /// names it, whether each of its PIDs has a configuration that counts, and its properties but for its number.
+    /// A component configuration of a bundle's description, by its index, with the PID of the factory's configuration
+    /// that names it, whether each of its PIDs has a configuration that counts, and its properties but for its number.
     pub(crate) fn of(
         bundle: u64,
         index: u64,

@@ -29,16 +29,10 @@ impl<'c> Model for ConfigurationIndex<'c> {
 
 impl<'c> ConfigurationIndex<'c> {
     /// These configurations.
-    ///
-    /// # Errors
-    /// Only want of memory.
-    pub(crate) fn of(
-        _: Global,
-        list: &'c [Configuration],
-    ) -> Result<ConfigurationIndex<'c>, OutOfMemory>
-        ensures { IfOk result (λ index. index ≡ list.entry.now) }
+    pub(crate) fn of(list: &'c [Configuration]) -> ConfigurationIndex<'c>
+        ensures { result ≡ list.entry.now }
     {
-        Ok(ConfigurationIndex { list })
+        ConfigurationIndex { list }
     }
 
     /// The configuration of a PID.
@@ -111,13 +105,9 @@ fn with_factory<'c>(
 ) -> Result<Vec<&'c Configuration>, OutOfMemory>
     ensures { IfOk result (λ found. map (λ c. c.now) found.items ≡ of_factory pid.now list.now) }
 {
-    let mut found = Vec::new(alloc);
-    for configuration in list {
-        if is_of_factory(pid, configuration) {
-            found.push(configuration)?;
-        }
-    }
-    Ok(found)
+    list.iter()
+        .filter(|configuration| is_of_factory(pid, configuration))
+        .collect(alloc)
 }
 
 fn count_with_factory(list: &[Configuration], pid: &str) -> usize

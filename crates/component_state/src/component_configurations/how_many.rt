@@ -1,36 +1,28 @@
-//! Whether there are to be more component configurations than a number. A document may bring far more descriptions, and a
-//! factory more configurations, than there may be component configurations, so this is asked before they are made.
+//! Whether there are to be more component configurations than a number. A document may bring far more descriptions, and
+//! a factory more configurations, than there may be component configurations, so this is asked before they are made.
 ghost use Rattle.component_state.specs.ComponentConfigurations.{component_configurations, components_for_bundle, components_for_descriptions};
 ghost use Rattle.component_state.specs.Inside.HowMany.{LeavesRoom, how_many_for, how_many_of};
 ghost use Rattle.std.specs.Option.{option_copied};
-ghost use Rattle.std.specs.Prelude.{◌≡◌, IfOk, if◌then◌else◌, length, nat_lt};
+ghost use Rattle.std.specs.Prelude.{◌≡◌, if◌then◌else◌, length, nat_lt};
 
 use super::bundle_view::BundleView;
 use super::configuration_index::ConfigurationIndex;
 use super::counting::factory_of;
 use component_dto::{ConfigurationPolicy, Description};
 use config_admin::Configuration;
-use prop_map::{OutOfMemory, Str};
-use std::alloc::Global;
+use prop_map::Str;
 
-/// Whether there are to be more component configurations than a number. It makes none of them, and looks no further than
-/// that number.
-///
-/// # Errors
-/// Only want of memory.
+/// Whether there are to be more component configurations than a number. It makes none of them, looks no further than
+/// that number, and takes no memory.
 pub fn are_more_than(
-    alloc: Global,
     most: usize,
     bundles: &[BundleView<'_>],
     configurations: &[Configuration],
-) -> Result<bool, OutOfMemory>
-    ensures { IfOk result (λ more. more ≡ nat_lt most (length (component_configurations bundles.now configurations.now))) }
+) -> bool
+    ensures { result ≡ nat_lt most (length (component_configurations bundles.now configurations.now)) }
 {
-    let index = ConfigurationIndex::of(alloc, configurations)?;
-    match room_after_bundles(most, bundles, &index) {
-        Some(_) => Ok(false),
-        None => Ok(true),
-    }
+    let index = ConfigurationIndex::of(configurations);
+    room_after_bundles(most, bundles, &index).is_none()
 }
 
 fn room_after_bundles(

@@ -1,4 +1,4 @@
-use Rattle.std.proofs.Common.{◌≡◌, ap, ◌∙◌, None, List, ℕ, [], cond}
+use Rattle.std.proofs.Common.{ap, ◌∙◌, None, List, ℕ, [], cond}
 use Rattle.std.specs.Str.{bytes_eq}
 use Rattle.std.proofs.lemmas.Map.Text.{btree_map_updates_text}
 use Rattle.instance_callbacks.specs.ByName.{services_in}

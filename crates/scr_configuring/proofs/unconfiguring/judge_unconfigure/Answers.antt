@@ -1,6 +1,6 @@
 use Rattle.std.proofs.Common.{Err, Some, subst, sym}
-use Rattle.scr_changing.proofs.Changed.{of_command}
-use Rattle.scr_changing.specs.Changing.{ChangesUnlessFull}
+use Rattle.scr_judgements.proofs.Changed.{of_command}
+use Rattle.scr_judgements.specs.Changing.{ChangesUnlessFull}
 use Rattle.scr_configuring.proofs.ConfigRefusals.{delete_changes, delete_refused}
 use Rattle.scr_judgements.specs.Drafting.{no_tables}
 use Rattle.scr_judgements.specs.Judgements.{Judges}

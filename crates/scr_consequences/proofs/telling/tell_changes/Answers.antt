@@ -14,4 +14,4 @@ go_back-requires c =
 
 pub returns-in-Err-clause-err : goal.returns-in-Err-clause-err
 returns-in-Err-clause-err c =
-    c.go_back.ensures c.args.listeners.now c.in_ok-saved.ensures (grown c.args.listeners.now c.tell_all.new.listeners c.tell_all.ensures.told)
+    c.go_back.ensures.undone c.args.listeners.now c.in_ok-saved.ensures (grown c.args.listeners.now c.tell_all.new.listeners c.tell_all.ensures.told)

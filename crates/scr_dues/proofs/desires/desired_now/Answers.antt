@@ -1,6 +1,5 @@
 use Rattle.std.proofs.Common.{◌≡◌, ◌∙◌, ap, subst, List, [], ℕ}
 use Rattle.std.specs.Result.{IfOk}
-use Rattle.callback_orders.specs.Lives.{held_for}
 use Rattle.component_state.specs.Reasons.{choice_at}
 use Rattle.prop_map.specs.declared.reference_words.Policy.TheVariants.{Dynamic}
 use Rattle.reference_match.specs.declared.need.Need.{Need}

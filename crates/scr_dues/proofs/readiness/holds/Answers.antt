@@ -1,5 +1,4 @@
 use Rattle.std.proofs.Common.{◌≡◌, ◌∙◌, ap, sym, false}
-use Rattle.callback_orders.specs.declared.word.Called.{Called}
 use Rattle.scr_dues.specs.Bound.{was_bound}
 use Rattle.scr_world.specs.Views.{references_in}
 use Rattle.scr_dues.proofs.Bound.{none_held}

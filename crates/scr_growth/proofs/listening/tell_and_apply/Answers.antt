@@ -24,4 +24,4 @@ returns-in-Err-clause-err c =
     let cs = changes_between c.requires.before.0 c.args.state.now.world in
     let now_is = c.in-Err.ensures.err ∙ c.in_ok-tell_all.ensures.ok c.requires.before.0 c.requires.before.1 in
     let grown = subst (λ (t : ListenerTable). HaveGrown c.args.listeners.now.rows t.rows) (sym now_is) (grown_by cs c.args.listeners.now.rows) in
-    c.go_back.ensures c.args.listeners.now c.in_ok-saved.ensures grown
+    c.go_back.ensures.undone c.args.listeners.now c.in_ok-saved.ensures grown

@@ -1,4 +1,4 @@
-use Rattle.scr_laws.proofs.Stopping.{none_wait_for_nothing}
+use Rattle.scr_laws.proofs.StoppingBundles.{none_wait_for_nothing}
 use Rattle.scr_laws.proofs.entries.note_waiting.Goals as goal
 
 pub returns : goal.returns

@@ -1,7 +1,7 @@
 use Rattle.std.proofs.Common.{refl, subst, sym}
 use Rattle.std.proofs.lemmas.Result.{err_from_is_err_and}
-use Rattle.scr_changing.proofs.Changed.{no_memory}
-use Rattle.scr_changing.specs.Changing.{ChangesFreely}
+use Rattle.scr_judgements.proofs.Changed.{no_memory}
+use Rattle.scr_judgements.specs.Changing.{ChangesFreely}
 use Rattle.scr_starting.proofs.ComponentFlags.{disable_tables}
 use Rattle.scr_world.specs.declared.reply.Reply.TheVariants.{Done}
 use Rattle.scr_world.specs.declared.step.Step.{Step}

@@ -1,9 +1,9 @@
 use Rattle.std.proofs.Common.{◌∙◌, ap, refl, subst, sym}
 use Rattle.std.specs.Prelude.{not}
 use Rattle.std.proofs.lemmas.Result.{err_from_is_err_and}
-use Rattle.scr_asking.specs.Asked.{are_too_many}
-use Rattle.scr_changing.proofs.Changed.{no_memory, not_refused, refused_full}
-use Rattle.scr_changing.specs.Changing.{AreTablesBy, ChangesFreely}
+use Rattle.scr_judgements.specs.Asked.{are_too_many}
+use Rattle.scr_judgements.proofs.Changed.{no_memory, not_refused, refused_full}
+use Rattle.scr_judgements.specs.Changing.{AreTablesBy, ChangesFreely}
 use Rattle.scr_judgements.proofs.Judged.{judged_step, unchanged}
 use Rattle.scr_judgements.proofs.Plain.{refused_plainly}
 use Rattle.scr_starting.proofs.ComponentFlags.{enable_tables}

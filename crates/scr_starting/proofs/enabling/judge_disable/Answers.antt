@@ -1,6 +1,6 @@
 use Rattle.std.proofs.Common.{◌∙◌, refl, sym}
 use Rattle.std.proofs.lemmas.Result.{err_from_is_err_and}
-use Rattle.scr_changing.proofs.Changed.{of_command}
+use Rattle.scr_judgements.proofs.Changed.{of_command}
 use Rattle.scr_judgements.proofs.Judged.{no_memory_is, unchanged}
 use Rattle.scr_judgements.proofs.Plain.{refused_plainly}
 use Rattle.scr_world.specs.declared.command.Command.TheVariants.{Disable}

@@ -1,7 +1,7 @@
 use Rattle.std.proofs.Common.{◌∙◌, ap, refl, sym, Some}
 use Rattle.bundle_life.specs.declared.bundle.BundleState.{BundleState}
 use Rattle.bundle_life.specs.declared.bundle.BundleState.TheVariants.{Active}
-use Rattle.scr_changing.proofs.Changed.{of_command}
+use Rattle.scr_judgements.proofs.Changed.{of_command}
 use Rattle.scr_judgements.proofs.Judged.{unchanged}
 use Rattle.scr_judgements.proofs.Plain.{refused_plainly}
 use Rattle.scr_starting.proofs.Starts.{effect, free, still_stopping, unknown}

@@ -1,8 +1,8 @@
 use Rattle.std.proofs.Common.{◌∙◌, ap, refl, subst, sym, List, Some}
 use Rattle.std.proofs.lemmas.Result.{err_from_is_err_and}
 use Rattle.std.specs.Prelude.{map}
-use Rattle.scr_changing.proofs.Changed.{no_memory}
-use Rattle.scr_changing.specs.Changing.{ChangesUnlessFull}
+use Rattle.scr_judgements.proofs.Changed.{no_memory}
+use Rattle.scr_judgements.specs.Changing.{ChangesUnlessFull}
 use Rattle.scr_starting.proofs.Starts.{tables}
 use Rattle.scr_world.specs.Tables.{set_back}
 use Rattle.scr_world.specs.declared.contents.Contents.{Contents}

@@ -1,5 +1,5 @@
 use Rattle.std.proofs.Common.{◌∙◌, refl, sym}
-use Rattle.scr_changing.proofs.Changed.{of_command}
+use Rattle.scr_judgements.proofs.Changed.{of_command}
 use Rattle.scr_judgements.proofs.Judged.{unchanged}
 use Rattle.scr_judgements.proofs.Plain.{refused_plainly}
 use Rattle.scr_starting.proofs.Stops.{effect, free, unknown}

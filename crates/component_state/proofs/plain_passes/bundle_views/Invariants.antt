@@ -1,5 +1,0 @@
-use Rattle.std.proofs.Common.{◌≡◌, take}
-use Rattle.component_state.proofs.plain_passes.bundle_views.Given as goal
-
-abbrev pub invariant-loop-bundle : goal.invariant-loop-bundle
-invariant-loop-bundle l = l.views.items ≡ take l.bundle-index l.bundles

@@ -1,5 +1,0 @@
-mod Commands
-mod Leaving
-mod States
-mod Given
-mod Filling

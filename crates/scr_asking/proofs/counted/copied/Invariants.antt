@@ -1,7 +1,0 @@
-use Rattle.std.proofs.Common.{◌≡◌, take}
-use Rattle.std.specs.Prelude.{filter}
-use Rattle.scr_world.specs.Stepping.{is_counted}
-use Rattle.scr_asking.proofs.counted.copied.Given as goal
-
-abbrev pub invariant-loop-component : goal.invariant-loop-component
-invariant-loop-component l = l.counted.items ≡ filter (is_counted l.instances) (take l.component-index l.components)

@@ -1,3 +1,0 @@
-pub mod ChoiceLaws
-pub mod StaticLaws
-pub mod WhileActive

@@ -1,0 +1,14 @@
+use Rattle.std.proofs.Common.{◌∙◌, sym}
+use Rattle.scr_consequences.proofs.RegisteredLemmas.{direct_there, listed_there, zero_there}
+use Rattle.scr_consequences.proofs.registered.is_registered_with.Goals as goal
+
+pub returns-then-service-eq0 : goal.returns-then-service-eq0
+returns-then-service-eq0 c = zero_there c.args.world.now c.args.service c.if-service-eq0.true
+
+pub returns-then-is_direct : goal.returns-then-is_direct
+returns-then-is_direct c = direct_there c.args.world.now c.args.service (sym c.is_direct.ensures ∙ c.if-is_direct.true)
+
+pub returns : goal.returns
+returns c =
+    c.has.ensures ∙ c.requires c.args.service
+    ∙ listed_there c.args.world.now c.args.service c.if-service-eq0.false (sym c.is_direct.ensures ∙ c.if-is_direct.false)

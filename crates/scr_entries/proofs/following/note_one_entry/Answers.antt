@@ -1,5 +1,0 @@
-use Rattle.scr_laws.proofs.SameSteps.{one_entry}
-use Rattle.scr_entries.proofs.following.note_one_entry.Goals as goal
-
-pub returns : goal.returns
-returns c = one_entry

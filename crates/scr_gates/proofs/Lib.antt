@@ -1,5 +1,0 @@
-pub mod LastGenerations
-pub mod LivingLaws
-pub mod NothingShut
-pub mod OpenServices
-pub mod TurnCallbacks

@@ -1,5 +1,0 @@
-use Rattle.scr_gates.proofs.TurnCallbacks.{have_their_turns}
-use Rattle.scr_gates.proofs.callbacks.note_callbacks.Goals as goal
-
-pub returns : goal.returns
-returns c = have_their_turns

@@ -1,5 +1,0 @@
-use Rattle.scr_gates.proofs.LastGenerations.{last_generations}
-use Rattle.scr_gates.proofs.gates.note_generations.Goals as goal
-
-pub returns : goal.returns
-returns c = last_generations

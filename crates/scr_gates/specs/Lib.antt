@@ -1,3 +1,0 @@
-pub mod Callbacks
-pub mod Gates
-pub mod Services

@@ -1,0 +1,11 @@
+use Rattle.std.proofs.lemmas.Result.{err_from_is_err_and}
+use Rattle.scr_judgements.proofs.Changed.{no_memory, tables_freely}
+use Rattle.scr_judgements.proofs.changing.change_freely.Goals as goal
+
+pub asked_with-requires : goal.asked_with-requires
+asked_with-requires c = record { satisfied = c.requires.keeps.satisfied; tables = tables_freely c.args.state.now c.args.step.now c.args.reply c.args.tables c.requires.changes }
+
+pub returns-in_err-asked : goal.returns-in_err-asked
+returns-in_err-asked c =
+    let p = err_from_is_err_and c.from_residual.result c.from_residual.ensures.1 in
+    rw (p.1) (no_memory c.args.journal.now.limit c.args.state.now c.args.step.now p.0 p.2)

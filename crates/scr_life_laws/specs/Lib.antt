@@ -1,0 +1,10 @@
+pub mod Endings
+pub mod Choices
+pub mod Statics
+pub mod Services
+pub mod Holdings
+pub mod Providers
+pub mod Minimums
+pub mod Settlings
+pub mod Names
+pub mod Bounds

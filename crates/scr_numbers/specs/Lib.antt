@@ -1,3 +1,0 @@
-pub mod GateKeys
-pub mod Numbers
-pub mod Slots

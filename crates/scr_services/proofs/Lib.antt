@@ -1,4 +1,0 @@
-pub mod OpenedNumbers
-pub mod RegistrySteps
-pub mod PeriodSteps
-pub mod ServiceLaws

@@ -1,3 +1,0 @@
-pub mod Settlings
-pub mod Names
-pub mod Bounds

@@ -1,5 +1,0 @@
-use Rattle.scr_tables.proofs.WithinLaws.{all_within}
-use Rattle.scr_tables.proofs.limits.note_limits.Goals as goal
-
-pub returns : goal.returns
-returns c = all_within
