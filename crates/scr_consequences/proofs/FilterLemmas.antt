@@ -42,3 +42,10 @@ module _ {X : Type 0} where
   -- an item of a list is there
   pub there_at : (xs : List X) (i : ℕ) (x : X) → i < length xs → x ≡ get_or xs i x → Contains xs x
   there_at xs i x within e = (i, within, sym e)
+
+  -- a filter keeps a list of which all pass
+  pub kept_all : (p : X → Bool) (xs : List X) → ((x : X) → Contains xs x → p x ≡ true) → filter p xs ≡ xs
+  kept_all p [] all = refl
+  kept_all p (x ∷ xs) all =
+      ap (λ b. cond b (x ∷ filter p xs) (filter p xs)) (all x (0, omega arith, refl))
+      ∙ ap (λ (l : List X). x ∷ l) (kept_all p xs (λ y there. all y (suc there.0, omega (arith, there.1), there.2)))

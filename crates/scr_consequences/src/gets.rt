@@ -1,22 +1,34 @@
 //! The gets that stand (OSGi Core 8, chapter 5, "Unregistering Services"; chapter 4, "Stopping Bundles"): those of registered
-//! services for ACTIVE bundles.
+//! services for ACTIVE bundles. They are asked only where one may have ended.
 ghost use Rattle.component_state.specs.Rows.{rows_of};
-ghost use Rattle.prop_map.specs.Words.{has};
-ghost use Rattle.scr_consequences.specs.Gets.{stands, token_stands, use_stands};
+ghost use Rattle.prop_map.specs.Words.{has, is_empty};
+ghost use Rattle.scr_consequences.specs.Gets.{AreStanding, HaveStood, is_stop, stands, token_stands, use_stands};
+ghost use Rattle.scr_consequences.specs.Lefts.{left_between};
 ghost use Rattle.scr_world.specs.Lists.{is_active_bundle, tokens_in, uses_in};
 ghost use Rattle.scr_world.specs.Worlds.{is_registered};
+ghost use Rattle.scr_world.specs.declared.world.World.{World};
 ghost use Rattle.service_registry.specs.Services.{ids};
 ghost use Rattle.std.specs.List.{Contains};
-ghost use Rattle.std.specs.Prelude.{◌≡◌, ◌<◌, ℕ, IfNone, IfOk, IfSome, false, filter, length};
+ghost use Rattle.std.specs.Prelude.{◌≡◌, ◌<◌, ◌||◌, ℕ, IfNone, IfOk, IfSome, false, filter, is_some, length, not};
 ghost use Rattle.use_counts.specs.declared.uses.UseRow.{UseRow};
 
 use crate::endings::is_active_bundle;
 use crate::registered::{is_registered_with, opened_numbers};
 use crate::sorted_numbers::SortedNumbers;
 use prop_map::{Copies, List, OutOfMemory};
-use scr_world::{Token, World};
+use scr_world::{Command, Step, Token, World};
+use service_registry::ServiceRow;
 use std::alloc::Global;
 use use_counts::{UseCounts, UseRow};
+
+/// Gets that stand.
+#[derive(Drop)]
+pub struct StandingGets {
+    /// By the shell and by token, counted for each service and bundle.
+    pub uses: UseCounts,
+    /// Those by token.
+    pub tokens: List<Token>,
+}
 
 // Whether a get of a service for a bundle stands.
 #[tactic(auto, unfolding(crate::specs::Gets::stands))]
@@ -87,12 +99,9 @@ fn end_others(now: &World, opened: &SortedNumbers, uses: &mut UseCounts)
     }
 }
 
-/// The gets that stand in a world: those of registered services for ACTIVE bundles, by service, then by bundle.
-///
-/// # Errors
-/// Only want of memory.
+// The gets that stand in a world: those of registered services for ACTIVE bundles, by service, then by bundle.
 #[tactic(auto, unfolding(crate::specs::Gets::stands))]
-pub fn uses_in(alloc: Global, now: &World) -> Result<UseCounts, OutOfMemory>
+fn uses_in(alloc: Global, now: &World) -> Result<UseCounts, OutOfMemory>
     ensures { IfOk result (λ uses. uses ≡ uses_in now.now) }
 {
     let mut uses = now.uses.copy(alloc)?;
@@ -123,12 +132,9 @@ fn tokens_standing(
     Ok(List::of(found))
 }
 
-/// The gets by token that stand in a world, by place.
-///
-/// # Errors
-/// Only want of memory.
+// The gets by token that stand in a world, by place.
 #[tactic(auto, unfolding(crate::specs::Gets::stands))]
-pub fn tokens_in(alloc: Global, now: &World) -> Result<List<Token>, OutOfMemory>
+fn tokens_in(alloc: Global, now: &World) -> Result<List<Token>, OutOfMemory>
     ensures { IfOk result (λ tokens. tokens ≡ tokens_in now.now) }
 {
     let tokens = now.tokens.as_slice();
@@ -137,4 +143,35 @@ pub fn tokens_in(alloc: Global, now: &World) -> Result<List<Token>, OutOfMemory>
     }
     let opened = opened_numbers(alloc, now)?;
     tokens_standing(alloc, now, &opened, tokens)
+}
+
+// Whether a get may end with a step, where these services left with it: a stop takes a bundle out of ACTIVE.
+fn may_end(step: &Step, left: &[ServiceRow]) -> bool
+    ensures { result ≡ (is_stop step.now || not (is_empty left.now)) }
+{
+    matches!(step, Step::Command(Command::Stop { .. })) || !left.is_empty()
+}
+
+/// The gets that a step leaves in the world that it led to, where these services left with it: none are answered where
+/// all stand that there are. They are asked one by one only where a service left or a bundle is stopped.
+///
+/// # Errors
+/// Only want of memory.
+pub fn gets_left(
+    alloc: Global,
+    step: &Step,
+    left: &[ServiceRow],
+    now: &World,
+) -> Result<Option<StandingGets>, OutOfMemory>
+    ensures told { IfOk result (λ gets. is_some gets ≡ (is_stop step.now || not (is_empty left.now))) }
+    ensures standing { IfOk result (λ gets. (was : World) → HaveStood step.now was now.now → left.now ≡ left_between was now.now
+        → AreStanding now.now gets) }
+{
+    if may_end(step, left) {
+        return Ok(Some(StandingGets {
+            uses: uses_in(alloc, now)?,
+            tokens: tokens_in(alloc, now)?,
+        }));
+    }
+    Ok(None)
 }

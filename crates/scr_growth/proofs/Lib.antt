@@ -1,4 +1,5 @@
 pub mod Drafted
+pub mod GetsStood
 pub mod Growing
 pub mod ListenerLemmas
 pub mod SettleSteps

@@ -11,10 +11,12 @@ use Rattle.journal_core.specs.declared.entry.Entry.{Entry}
 use Rattle.journal_core.specs.declared.entry.GateKey.{GateKey}
 use Rattle.journal_core.specs.declared.entry.Opened.{Opened}
 use Rattle.scr_consequences.specs.Ends.{draining_in}
+use Rattle.scr_consequences.specs.Gets.{HaveStood}
 use Rattle.scr_laws.specs.Following.{entry_of}
 use Rattle.scr_growth.specs.Growths.{HasEntered, HasSettled, IsBefore, IsRest, IsSettling, entry_with, passed_world, services_among, settled_world, with_listeners_told}
 use Rattle.scr_growth.specs.declared.settling.Lists.{Lists}
 use Rattle.scr_growth.specs.declared.settling.Rest.{Rest}
+use Rattle.scr_growth.proofs.GetsStood.{have_stood}
 use Rattle.scr_growth.proofs.Growing.{room_then, stopped_is_in}
 use Rattle.scr_growth.proofs.Settled.{reserved_is, settled_is, shut_is}
 use Rattle.scr_laws.proofs.Histories.{legal_is_asked}
@@ -51,12 +53,17 @@ unfolding world_after_step
 bundles_after step w = refl
 
 module _ (j : JournalRows Step) (step : Step) (s : State) (undo : Draft) (open_then : List OpenPeriod) (lists : Lists) (draining_ones : List ℕ) (so : IsSettling j step s undo open_then lists draining_ones)
-    (rest : Rest) (found : (was : World) → IsBefore was s.world undo open_then → draining_ones ≡ draining_in was → IsRest was s.world rest) where
+    (rest : Rest) (given : Step) (given_is : given ≡ step) (found : (was : World) → IsBefore was s.world undo open_then → HaveStood given was s.world → draining_ones ≡ draining_in was → IsRest was s.world rest) where
   asked : IsAsked (world_at j.entries)
   asked = legal_is_asked j.limit (history_of j.entries) so.grows.legal
 
+  stood : HaveStood given (world_at j.entries) s.world
+  stood =
+      subst (λ (x : Step). HaveStood x (world_at j.entries) s.world) (sym given_is)
+      (subst (λ (w : World). HaveStood step (world_at j.entries) w) (sym so.world) (have_stood (history_of j.entries) step so.grows.may so.pass.open_now))
+
   rest_is : IsRest (world_at j.entries) (passed_world step (world_at j.entries) so.pass.open_now) rest
-  rest_is = subst (λ (w : World). IsRest (world_at j.entries) w rest) so.world (found (world_at j.entries) so.before so.draining)
+  rest_is = subst (λ (w : World). IsRest (world_at j.entries) w rest) so.world (found (world_at j.entries) so.before stood so.draining)
 
   entry_is : entry_with step lists ≡ entry_of step so.pass (world_at j.entries)
   entry_is =

@@ -113,7 +113,7 @@ module _ (was : World) (asked : IsAsked was) (step : Step) (pass : Passed) (pass
     now = passed_world step was pass.open_now
 
     put_together : settled_world r (stopped_by step was) (with_listeners_told step was (record now { registry = with_numbers_given (services_among pass.opened) now.registry })) ≡ with_gets_and_events step was (completed (stopped_by step was) (services_among pass.opened) now)
-    put_together = rw (is.entries, is.uses, is.tokens, is.held, silent, uses_stay now (stopped_by step was) (services_among pass.opened) stops, tokens_stay now (stopped_by step was) (services_among pass.opened) stops) refl
+    put_together = rw (is.entries, is.gets.uses, is.gets.tokens, is.held, silent, uses_stay now (stopped_by step was) (services_among pass.opened) stops, tokens_stay now (stopped_by step was) (services_among pass.opened) stops) refl
 
     pub settled_is : settled_world r (stopped_by step was) (with_listeners_told step was (record now { registry = with_numbers_given (services_among pass.opened) now.registry })) ≡ world_after_entry (entry_of step pass was) was
     unfolding world_after_entry
@@ -129,7 +129,7 @@ module _ (was : World) (asked : IsAsked was) (step : Step) (pass : Passed) (pass
         ∙ ap (shut_between was) (sym put_together ∙ settled_is)
 
     reserved_of : r.reserved ≡ reserved (with_gets_and_events step was (completed (stopped_by step was) (services_among pass.opened) now))
-    reserved_of = is.reserved ∙ ap (λ ts. reserved_with_tokens now (length ts)) (is.tokens ∙ sym (tokens_stay now (stopped_by step was) (services_among pass.opened) stops))
+    reserved_of = is.reserved ∙ ap (λ ts. reserved_with_tokens now (length ts)) (is.gets.tokens ∙ sym (tokens_stay now (stopped_by step was) (services_among pass.opened) stops))
 
     pub reserved_is : r.reserved ≡ reserved (world_after_entry (entry_of step pass was) was)
     reserved_is = reserved_of ∙ ap reserved (sym put_together ∙ settled_is)

@@ -11,6 +11,7 @@ use Rattle.journal_core.specs.declared.entry.Opened.{Opened}
 use Rattle.prop_map.specs.Words.{has}
 use Rattle.bundle_life.specs.Lives.{stop_completed}
 use Rattle.scr_consequences.specs.Ends.{draining_in}
+use Rattle.scr_consequences.specs.Gets.{AreStanding, tokens_left, uses_left}
 use Rattle.scr_laws.specs.Following.{entry_of}
 use Rattle.scr_growth.specs.declared.listener_change.ListenerChange.{ListenerChange}
 use Rattle.scr_growth.specs.declared.listener_change.ListenerChange.TheVariants.{Nothing, Listen, Unlisten, Remove}
@@ -25,7 +26,7 @@ use Rattle.scr_world.specs.Calls.{world_at}
 use Rattle.scr_world.specs.Consequences.{shut_between, stage_of, stopped_by}
 use Rattle.scr_world.specs.Legal.{IsLegal, MayCome}
 use Rattle.scr_world.specs.Levels.{levels_of}
-use Rattle.scr_world.specs.Lists.{changes_between, tokens_in, unregistered_held_between, uses_in, world_after_entry}
+use Rattle.scr_world.specs.Lists.{changes_between, unregistered_held_between, world_after_entry}
 use Rattle.scr_world.specs.Room.{has_room, needed_by, reserved, reserved_for}
 use Rattle.scr_world.specs.Steps.{history_of}
 use Rattle.scr_world.specs.Stepping.{failing, world_after_step}
@@ -59,8 +60,8 @@ reserved_with_tokens w tokens = sum (map reserved_for (all_instances w)) + token
 abbrev pub settled_world : Rest → List ℕ → World → World
 settled_world r stopped w = record w {
   entries = r.entries;
-  uses = r.uses;
-  tokens = r.tokens;
+  uses = uses_left r.gets w;
+  tokens = tokens_left r.gets w;
   unregistered_held = r.unregistered_held;
   bundles = stop_completed stopped w.bundles;
 }
@@ -68,11 +69,10 @@ settled_world r stopped w = record w {
 -- what it is, where this was the world before the step
 pub record IsRest (was w : World) (r : Rest) : Type 0 where
   pub entries : r.entries ≡ w.entries + 1
-  pub uses : r.uses ≡ uses_in w
-  pub tokens : r.tokens ≡ tokens_in w
+  pub gets : AreStanding w r.gets
   pub held : r.unregistered_held ≡ unregistered_held_between was w
   pub shut : r.shut ≡ shut_between was w
-  pub reserved : r.reserved ≡ reserved_with_tokens w (length r.tokens)
+  pub reserved : r.reserved ≡ reserved_with_tokens w (length (tokens_left r.gets w))
 
 -- ---- what the growth of a journal goes through
 

@@ -2,6 +2,7 @@
 //! reserved.
 ghost use Rattle.prop_map.specs.Words.{one_if};
 ghost use Rattle.scr_consequences.specs.Ends.{draining_in};
+ghost use Rattle.scr_consequences.specs.Gets.{HaveStood, tokens_left, uses_left};
 ghost use Rattle.scr_growth.specs.Growths.{AreCached, HasBefore, HasEntered, HasSettled, IsBefore};
 ghost use Rattle.scr_growth.specs.Growths.{IsRest, IsSettling, reserved_with_tokens, services_among, settled_world, with_listeners_told};
 ghost use Rattle.bundle_life.specs.Lives.{is_stopping, state_is};
@@ -20,14 +21,13 @@ use component_state::OpenPeriod;
 use journal_core::{GateKey, Journal, Opened};
 use prop_map::{List, OutOfMemory};
 use scr_consequences::{
-    complete_stops, note_bundles, note_listeners, note_stops, shut_since, tokens_in,
-    unregistered_held_between, uses_in,
+    StandingGets, complete_stops, gets_left, left_between, note_bundles, note_listeners,
+    note_stops, shut_since, unregistered_held_between,
 };
 use scr_state::{Draft, State};
 use scr_world::{Instance, Step, Token, World};
 use service_registry::ServiceRow;
 use std::alloc::{AllocError, Global};
-use use_counts::UseCounts;
 
 /// The lists of an entry.
 #[derive(Drop)]
@@ -41,8 +41,7 @@ pub(crate) struct Lists {
 #[derive(Drop)]
 pub(crate) struct Rest {
     entries: u64,
-    uses: UseCounts,
-    tokens: List<Token>,
+    gets: Option<StandingGets>,
     unregistered_held: List<ServiceRow>,
     shut: List<GateKey>,
     reserved: u64,
@@ -72,7 +71,7 @@ pub(crate) fn settle(
     note_bundles();
     note_stops();
     let _rows = state.world.registry.rows();
-    let rest = rest_of(alloc, &state.world, undo, periods, draining)?;
+    let rest = rest_of(alloc, &state.world, undo, periods, &step, draining)?;
     let stopped = List::of(Vec::from_slice(alloc, lists.stopped.as_slice())?);
     let given = services_among(lists.opened.as_slice());
     state.world.registry.give(given)?;
@@ -99,22 +98,34 @@ fn rest_of(
     world: &World,
     undo: &Draft,
     periods: &List<OpenPeriod>,
+    step: &Step,
     draining: &List<u64>,
 ) -> Result<Rest, OutOfMemory>
-    ensures { IfOk result (λ r. (was : World) → IsBefore was world.now undo.now periods.now → draining.now ≡ draining_in was → IsRest was world.now r) }
+    ensures { IfOk result (λ r. (was : World) → IsBefore was world.now undo.now periods.now → HaveStood step.now was world.now
+        → draining.now ≡ draining_in was → IsRest was world.now r) }
 {
-    let tokens = tokens_in(alloc, world)?;
-    let reserved = reserved(world, tokens.as_slice())?;
     let rows = rows_with(world, undo);
     let before = periods_before(periods, undo);
+    let left = left_between(alloc, rows, before, world)?;
+    let gets = gets_left(alloc, step, left.as_slice(), world)?;
+    let reserved = reserved(world, tokens_left(world, &gets))?;
     Ok(Rest {
         entries: world.entries.checked_add(1).ok_or(AllocError)?,
-        uses: uses_in(alloc, world)?,
-        tokens,
-        unregistered_held: unregistered_held_between(alloc, rows, before, world)?,
+        gets,
+        unregistered_held: unregistered_held_between(alloc, left.as_slice(), world)?,
         shut: shut_since(alloc, world, draining.as_slice())?,
         reserved,
     })
+}
+
+// The gets by token that are left of a world's.
+fn tokens_left<'a>(world: &'a World, gets: &'a Option<StandingGets>) -> &'a [Token]
+    ensures { result.now ≡ tokens_left gets.entry.now world.entry.now }
+{
+    match gets {
+        Some(gets) => gets.tokens.as_slice(),
+        None => world.tokens.as_slice(),
+    }
 }
 
 // Adds an entry, and tells the listeners of it: both or nothing.
@@ -160,18 +171,26 @@ fn leave(world: &mut World, rest: Rest, stopped: &List<u64>) -> List<GateKey>
 {
     let Rest {
         entries,
-        uses,
-        tokens,
+        gets,
         unregistered_held,
         shut,
         ..
     } = rest;
     world.entries = entries;
-    world.uses = uses;
-    world.tokens = tokens;
+    put_gets(world, gets);
     world.unregistered_held = unregistered_held;
     complete_stops(&mut world.bundles, stopped.as_slice());
     shut
+}
+
+// Takes over into the world the gets that are left, where some end.
+fn put_gets(world: &mut World, gets: Option<StandingGets>)
+    ensures { world.new ≡ record world.old { uses = uses_left gets world.old; tokens = tokens_left gets world.old } }
+{
+    if let Some(StandingGets { uses, tokens }) = gets {
+        world.uses = uses;
+        world.tokens = tokens;
+    }
 }
 
 // How many services open.

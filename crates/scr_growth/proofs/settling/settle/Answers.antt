@@ -8,19 +8,19 @@ use Rattle.scr_growth.proofs.settling.settle.Goals as goal
 
 pub enter-requires-clause-room : goal.enter-requires-clause-room
 enter-requires-clause-room c =
-    room_for c.args.journal.now c.args.step.value c.args.state.now c.args.undo.now c.args.periods.now c.args.lists c.args.draining.now c.requires c.in_ok-rest.rest c.in_ok-rest.ensures
+    room_for c.args.journal.now c.args.step.value c.args.state.now c.args.undo.now c.args.periods.now c.args.lists c.args.draining.now c.requires c.in_ok-rest.rest _ c.deref.ensures c.in_ok-rest.ensures
 
 pub enter-requires-clause-numbered : goal.enter-requires-clause-numbered
 enter-requires-clause-numbered c =
-    numbered_for c.args.journal.now c.args.step.value c.args.state.now c.args.undo.now c.args.periods.now c.args.lists c.args.draining.now c.requires c.in_ok-rest.rest c.in_ok-rest.ensures c.note_listeners.ensures
+    numbered_for c.args.journal.now c.args.step.value c.args.state.now c.args.undo.now c.args.periods.now c.args.lists c.args.draining.now c.requires c.in_ok-rest.rest _ c.deref.ensures c.in_ok-rest.ensures c.note_listeners.ensures
 
 pub leave-requires-clause-stopping : goal.leave-requires-clause-stopping
 leave-requires-clause-stopping c =
     let was = world_at c.args.journal.now.entries in
     let copied = c.of-stopped.ensures ∙ c.in_ok-from_slice.ensures.items ∙ c.as_slice.ensures in
-    let before = before_for c.args.journal.now c.args.step.value c.args.state.now c.args.undo.now c.args.periods.now c.args.lists c.args.draining.now c.requires c.in_ok-rest.rest c.in_ok-rest.ensures
+    let before = before_for c.args.journal.now c.args.step.value c.args.state.now c.args.undo.now c.args.periods.now c.args.lists c.args.draining.now c.requires c.in_ok-rest.rest _ c.deref.ensures c.in_ok-rest.ensures
     c.services_among-given.result (c.services_among-given.ensures ∙ ap services_among c.as_slice-2.ensures) c.give.new.self c.in_ok-give.ensures.ok in
-    stopping_for c.args.journal.now c.args.step.value c.args.state.now c.args.undo.now c.args.periods.now c.args.lists c.args.draining.now c.requires c.in_ok-rest.rest c.in_ok-rest.ensures
+    stopping_for c.args.journal.now c.args.step.value c.args.state.now c.args.undo.now c.args.periods.now c.args.lists c.args.draining.now c.requires c.in_ok-rest.rest _ c.deref.ensures c.in_ok-rest.ensures
     c.services_among-given.result (c.services_among-given.ensures ∙ ap services_among c.as_slice-2.ensures) c.give.new.self c.in_ok-give.ensures.ok c.enter.new.state (c.in-Ok.ensures.told was before) c.of-stopped.result copied
     (c.note_bundles.ensures.step c.args.step.value (world_at c.args.journal.now.entries).bundles (c.note_bundles.ensures.world (history_of c.args.journal.now.entries))).0 c.note_stops.ensures.stopping
 
@@ -28,9 +28,9 @@ pub leave-requires-clause-rising : goal.leave-requires-clause-rising
 leave-requires-clause-rising c =
     let was = world_at c.args.journal.now.entries in
     let copied = c.of-stopped.ensures ∙ c.in_ok-from_slice.ensures.items ∙ c.as_slice.ensures in
-    let before = before_for c.args.journal.now c.args.step.value c.args.state.now c.args.undo.now c.args.periods.now c.args.lists c.args.draining.now c.requires c.in_ok-rest.rest c.in_ok-rest.ensures
+    let before = before_for c.args.journal.now c.args.step.value c.args.state.now c.args.undo.now c.args.periods.now c.args.lists c.args.draining.now c.requires c.in_ok-rest.rest _ c.deref.ensures c.in_ok-rest.ensures
     c.services_among-given.result (c.services_among-given.ensures ∙ ap services_among c.as_slice-2.ensures) c.give.new.self c.in_ok-give.ensures.ok in
-    rising_for c.args.journal.now c.args.step.value c.args.state.now c.args.undo.now c.args.periods.now c.args.lists c.args.draining.now c.requires c.in_ok-rest.rest c.in_ok-rest.ensures
+    rising_for c.args.journal.now c.args.step.value c.args.state.now c.args.undo.now c.args.periods.now c.args.lists c.args.draining.now c.requires c.in_ok-rest.rest _ c.deref.ensures c.in_ok-rest.ensures
     c.services_among-given.result (c.services_among-given.ensures ∙ ap services_among c.as_slice-2.ensures) c.give.new.self c.in_ok-give.ensures.ok c.enter.new.state (c.in-Ok.ensures.told was before) c.of-stopped.result copied
     (c.note_bundles.ensures.step c.args.step.value (world_at c.args.journal.now.entries).bundles (c.note_bundles.ensures.world (history_of c.args.journal.now.entries))).0 c.note_stops.ensures.rising
 
@@ -38,9 +38,9 @@ pub returns-in-Ok-clause-settled : goal.returns-in-Ok-clause-settled
 returns-in-Ok-clause-settled c =
     let was = world_at c.args.journal.now.entries in
     let copied = c.of-stopped.ensures ∙ c.in_ok-from_slice.ensures.items ∙ c.as_slice.ensures in
-    let before = before_for c.args.journal.now c.args.step.value c.args.state.now c.args.undo.now c.args.periods.now c.args.lists c.args.draining.now c.requires c.in_ok-rest.rest c.in_ok-rest.ensures
+    let before = before_for c.args.journal.now c.args.step.value c.args.state.now c.args.undo.now c.args.periods.now c.args.lists c.args.draining.now c.requires c.in_ok-rest.rest _ c.deref.ensures c.in_ok-rest.ensures
     c.services_among-given.result (c.services_among-given.ensures ∙ ap services_among c.as_slice-2.ensures) c.give.new.self c.in_ok-give.ensures.ok in
-    settled_so c.args.journal.now c.args.step.value c.args.state.now c.args.undo.now c.args.periods.now c.args.lists c.args.draining.now c.requires c.in_ok-rest.rest c.in_ok-rest.ensures
+    settled_so c.args.journal.now c.args.step.value c.args.state.now c.args.undo.now c.args.periods.now c.args.lists c.args.draining.now c.requires c.in_ok-rest.rest _ c.deref.ensures c.in_ok-rest.ensures
     c.services_among-given.result (c.services_among-given.ensures ∙ ap services_among c.as_slice-2.ensures) c.give.new.self c.in_ok-give.ensures.ok c.enter.new.state (c.in-Ok.ensures.told was before) c.of-stopped.result copied
     c.leave.new.world c.leave.ensures.world c.enter.new.journal c.in-Ok.ensures.ok c.leave.result c.leave.ensures.shut
 
