@@ -65,13 +65,10 @@ fn numbered_in<'a>(
 ) -> Result<Vec<&'a Component>, OutOfMemory>
     ensures { IfOk result (λ v. map (λ c. c.now) v.items ≡ numbered_in numbers.now components.now) }
 {
-    let mut found = Vec::new(alloc);
-    for component in components {
-        if numbers.has(component.number) {
-            found.push(component)?;
-        }
-    }
-    Ok(found)
+    components
+        .iter()
+        .filter(|component| numbers.has(component.number))
+        .collect(alloc)
 }
 
 // Tells of the services of component configurations, in the order of a pass.

@@ -30,13 +30,10 @@ pub fn ending_in(alloc: Global, world: &World, turn: u64) -> Result<Vec<&Instanc
 {
     let open_now = world.open_periods.as_slice();
     let instances = world.instances.as_slice();
-    let mut found = Vec::new(alloc);
-    for instance in instances {
-        if ends_making(open_now, turn, instance) {
-            found.push(instance)?;
-        }
-    }
-    Ok(found)
+    instances
+        .iter()
+        .filter(|instance| ends_making(open_now, turn, instance))
+        .collect(alloc)
 }
 
 fn configurations_ending(
