@@ -39,14 +39,14 @@ fn wishes(
 ) -> Result<Vec<Wish>, OutOfMemory>
     ensures { IfOk result (λ v. v.items ≡ map (λ s. record { service = s; ready = not (has held.now s) && is_ready world.now bundle s }) services.now) }
 {
-    let mut found = Vec::new(alloc);
-    for &service in services {
-        found.push(Wish {
+    services
+        .iter()
+        .copied()
+        .map(|service| Wish {
             service,
             ready: is_ready_anew(own, world, bundle, held, service),
-        })?;
-    }
-    Ok(found)
+        })
+        .collect(alloc)
 }
 
 fn is_to_be_told(
@@ -74,14 +74,14 @@ fn changes(
 ) -> Result<Vec<HeldService>, OutOfMemory>
     ensures { IfOk result (λ v. v.items ≡ map (λ s. record { service = s; changed = told && is_changed world.now instance.now reference.now s }) services.now) }
 {
-    let mut found = Vec::new(alloc);
-    for &service in services {
-        found.push(HeldService {
+    services
+        .iter()
+        .copied()
+        .map(|service| HeldService {
             service,
             changed: is_to_be_told(own, world, told, instance, reference, service),
-        })?;
-    }
-    Ok(found)
+        })
+        .collect(alloc)
 }
 
 // It holds these services for the reference, and chose these where it is static.

@@ -128,11 +128,10 @@ fn ranked_ones(
 ) -> Result<Vec<Ranked>, OutOfMemory>
     ensures { IfOk result (λ v. v.items ≡ map (λ s. record { ranking = ranking_of world.now s; id = s }) services.now) }
 {
-    let mut found = Vec::new(alloc);
-    for &service in services {
-        found.push(ranked_of(own, world, service))?;
-    }
-    Ok(found)
+    services
+        .iter()
+        .map(|service| ranked_of(own, world, *service))
+        .collect(alloc)
 }
 
 /// Services best first, by their present or last properties.

@@ -30,14 +30,14 @@ fn wishes(
 ) -> Result<Vec<Wish>, OutOfMemory>
     ensures { IfOk result (λ v. v.items ≡ map (λ s. record { service = s; ready = is_ready world.now bundle s }) services.now) }
 {
-    let mut found = Vec::new(alloc);
-    for &service in services {
-        found.push(Wish {
+    services
+        .iter()
+        .copied()
+        .map(|service| Wish {
             service,
             ready: is_ready(own, world, bundle, service),
-        })?;
-    }
-    Ok(found)
+        })
+        .collect(alloc)
 }
 
 // Services, each with whether it changed since an instance was told of it.
@@ -51,14 +51,14 @@ fn changes(
 ) -> Result<Vec<HeldService>, OutOfMemory>
     ensures { IfOk result (λ v. v.items ≡ map (λ s. record { service = s; changed = is_changed world.now instance.now reference.now s }) services.now) }
 {
-    let mut found = Vec::new(alloc);
-    for &service in services {
-        found.push(HeldService {
+    services
+        .iter()
+        .copied()
+        .map(|service| HeldService {
             service,
             changed: is_changed(own, world, instance, reference, service),
-        })?;
-    }
-    Ok(found)
+        })
+        .collect(alloc)
 }
 
 // What an instance holds for a reference, best first.

@@ -1,6 +1,0 @@
-use Rattle.std.proofs.Common.{◌≡◌, ◌&&◌, map, take}
-use Rattle.scr_world.specs.Views.{is_changed}
-use Rattle.scr_dues.proofs.lean_views.changes.Given as goal
-
-abbrev pub invariant-loop-service : goal.invariant-loop-service
-invariant-loop-service l = l.found.items ≡ map (λ s. record { service = s; changed = l.told && is_changed l.world l.instance l.reference s }) (take l.service-index l.services)
