@@ -109,7 +109,8 @@ impl<O: Drop> Desk<O> for CoreDesk<O> {
             }
             Ok(Taken::Idle) => Ok(None),
             Err(CoreFault::JournalFull) => Err(DeskFault::JournalFull),
-            Err(_) => Err(DeskFault::OutOfMemory),
+            Err(CoreFault::OutOfMemory) => Err(DeskFault::OutOfMemory),
+            Err(_) => unreachable!(),
         }
     }
 

@@ -104,7 +104,8 @@ fn begin<K: Kinds + Drop>(
         Ok(Some(turn)) => turn,
         Ok(None) => return Ok(ShellReply::Idle),
         Err(CoreFault::JournalFull) => return Err(SettleFault::JournalFull),
-        Err(_) => return Err(SettleFault::OutOfMemory),
+        Err(CoreFault::OutOfMemory) => return Err(SettleFault::OutOfMemory),
+        Err(_) => unreachable!(),
     };
     match platform.core().turn_work(alloc, turn)? {
         Some(work) => Ok(ShellReply::Begun(begun_line(work))),
