@@ -1,41 +1,28 @@
--- A draft that was swapped in and out again is as it was.
-use Rattle.std.proofs.Common.{◌≡◌, ℕ, List, zero, suc, [], ◌∷◌, ap, refl, Option, Some, None}
-use Rattle.std.proofs.Math.ListN.{get_or, set}
+-- A draft that was swapped in and out again says what it said.
+use Rattle.std.proofs.Common.{◌≡◌, ◌∙◌, ap, refl}
 use Rattle.std.specs.Option.{unwrap_or}
-use Rattle.std.specs.Prelude.{option_map}
-use Rattle.scr_state.specs.Drafts.{undoing, undoing_change, with_change, with_draft}
+use Rattle.scr_core.specs.Drafting.{IsAlike}
+use Rattle.scr_state.specs.Drafts.{with_draft}
+use Rattle.scr_state.specs.Keeps.{IsDraft, with_bundles_by}
 use Rattle.scr_state.specs.declared.draft.Draft.{Draft}
-use Rattle.scr_state.specs.declared.draft.InstanceChange.{InstanceChange}
-use Rattle.scr_state.specs.declared.draft.InstanceChange.TheVariants.{Same, One, All}
-use Rattle.scr_world.specs.declared.instance.Instance.{Instance}
+use Rattle.scr_state.specs.declared.state.State.{State}
+use Rattle.scr_world.specs.Tables.{bundles_by}
+use Rattle.scr_world.specs.declared.step.Step.{Step}
 use Rattle.scr_world.specs.declared.world.World.{World}
 
-again : {X : Type 0} (o : Option X) (x : X) → option_map (λ (y : X). unwrap_or o x) (option_map (λ (y : X). x) o) ≡ o
-again None x = refl
-again (Some y) x = refl
+-- bundles are none of a draft's
+beside_bundles : (d : Draft) (step : Step) (w : World) → with_draft d (with_bundles_by step w) ≡ record (with_draft d w) { bundles = bundles_by step w.bundles }
+unfolding with_draft
+beside_bundles d step w = refl
 
-got_set : {X : Type 0} (xs : List X) (i : ℕ) (y : X) → get_or (set xs i y) i (get_or xs i y) ≡ y
-got_set [] i y = refl
-got_set (x ∷ xs) zero y = refl
-got_set (x ∷ xs) (suc i) y = got_set xs i y
+bundles_beside : (d : Draft) (step : Step) (w : World) → record (with_draft d w) { bundles = bundles_by step w.bundles } ≡ with_draft d (with_bundles_by step w)
+unfolding with_draft
+bundles_beside d step w = refl
 
-change_again : (change : InstanceChange) (before : List Instance) → undoing_change (undoing_change change before) (with_change change before) ≡ change
-change_again Same before = refl
-change_again (One place instance) before = ap (One place) (got_set before place instance)
-change_again (All instances) before = refl
-
-pub undone_again : (d : Draft) (w : World) → undoing (undoing d w) (with_draft d w) ≡ d
-unfolding with_draft undoing
-undone_again d w = rw (
-  again d.documents w.documents,
-  again d.registry w.registry,
-  again d.configurations w.configurations,
-  again d.components w.components,
-  again d.open_periods w.open_periods,
-  again d.failures w.failures,
-  change_again d.instances w.instances,
-  again d.whiteboard w.whiteboard,
-  again d.generations w.generations,
-  again d.uses w.uses,
-  again d.tokens w.tokens,
-) refl
+pub drafted_alike : (s : State) (step : Step) (d e : Draft) → IsAlike d s.world e → IsDraft s step d → IsDraft s step e
+drafted_alike s step d e alike is = record {
+  world = beside_bundles e step s.world ∙ ap (λ (w : World). record w { bundles = bundles_by step s.world.bundles }) alike.world ∙ bundles_beside d step s.world ∙ is.world;
+  descriptions = ap (λ o. unwrap_or o s.descriptions) alike.descriptions ∙ is.descriptions;
+  levels = ap (λ o. unwrap_or o s.levels) alike.levels ∙ is.levels;
+  room = alike.room;
+}

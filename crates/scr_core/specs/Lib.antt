@@ -3,3 +3,4 @@ pub mod Keeping
 pub mod Turns
 pub mod Steps
 pub mod Beginnings
+pub mod Drafting

@@ -2,8 +2,9 @@
 ghost use Rattle.scr_core.specs.Beginnings.{IsLineOf, IsPrepared};
 ghost use Rattle.scr_core.specs.Keeping.{KeepsAll};
 ghost use Rattle.scr_core.specs.Steps.{is_beginning, turn_of};
+ghost use Rattle.scr_core.specs.Drafting.{IsAlike};
 ghost use Rattle.scr_core.specs.Turns.{TakesTurn};
-ghost use Rattle.scr_state.specs.Drafts.{with_draft};
+ghost use Rattle.scr_state.specs.Drafts.{HasRoom, with_draft};
 ghost use Rattle.scr_state.specs.Keeps.{IsDraft, IsKept, Keeps};
 ghost use Rattle.scr_world.specs.Calls.{EndsTurn, Grown, world_at};
 ghost use Rattle.scr_world.specs.Consequences.{shut_between};
@@ -125,7 +126,8 @@ fn prepare(
     }
 }
 
-// The work of a turn under way, in the world with a draft in it. The draft is swapped in and out again.
+// The work of a turn under way, in the world with a draft in it. The draft is swapped in and out again, and is the same then but
+// for the room that it has.
 fn work_after(
     alloc: Global,
     own: &OwnRows,
@@ -133,8 +135,9 @@ fn work_after(
     draft: &mut Draft,
     turn: u64,
 ) -> Result<Option<TurnWork>, OutOfMemory>
+    requires room { HasRoom draft.old world.old }
     ensures world { world.new ≡ world.old }
-    ensures draft { draft.new ≡ draft.old }
+    ensures draft { IsAlike draft.old world.old draft.new }
     ensures work { IfOk result (λ work. work ≡ work_under_way (with_draft draft.old world.old) turn) }
 {
     swap_in(alloc, world, draft);

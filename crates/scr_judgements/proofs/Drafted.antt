@@ -8,7 +8,7 @@ use Rattle.scr_judgements.specs.Drafting.{AreTablesAfter, AreTablesBy, command_d
 use Rattle.scr_judgements.specs.declared.drafting.TablesAfter.{TablesAfter}
 use Rattle.scr_laws.proofs.Histories.{legal_is_asked}
 use Rattle.scr_laws.specs.Askeds.{IsAsked}
-use Rattle.scr_state.specs.Drafts.{with_draft}
+use Rattle.scr_state.specs.Drafts.{HasRoom, with_draft}
 use Rattle.scr_state.specs.Keeps.{IsDraft, Keeps, with_bundles_by}
 use Rattle.scr_state.specs.declared.state.State.{State}
 use Rattle.scr_world.specs.Levels.{levels_of}
@@ -53,11 +53,16 @@ module _ (s : State) (command : Command) (asked : Asked) (tables : TablesAfter) 
   unfolding command_draft
   levelled = refl
 
+  roomy : HasRoom (command_draft s.world asked tables) s.world
+  unfolding command_draft
+  roomy = (tt, (tt, (tt, tt)))
+
   pub drafted : IsDraft s (Commanded command) (command_draft s.world asked tables)
   drafted = record {
     world = drafted_world;
     descriptions = described ∙ after.descriptions ∙ ap descriptions_of (sym (documents_then command s.world));
     levels = levelled ∙ after.levels ∙ ap (λ (cs : List Contents). levels_of (descriptions_of cs)) (sym (documents_then command s.world));
+    room = roomy;
   }
 
 -- ---- the same, of a step

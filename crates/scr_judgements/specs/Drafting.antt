@@ -4,7 +4,7 @@ use Rattle.std.specs.Option.{unwrap_or}
 use Rattle.scr_judgements.specs.declared.asked.Asked.{Asked}
 use Rattle.scr_judgements.specs.declared.drafting.TablesAfter.{TablesAfter}
 use Rattle.scr_state.specs.declared.draft.Draft.{Draft}
-use Rattle.scr_state.specs.declared.draft.InstanceChange.TheVariants.{Same}
+use Rattle.scr_state.specs.declared.row_change.RowChange.TheVariants.{Same}
 use Rattle.scr_state.specs.declared.state.State.{State}
 use Rattle.scr_world.specs.Levels.{levels_of}
 use Rattle.scr_world.specs.Tables.{configurations_by_command, descriptions_of, documents_by_command, registry_by_command, uses_by_command}
@@ -40,14 +40,14 @@ command_draft w asked t = record {
   components_numbered = asked.components_numbered;
   open_periods = Some asked.open_periods;
   failed = asked.failed;
-  failures = None;
+  failures = Same;
   instances = Same;
   whiteboard = None;
   instances_numbered = w.instances_numbered;
   turns_begun = w.turns_begun;
-  generations = None;
+  generations = Same;
   uses = t.uses;
-  tokens = None;
+  tokens = Same;
   descriptions = t.descriptions;
   levels = t.levels;
 }

@@ -6,7 +6,7 @@ use crate::Asked;
 use component_dto::Description;
 use config_admin::Configurations;
 use prop_map::List;
-use scr_state::{Draft, InstanceChange};
+use scr_state::{Draft, RowChange};
 use scr_world::{Contents, World};
 use service_registry::Registry;
 use use_counts::UseCounts;
@@ -58,14 +58,14 @@ pub fn command_draft(world: &World, asked: Asked, tables: TablesAfter) -> Draft
         components_numbered: asked.components_numbered,
         open_periods: Some(asked.open_periods),
         failed: asked.failed,
-        failures: None,
-        instances: InstanceChange::Same,
+        failures: RowChange::Same,
+        instances: RowChange::Same,
         whiteboard: None,
         instances_numbered: world.instances_numbered,
         turns_begun: world.turns_begun,
-        generations: None,
+        generations: RowChange::Same,
         uses: tables.uses,
-        tokens: None,
+        tokens: RowChange::Same,
         descriptions: tables.descriptions,
         levels: tables.levels,
     }

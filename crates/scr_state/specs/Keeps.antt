@@ -3,7 +3,7 @@ use Rattle.std.specs.Prelude.{◌≡◌, ℕ}
 use Rattle.std.specs.Option.{unwrap_or}
 use Rattle.journal_core.specs.Rooms.{JournalRows}
 use Rattle.prop_map.specs.Words.{has}
-use Rattle.scr_state.specs.Drafts.{with_draft}
+use Rattle.scr_state.specs.Drafts.{HasRoom, with_draft}
 use Rattle.scr_state.specs.declared.draft.Draft.{Draft}
 use Rattle.scr_state.specs.declared.state.State.{State}
 use Rattle.scr_world.specs.Legal.{IsLegal}
@@ -35,8 +35,9 @@ pub record IsKept (s : State) : Type 0 where
 abbrev pub with_bundles_by : Step → World → World
 with_bundles_by step w = record w { bundles = bundles_by step w.bundles }
 
--- a draft is what a step makes of a state but for the bundles
+-- a draft is what a step makes of a state but for the bundles, and has its room
 pub record IsDraft (s : State) (step : Step) (d : Draft) : Type 0 where
   pub world : with_draft d (with_bundles_by step s.world) ≡ world_after_step step s.world
   pub descriptions : unwrap_or d.descriptions s.descriptions ≡ descriptions_of (world_after_step step s.world).documents
   pub levels : unwrap_or d.levels s.levels ≡ levels_of (descriptions_of (world_after_step step s.world).documents)
+  pub room : HasRoom d s.world

@@ -1,4 +1,5 @@
 //! What a step makes of the state, before it stands.
+use crate::RowChange;
 use component_dto::Description;
 use component_state::{Component, OpenPeriod};
 use config_admin::Configurations;
@@ -7,25 +8,10 @@ use scr_world::{Contents, Failure, Instance, Token};
 use service_registry::Registry;
 use use_counts::UseCounts;
 
-/// What a step makes of the living instances.
-#[derive(Drop)]
-pub enum InstanceChange {
-    /// They stay as they are.
-    Same,
-    /// One is another.
-    One {
-        /// Its place among them, from 0 on. At a place behind them nothing changes.
-        place: usize,
-        /// What it is then.
-        instance: Instance,
-    },
-    /// They are these.
-    All(List<Instance>),
-}
-
-/// What a step makes of the state: the tables that it changes as they are after it, none for each of the others. Numbers and
-/// the failed component configurations are always there. Bundles and listeners aren't: they change in their own tables, as
-/// these hold what only grows.
+/// What a step makes of the state: the tables that it changes as they are after it, none for each of the others. Of the failures,
+/// the living instances, the generations and the gets by token it says the row that changes, comes or goes. Numbers and the
+/// failed component configurations are always there. Bundles and listeners aren't: they change in their own tables, as these
+/// hold what only grows.
 #[derive(Drop)]
 pub struct Draft {
     /// What the bundles hold.
@@ -43,9 +29,9 @@ pub struct Draft {
     /// The numbers of the failed component configurations.
     pub failed: List<u64>,
     /// The creations and activations that failed.
-    pub failures: Option<List<Failure>>,
+    pub failures: RowChange<Failure>,
     /// The living instances.
-    pub instances: InstanceChange,
+    pub instances: RowChange<Instance>,
     /// The whiteboard's instance.
     pub whiteboard: Option<Instance>,
     /// How many instances were numbered.
@@ -53,11 +39,11 @@ pub struct Draft {
     /// How many turns began.
     pub turns_begun: u64,
     /// The last generation of each slot.
-    pub generations: Option<List<u64>>,
+    pub generations: RowChange<u64>,
     /// How often each bundle uses each service.
     pub uses: Option<UseCounts>,
     /// The gets by token.
-    pub tokens: Option<List<Token>>,
+    pub tokens: RowChange<Token>,
     /// The descriptions of all installed bundles.
     pub descriptions: Option<List<Description>>,
     /// Their levels.

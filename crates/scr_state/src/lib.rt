@@ -2,9 +2,14 @@
 #![tactic(auto)]
 
 mod draft;
+mod room;
+mod row_change;
 mod state;
 mod swap;
+mod swap_rows;
 
-pub use draft::{Draft, InstanceChange};
+pub use draft::Draft;
+pub use room::Room;
+pub use row_change::RowChange;
 pub use state::State;
 pub use swap::swap_in;

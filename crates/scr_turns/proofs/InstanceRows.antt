@@ -1,6 +1,6 @@
 -- One of the living instances is another after the step of a turn.
 use Rattle.std.proofs.Common.{◌≡◌, ℕ, zero, suc, List, [], ◌∷◌, Bool, true, false, Some, None, get_or, ap, sym, ◌∙◌, refl, cond}
-use Rattle.std.specs.Prelude.{◌==◌, filter, find, map, not}
+use Rattle.std.specs.Prelude.{◌==◌, filter, find, map, not, remove}
 use Rattle.std.specs.List.{Contains, position}
 use Rattle.std.specs.Option.{option_to_list}
 use Rattle.std.proofs.Math.ListN.{set}
@@ -10,7 +10,7 @@ use Rattle.callback_orders.specs.declared.callback.Callback.{Callback}
 use Rattle.callback_orders.specs.declared.callback.Outcome.{Outcome}
 use Rattle.component_state.proofs.Apart.{in_first, in_rest, one_of}
 use Rattle.row_places.specs.RowPlaces.{OnlyAt}
-use Rattle.row_places.proofs.RowPlaceLaws.{map_none, map_only, only_passes, only_within}
+use Rattle.row_places.proofs.RowPlaceLaws.{filter_only, map_none, map_only, only_passes, only_within}
 use Rattle.scr_turns.specs.TurnDrafts.{AreKnown, HaveOwnNumbers, told_in}
 use Rattle.scr_turns.proofs.Places.{none_placed, only_placed}
 use Rattle.scr_world.specs.Instances.{drained_in, ended_in, has_turn, lives_on, with_callback_begun, with_outcome}
@@ -86,9 +86,10 @@ module _ (w : World) (known : AreKnown w) (turn : ℕ) (outcome : Outcome) where
         (turn_of j here ∙ sym (turn_of (get_or w.instances k i) (only_passes (has_turn turn) k w.instances i (only_turn k i placed))))
         ∙ sym at
 
-    pub ended_last : lives_on (with_outcome outcome w.generations i) ≡ false → filter (λ (j : Instance). not (has_turn turn j)) w.instances ≡ filter lives_on (map (ended_in turn outcome w.generations) w.instances)
+    pub ended_last : lives_on (with_outcome outcome w.generations i) ≡ false → remove w.instances k ≡ filter lives_on (map (ended_in turn outcome w.generations) w.instances)
     ended_last dies =
-        sym (gone (has_turn turn) lives_on (with_outcome outcome w.generations) w.instances
+        sym (filter_only (has_turn turn) k w.instances (only_turn k i placed))
+        ∙ sym (gone (has_turn turn) lives_on (with_outcome outcome w.generations) w.instances
         (λ j h here. ap (λ (x : Instance). lives_on (with_outcome outcome w.generations x)) (the_one j h here) ∙ dies)
         (λ j h off. known.living j h))
 

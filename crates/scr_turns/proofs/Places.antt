@@ -1,6 +1,6 @@
 -- The place of the one item of a list that passes a test.
-use Rattle.std.proofs.Common.{◌≡◌, ◌<◌, ◌≤◌, ◌⊎◌, inl, inr, ℕ, zero, suc, List, [], ◌∷◌, Bool, true, false, Some, None, length, get_or, ap, sym, ◌∙◌, refl, arith}
-use Rattle.std.specs.Prelude.{◌==◌, ◌||◌, map, not}
+use Rattle.std.proofs.Common.{◌≡◌, ◌<◌, ◌≤◌, ◌⊎◌, inl, inr, ℕ, zero, suc, List, [], ◌∷◌, Bool, true, false, Some, None, length, get_or, ap, cond, sym, ◌∙◌, refl, arith, ◌++◌}
+use Rattle.std.specs.Prelude.{◌==◌, ◌||◌, filter, map, not, remove}
 use Rattle.std.specs.List.{position, position_or_len}
 use Rattle.std.proofs.lemmas.Bool.{and_parts, both_ways, cases_Bool}
 use Rattle.std.proofs.lemmas.Grind.{common_steps}
@@ -10,6 +10,8 @@ use Rattle.component_state.specs.Inside.Ready.{are_apart}
 use Rattle.component_state.proofs.Apart.{in_first, key_in, not_true}
 use Rattle.prop_map.specs.Words.{has}
 use Rattle.row_places.specs.RowPlaces.{NoneOf, OnlyAt}
+use Rattle.row_places.proofs.RowPlaceLaws.{filter_none, filter_only}
+use Rattle.std.proofs.lemmas.List.{length-append}
 
 module _ {X : Type 0} (test : X → Bool) where
   pub from_each : (xs : List X) → ((k : ℕ) (d : X) → k < length xs → test (get_or xs k d) ≡ false) → NoneOf test xs
@@ -44,3 +46,37 @@ module _ {X : Type 0} (test : X → Bool) where
 
     pub only_placed : (xs : List X) (k : ℕ) → are_apart (map key xs) ≡ true → position test xs ≡ Some k → X → OnlyAt test k xs
     only_placed xs k apart e x = only_from xs k apart (position-Some test xs k x e).0 (λ d. (position-Some test xs k d e).1) (λ j lt d. (position-Some test xs k d e).2 j lt)
+
+    -- without the one that passes
+    pub removed_placed : (xs : List X) (k : ℕ) → are_apart (map key xs) ≡ true → position test xs ≡ Some k → remove xs k ≡ filter (λ x. not (test x)) xs
+    removed_placed [] k apart e = cc
+    removed_placed (x ∷ xs) k apart e = sym (filter_only test k (x ∷ xs) (only_placed (x ∷ xs) k apart e x))
+
+    none_left : (xs : List X) → NoneOf test xs → filter test xs ≡ []
+    none_left [] none = refl
+    none_left (x ∷ xs) none = ap (λ b. cond b (x ∷ filter test xs) (filter test xs)) none.0 ∙ none_left xs none.1
+
+    -- one at most passes
+    pub one_left : (xs : List X) → are_apart (map key xs) ≡ true → length (filter test xs) ≤ 1
+    one_left [] apart = omega arith
+    one_left (x ∷ xs) apart = go (one_left xs parts.1) (test x) refl
+      where
+        parts : (not (has (map key xs) (key x)) ≡ true) × (are_apart (map key xs) ≡ true)
+        parts = and_parts (not (has (map key xs) (key x))) (are_apart (map key xs)) apart
+
+        go : length (filter test xs) ≤ 1 → (b : Bool) → test x ≡ b → length (cond b (x ∷ filter test xs) (filter test xs)) ≤ 1
+        go later true e = let none = ap (λ (ys : List X). length ys) (none_left xs (none_other x xs e (not_true (has (map key xs) (key x)) parts.0))) in omega (arith, none)
+        go later false e = later
+
+  pub kept_placed : (xs : List X) → position test xs ≡ None → xs ≡ filter (λ x. not (test x)) xs
+  kept_placed xs e = sym (filter_none test xs (none_placed xs e))
+
+-- what stands behind nothing, in a list of one at most
+pub last_of_one : {X : Type 0} (rest : List X) (x : X) (xs : List X) → xs ≡ rest ++ x ∷ [] → length xs ≤ 1 → x ∷ [] ≡ xs
+last_of_one [] x xs e low = sym e
+last_of_one {X = X} (y ∷ rest) x xs e low =
+    let long = ap (λ (zs : List X). length zs) e in let more = length-append rest (x ∷ []) in absurd (omega (arith, long, more, low))
+
+pub none_of_none : {X : Type 0} (xs : List X) → length xs ≡ 0 → [] ≡ xs
+none_of_none [] e = refl
+none_of_none (x ∷ xs) e = absurd (omega (arith, e))

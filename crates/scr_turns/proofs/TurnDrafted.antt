@@ -1,8 +1,13 @@
 -- What a step of a turn changes makes its draft.
-use Rattle.std.proofs.Common.{◌≡◌, ◌+◌, ◌∙◌, ℕ, List, [], ◌∷◌, ◌++◌, ap, arith, refl, subst, sym, true, ◌&&◌, Bool, cond}
-use Rattle.std.specs.Prelude.{filter, map, not}
+use Rattle.std.proofs.Common.{◌≡◌, ◌+◌, ◌∙◌, ℕ, List, [], ◌∷◌, ◌++◌, ap, arith, refl, subst, sym, true, false, ◌&&◌, ◌||◌, ◌≤◌, Bool, Some, cond, length}
+use Rattle.std.specs.Prelude.{◌==◌, filter, map, not}
 use Rattle.std.specs.Option.{unwrap_or}
-use Rattle.std.proofs.lemmas.Bool.{and_parts}
+use Rattle.std.proofs.lemmas.Bool.{and_parts, eqb-true}
+use Rattle.scr_turns.proofs.Places.{one_left}
+use Rattle.scr_world.specs.Instances.{has_turn, last_is}
+use Rattle.callback_orders.specs.Sequences.{is_failed, is_outstanding}
+use Rattle.callback_orders.specs.Grammar.{is_activate, is_create}
+use Rattle.component_state.specs.Periods.{is_current}
 use Rattle.component_state.specs.Inside.Ready.{are_apart}
 use Rattle.component_state.specs.declared.component.Component.{Component}
 use Rattle.component_state.specs.Components.{exists}
@@ -10,7 +15,8 @@ use Rattle.component_state.specs.Marks.{exists_unchanged, failed_after}
 use Rattle.prop_map.specs.Words.{has}
 use Rattle.scr_laws.proofs.TurnCallbacks.{are_told_apart}
 use Rattle.scr_laws.proofs.Sounding.{legal_sound}
-use Rattle.scr_state.specs.Drafts.{with_draft}
+use Rattle.scr_laws.proofs.TokenOrder.{tokens_spread}
+use Rattle.scr_state.specs.Drafts.{HasRoom, with_draft}
 use Rattle.scr_state.specs.Keeps.{IsDraft, IsKept, with_bundles_by}
 use Rattle.scr_state.specs.declared.state.State.{State}
 use Rattle.scr_tokens.proofs.TokenCounts.{token_counted}
@@ -19,7 +25,7 @@ use Rattle.scr_turns.specs.declared.drafts.TurnChanges.{TurnChanges}
 use Rattle.scr_world.specs.Legal.{IsLegal}
 use Rattle.scr_world.specs.Levels.{levels_of}
 use Rattle.scr_world.specs.Lists.{world_of}
-use Rattle.scr_world.specs.Stepping.{failed_by, failing, world_after_step}
+use Rattle.scr_world.specs.Stepping.{ending_in, failed_by, failing, failure_of, failures_by, world_after_step}
 use Rattle.scr_world.specs.Steps.{History, history_of}
 use Rattle.scr_world.specs.Tables.{descriptions_of}
 use Rattle.scr_world.specs.TurnSteps.{is_turn_step}
@@ -57,6 +63,7 @@ known_of limit past legal =
       numbers = (and_parts (not (has (map (λ (i : Instance). i.number) w.instances) w.whiteboard.number)) (are_apart (map (λ (i : Instance). i.number) w.instances)) apart.numbers).1;
       turns = apart.turns;
       living = sound.living;
+      places = (tokens_spread past).apart;
       counted = token_counted past;
     }
 
@@ -102,9 +109,39 @@ no_levels : (c : TurnChanges) (w : World) (s : State) → unwrap_or (draft_with 
 unfolding draft_with
 no_levels c w s = refl
 
+roomy : (step : Step) (w : World) (c : TurnChanges) → IsTurnChange step w c → HasRoom (draft_with c w) w
+unfolding draft_with
+roomy step w c changes = changes.room
+
 pub drafted : (s : State) (step : Step) (c : TurnChanges) → IsKept s → is_turn_step step ≡ true → IsTurnChange step s.world c → IsDraft s step (draft_with c s.world)
 drafted s step c kept turn changes = record {
   world = ap (with_draft (draft_with c s.world)) (bundles_stay step s.world turn) ∙ world_drafted step s.world c turn changes;
   descriptions = no_descriptions c s.world s ∙ kept.keeps.descriptions ∙ ap descriptions_of (sym (documents_stay step s.world turn));
   levels = no_levels c s.world s ∙ kept.keeps.levels ∙ ap levels_of (kept.keeps.descriptions ∙ ap descriptions_of (sym (documents_stay step s.world turn)));
+  room = roomy step s.world c changes;
 }
+
+-- ---- a step adds one failure at most
+
+one_mapped : {X Y : Type 0} (f : X → Y) (xs : List X) → length xs ≤ 1 → length (map f xs) ≤ 1
+one_mapped f [] low = omega arith
+one_mapped f (x ∷ []) low = omega arith
+one_mapped f (x ∷ y ∷ xs) low = absurd (omega (arith, low))
+
+one_ending : (w : World) → AreKnown w → (turn : ℕ) → length (ending_in turn w) ≤ 1
+one_ending w are turn =
+    one_left (λ (i : Instance). has_turn turn i && ((last_is is_create i.callbacks || last_is is_activate i.callbacks) && is_current w.open_periods i.origin)) (λ (i : Instance). i.turn) turn
+    (λ i ends. eqb-true i.turn turn (and_parts (i.turn == turn) (is_outstanding i.callbacks) (and_parts (has_turn turn i) ((last_is is_create i.callbacks || last_is is_activate i.callbacks) && is_current w.open_periods i.origin) ends).0).0)
+    w.instances are.turns
+
+one_where : {X : Type 0} (b : Bool) (xs : List X) → length xs ≤ 1 → length (cond b xs []) ≤ 1
+one_where true xs low = low
+one_where false xs low = omega arith
+
+pub one_failure : (step : Step) (w : World) → AreKnown w → length (failures_by step w) ≤ 1
+one_failure (Commanded command) w are = omega arith
+one_failure (Begin turn instance configuration consumer callback chosen) w are = omega arith
+one_failure (End turn outcome) w are = one_where (is_failed (Some outcome)) (map (failure_of outcome) (ending_in turn w)) (one_mapped (failure_of outcome) (ending_in turn w) (one_ending w are turn))
+one_failure (Drained instance) w are = omega arith
+one_failure (Got bundle service) w are = omega arith
+one_failure (Released place) w are = omega arith

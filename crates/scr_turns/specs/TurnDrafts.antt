@@ -5,7 +5,7 @@ use Rattle.std.specs.Option.{unwrap_or}
 use Rattle.callback_orders.specs.declared.callback.Callback.{Callback}
 use Rattle.callback_orders.specs.Sequences.{begun}
 use Rattle.component_state.specs.Inside.Ready.{are_apart}
-use Rattle.scr_state.specs.Drafts.{with_change}
+use Rattle.scr_state.specs.Rows.{HasRoomAmong, with_change}
 use Rattle.scr_state.specs.declared.draft.Draft.{Draft}
 use Rattle.scr_turns.specs.declared.drafts.TurnChanges.{TurnChanges}
 use Rattle.scr_world.specs.Instances.{lives_on, with_effect_of_begin}
@@ -26,24 +26,30 @@ told_in w turn callback i = with_effect_of_begin (before_turn w) callback (recor
 abbrev pub HaveOwnNumbers : List Instance → Type 0
 HaveOwnNumbers is = are_apart (map (λ (i : Instance). i.number) is) ≡ true
 
--- each instance was told last by a turn of its own too, and lives on; each get by token is counted
+-- each instance was told last by a turn of its own too, and lives on; each get by token has a place of its own, and is counted
 pub record AreKnown (w : World) : Type 0 where
   pub numbers : HaveOwnNumbers w.instances
   pub turns : are_apart (map (λ (i : Instance). i.turn) w.instances) ≡ true
   pub living : (i : Instance) → Contains w.instances i → lives_on i ≡ true
+  pub places : are_apart (map (λ (t : Token). t.place) w.tokens) ≡ true
   pub counted : (t : Token) → Contains w.tokens t → 0 < holder_count ByToken t.bundle t.service w.uses
 
--- what a step of a turn changes
+-- each row that comes or goes has its room
+abbrev pub AreRoomy : TurnChanges → World → Type 0
+AreRoomy c w = HasRoomAmong c.failures w.failures × (HasRoomAmong c.instances w.instances × (HasRoomAmong c.generations w.generations × HasRoomAmong c.tokens w.tokens))
+
+-- what a step of a turn changes, with room for each row that comes or goes
 pub record IsTurnChange (step : Step) (w : World) (c : TurnChanges) : Type 0 where
   pub failed : c.failed ≡ failed_by step w
-  pub failures : unwrap_or c.failures w.failures ≡ w.failures ++ failures_by step w
+  pub failures : with_change c.failures w.failures ≡ w.failures ++ failures_by step w
   pub instances : with_change c.instances w.instances ≡ instances_by step w
   pub whiteboard : unwrap_or c.whiteboard w.whiteboard ≡ whiteboard_by step w
   pub instances_numbered : c.instances_numbered ≡ w.instances_numbered + makes_by step
   pub turns_begun : c.turns_begun ≡ w.turns_begun + begins_by step
-  pub generations : unwrap_or c.generations w.generations ≡ generations_by step w
+  pub generations : with_change c.generations w.generations ≡ generations_by step w
   pub uses : unwrap_or c.uses w.uses ≡ uses_by step w.tokens w.uses
-  pub tokens : unwrap_or c.tokens w.tokens ≡ tokens_by step w.entries w.tokens
+  pub tokens : with_change c.tokens w.tokens ≡ tokens_by step w.entries w.tokens
+  pub room : AreRoomy c w
 
 -- the draft of it: all other tables stay
 unfoldable pub draft_with : TurnChanges → World → Draft

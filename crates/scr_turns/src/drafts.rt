@@ -1,4 +1,5 @@
 //! The draft of a step of a turn.
+ghost use Rattle.scr_state.specs.Rows.{HasRoomAmong, with_change};
 ghost use Rattle.scr_state.specs.Keeps.{IsDraft, IsKept};
 ghost use Rattle.scr_turns.specs.TurnDrafts.{AreKnown, IsTurnChange, draft_with};
 ghost use Rattle.scr_world.specs.Instances.{becomes_active, has_turn};
@@ -7,7 +8,7 @@ ghost use Rattle.scr_world.specs.TurnSteps.{is_turn_step};
 ghost use Rattle.scr_world.specs.Worlds.{satisfied_in};
 ghost use Rattle.scr_world.specs.declared.instance.Instance.{Instance};
 ghost use Rattle.prop_map.specs.Words.{has};
-ghost use Rattle.std.specs.Option.{option_copied, unwrap_or};
+ghost use Rattle.std.specs.Option.{option_copied, option_to_list};
 ghost use Rattle.std.specs.Prelude.{◌≡◌, ◌+◌, ◌++◌, ◌&&◌, ℕ, IfOk, find, true};
 
 use crate::gets::{tokens_after, uses_after};
@@ -18,7 +19,7 @@ use callback_orders::Outcome;
 use component_state::failed_after;
 use prop_map::{List, OutOfMemory};
 use scr_consequences::{failing_of, failures_of, has_turn};
-use scr_state::{Draft, InstanceChange, State};
+use scr_state::{Draft, RowChange, State};
 use scr_world::{Failure, Instance, Step, Token, World};
 use std::alloc::{AllocError, Global};
 use use_counts::UseCounts;
@@ -40,14 +41,14 @@ pub fn turn_draft(alloc: Global, state: &State, step: &Step) -> Result<Draft, Ou
 #[derive(Drop)]
 pub(crate) struct TurnChanges {
     failed: List<u64>,
-    failures: Option<List<Failure>>,
-    instances: InstanceChange,
+    failures: RowChange<Failure>,
+    instances: RowChange<Instance>,
     whiteboard: Option<Instance>,
     instances_numbered: u64,
     turns_begun: u64,
-    generations: Option<List<u64>>,
+    generations: RowChange<u64>,
     uses: Option<UseCounts>,
-    tokens: Option<List<Token>>,
+    tokens: RowChange<Token>,
 }
 
 fn changes(alloc: Global, state: &State, step: &Step) -> Result<TurnChanges, OutOfMemory>
@@ -113,21 +114,35 @@ fn failed_by(alloc: Global, state: &State, step: &Step) -> Result<List<u64>, Out
     Ok(List::of(failed))
 }
 
-// The failures with those that a step adds, none where it adds none.
+// What a step makes of the failures.
 fn failures_after(
     alloc: Global,
     world: &World,
     step: &Step,
-) -> Result<Option<List<Failure>>, OutOfMemory>
-    ensures { IfOk result (λ r. unwrap_or r world.now.failures ≡ world.now.failures ++ failures_by step.now world.now) }
+) -> Result<RowChange<Failure>, OutOfMemory>
+    requires known { AreKnown world.now }
+    ensures rows { IfOk result (λ r. with_change r world.now.failures ≡ world.now.failures ++ failures_by step.now world.now) }
+    ensures room { IfOk result (λ r. HasRoomAmong r world.now.failures) }
 {
-    let new = failures_of(alloc, world, step)?;
-    if new.as_slice().is_empty() {
-        return Ok(None);
+    match failure_of(alloc, world, step)? {
+        Some(failure) => {
+            let change = RowChange::behind(alloc, world.failures.as_slice(), failure)?;
+            Ok(change)
+        }
+        None => Ok(RowChange::Same),
     }
-    let mut all = Vec::from_slice(alloc, world.failures.as_slice())?;
-    all.extend_from_slice(new.as_slice())?;
-    Ok(Some(List::of(all)))
+}
+
+// The failure that a step adds. It adds one at most, since one instance at most has the turn that it ends.
+fn failure_of(alloc: Global, world: &World, step: &Step) -> Result<Option<Failure>, OutOfMemory>
+    requires known { AreKnown world.now }
+    ensures { IfOk result (λ failure. option_to_list failure ≡ failures_by step.now world.now) }
+{
+    let mut failures = failures_of(alloc, world, step)?.items();
+    match failures.pop() {
+        Some(failure) => Ok(Some(failure)),
+        None => Ok(None),
+    }
 }
 
 fn sum(number: u64, more: u64) -> Result<u64, OutOfMemory>
@@ -158,8 +173,9 @@ fn generations_after(
     alloc: Global,
     world: &World,
     step: &Step,
-) -> Result<Option<List<u64>>, OutOfMemory>
-    ensures { IfOk result (λ r. unwrap_or r world.now.generations ≡ generations_by step.now world.now) }
+) -> Result<RowChange<u64>, OutOfMemory>
+    ensures rows { IfOk result (λ r. with_change r world.now.generations ≡ generations_by step.now world.now) }
+    ensures room { IfOk result (λ r. HasRoomAmong r world.now.generations) }
 {
     let generations = world.generations.as_slice();
     let instances = world.instances.as_slice();
@@ -169,9 +185,9 @@ fn generations_after(
         }
         Step::End { turn, outcome } => {
             let reopened = reopening(instances, *turn, *outcome);
-            reopened_for(alloc, generations, reopened)
+            reopened_for(generations, reopened)
         }
-        _ => Ok(None),
+        _ => Ok(RowChange::Same),
     }
 }
 

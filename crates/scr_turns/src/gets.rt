@@ -1,15 +1,19 @@
 //! Gets by token (our own; OSGi Core 8, chapter 5, "Getting Services", "Releasing Services").
+ghost use Rattle.component_state.specs.Inside.Ready.{are_apart};
+ghost use Rattle.scr_state.specs.Rows.{HasRoomAmong, with_change};
 ghost use Rattle.scr_turns.specs.TurnDrafts.{AreKnown};
 ghost use Rattle.scr_world.specs.Tables.{tokens_by, uses_by, without_token};
 ghost use Rattle.scr_world.specs.TurnSteps.{is_turn_step};
 ghost use Rattle.scr_world.specs.declared.marks.Token.{Token};
 ghost use Rattle.scr_world.specs.declared.step.Step.TheVariants.{Released};
+ghost use Rattle.std.specs.List.{position};
 ghost use Rattle.std.specs.Option.{option_copied, unwrap_or};
-ghost use Rattle.std.specs.Prelude.{◌≡◌, ◌<◌, ◌==◌, IfOk, filter, find, not, true};
+ghost use Rattle.std.specs.Prelude.{◌≡◌, ◌<◌, ◌==◌, IfOk, filter, find, map, not, true};
 ghost use Rattle.use_counts.specs.Uses.{after_get, after_unget, holder_count};
 ghost use Rattle.use_counts.specs.declared.uses.Holder.TheVariants.{Token as ByToken};
 
-use prop_map::{Copies, List, OutOfMemory};
+use prop_map::{Copies, OutOfMemory};
+use scr_state::RowChange;
 use scr_world::{Step, Token, World};
 use std::alloc::{AllocError, Global};
 use use_counts::{Holder, UseCounts};
@@ -79,40 +83,57 @@ fn without_token(alloc: Global, uses: &UseCounts, token: &Token) -> Result<UseCo
     }
 }
 
-/// The gets by token after a step of a turn, none where it leaves them.
+/// What a step of a turn makes of the gets by token.
 pub(crate) fn tokens_after(
     alloc: Global,
     world: &World,
     step: &Step,
-) -> Result<Option<List<Token>>, OutOfMemory>
-    ensures { IfOk result (λ r. unwrap_or r world.now.tokens ≡ tokens_by step.now world.now.entries world.now.tokens) }
+) -> Result<RowChange<Token>, OutOfMemory>
+    requires known { AreKnown world.now }
+    ensures rows { IfOk result (λ r. with_change r world.now.tokens ≡ tokens_by step.now world.now.entries world.now.tokens) }
+    ensures room { IfOk result (λ r. HasRoomAmong r world.now.tokens) }
 {
+    let tokens = world.tokens.as_slice();
     match step {
         Step::Got { bundle, service } => {
-            let mut tokens = Vec::from_slice(alloc, world.tokens.as_slice())?;
-            tokens.push(Token {
+            let token = Token {
                 place: world.entries,
                 bundle: *bundle,
                 service: *service,
-            })?;
-            Ok(Some(List::of(tokens)))
+            };
+            let change = RowChange::behind(alloc, tokens, token)?;
+            Ok(change)
         }
         Step::Released { place } => {
-            let tokens = without_place(alloc, world.tokens.as_slice(), *place)?;
-            Ok(Some(tokens))
+            let change = without_place(alloc, tokens, *place)?;
+            Ok(change)
         }
-        _ => Ok(None),
+        _ => Ok(RowChange::Same),
     }
 }
 
-fn without_place(alloc: Global, tokens: &[Token], place: u64) -> Result<List<Token>, OutOfMemory>
-    ensures { IfOk result (λ v. v ≡ filter (λ (t : Token). not (t.place == place)) tokens.now) }
+// The get of an entry's place goes.
+fn without_place(
+    alloc: Global,
+    tokens: &[Token],
+    place: u64,
+) -> Result<RowChange<Token>, OutOfMemory>
+    requires { are_apart (map (λ (t : Token). t.place) tokens.now) ≡ true }
+    ensures rows { IfOk result (λ r. with_change r tokens.now ≡ filter (λ (t : Token). not (t.place == place)) tokens.now) }
+    ensures room { IfOk result (λ r. HasRoomAmong r tokens.now) }
 {
-    let mut found = Vec::new(alloc);
-    for token in tokens {
-        if token.place != place {
-            found.push(*token)?;
+    match place_among(tokens, place) {
+        None => Ok(RowChange::Same),
+        Some(row) => {
+            let change = RowChange::without(alloc, tokens, row)?;
+            Ok(change)
         }
     }
-    Ok(List::of(found))
+}
+
+// Where the get of an entry's place stands.
+fn place_among(tokens: &[Token], place: u64) -> Option<usize>
+    ensures { result ≡ position (λ (t : Token). t.place == place) tokens.now }
+{
+    tokens.iter().position(|token| token.place == place)
 }

@@ -1,5 +1,5 @@
 //! The living instances after a step of a turn (OSGi Compendium 8, chapter 112, "Component Life Cycle").
-ghost use Rattle.scr_state.specs.Drafts.{with_change};
+ghost use Rattle.scr_state.specs.Rows.{HasRoomAmong, with_change};
 ghost use Rattle.scr_turns.specs.TurnDrafts.{AreKnown, HaveOwnNumbers};
 ghost use Rattle.scr_world.specs.Instances.{begun_by, created_at, drained_in, ended_in, has_turn, lives_on, with_callback_begun};
 ghost use Rattle.scr_world.specs.Stepping.{before_turn, instances_by, whiteboard_by};
@@ -7,7 +7,7 @@ ghost use Rattle.scr_world.specs.TurnSteps.{is_turn_step};
 ghost use Rattle.scr_world.specs.declared.instance.Instance.{Instance};
 ghost use Rattle.std.specs.List.{position};
 ghost use Rattle.std.specs.Option.{unwrap_or};
-ghost use Rattle.std.specs.Prelude.{◌≡◌, ◌==◌, ◌++◌, ◌∷◌, [], IfOk, filter, map, not, true};
+ghost use Rattle.std.specs.Prelude.{◌≡◌, ◌==◌, ◌++◌, ◌∷◌, [], IfOk, filter, map, true};
 
 use crate::begins::told_in;
 use crate::creations::created;
@@ -17,7 +17,7 @@ use callback_orders::{Callback, Outcome};
 use component_state::Choice;
 use prop_map::{Copies, List, OutOfMemory};
 use scr_consequences::has_turn;
-use scr_state::InstanceChange;
+use scr_state::RowChange;
 use scr_world::{Instance, Step, World};
 use std::alloc::Global;
 
@@ -26,10 +26,11 @@ pub(crate) fn instances_after(
     alloc: Global,
     world: &World,
     step: &Step,
-) -> Result<InstanceChange, OutOfMemory>
+) -> Result<RowChange<Instance>, OutOfMemory>
     requires turn { is_turn_step step.now ≡ true }
     requires known { AreKnown world.now }
-    ensures { IfOk result (λ r. with_change r world.now.instances ≡ instances_by step.now world.now) }
+    ensures rows { IfOk result (λ r. with_change r world.now.instances ≡ instances_by step.now world.now) }
+    ensures room { IfOk result (λ r. HasRoomAmong r world.now.instances) }
 {
     match step {
         Step::Begin {
@@ -56,7 +57,7 @@ pub(crate) fn instances_after(
         }
         Step::End { turn, outcome } => ended(alloc, world, *turn, *outcome),
         Step::Drained { instance } => drained(alloc, world.instances.as_slice(), *instance),
-        Step::Command(_) | Step::Got { .. } | Step::Released { .. } => Ok(InstanceChange::Same),
+        Step::Command(_) | Step::Got { .. } | Step::Released { .. } => Ok(RowChange::Same),
     }
 }
 
@@ -69,8 +70,9 @@ fn added(
     configuration: u64,
     consumer: u64,
     chosen: &List<Choice>,
-) -> Result<InstanceChange, OutOfMemory>
-    ensures { IfOk result (λ r. with_change r world.now.instances ≡ world.now.instances ++ created_at (before_turn world.now) turn instance configuration consumer chosen.now ∷ []) }
+) -> Result<RowChange<Instance>, OutOfMemory>
+    ensures rows { IfOk result (λ r. with_change r world.now.instances ≡ world.now.instances ++ created_at (before_turn world.now) turn instance configuration consumer chosen.now ∷ []) }
+    ensures room { IfOk result (λ r. HasRoomAmong r world.now.instances) }
 {
     let new = created(
         alloc,
@@ -81,19 +83,8 @@ fn added(
         consumer,
         chosen,
     )?;
-    let mut instances = copied(alloc, world.instances.as_slice())?;
-    instances.push(new)?;
-    Ok(InstanceChange::All(List::of(instances)))
-}
-
-fn copied(alloc: Global, instances: &[Instance]) -> Result<Vec<Instance>, OutOfMemory>
-    ensures { IfOk result (λ v. v.items ≡ instances.now) }
-{
-    let mut found = Vec::new(alloc);
-    for instance in instances {
-        found.push(instance.copy(alloc)?)?;
-    }
-    Ok(found)
+    let change = RowChange::behind(alloc, world.instances.as_slice(), new)?;
+    Ok(change)
 }
 
 // The place of the instance of a number.
@@ -112,16 +103,20 @@ fn told(
     turn: u64,
     number: u64,
     callback: &Callback,
-) -> Result<InstanceChange, OutOfMemory>
+) -> Result<RowChange<Instance>, OutOfMemory>
     requires { AreKnown world.now }
-    ensures { IfOk result (λ r. with_change r world.now.instances ≡ map (with_callback_begun (before_turn world.now) turn number callback.now) world.now.instances) }
+    ensures rows { IfOk result (λ r. with_change r world.now.instances ≡ map (with_callback_begun (before_turn world.now) turn number callback.now) world.now.instances) }
+    ensures room { IfOk result (λ r. HasRoomAmong r world.now.instances) }
 {
     let instances = world.instances.as_slice();
     match place_of(instances, number) {
-        None => Ok(InstanceChange::Same),
+        None => Ok(RowChange::Same),
         Some(place) => {
             let instance = told_in(alloc, world, turn, callback, &instances[place])?;
-            Ok(InstanceChange::One { place, instance })
+            Ok(RowChange::One {
+                place,
+                row: instance,
+            })
         }
     }
 }
@@ -141,39 +136,28 @@ fn ended(
     world: &World,
     turn: u64,
     outcome: Outcome,
-) -> Result<InstanceChange, OutOfMemory>
+) -> Result<RowChange<Instance>, OutOfMemory>
     requires { AreKnown world.now }
-    ensures { IfOk result (λ r. with_change r world.now.instances ≡ filter lives_on (map (ended_in turn outcome world.now.generations) world.now.instances)) }
+    ensures rows { IfOk result (λ r. with_change r world.now.instances ≡ filter lives_on (map (ended_in turn outcome world.now.generations) world.now.instances)) }
+    ensures room { IfOk result (λ r. HasRoomAmong r world.now.instances) }
 {
     let instances = world.instances.as_slice();
     let generations = world.generations.as_slice();
     match place_by(instances, turn) {
-        None => Ok(InstanceChange::Same),
+        None => Ok(RowChange::Same),
         Some(place) => {
             let instance = with_outcome(alloc, generations, outcome, &instances[place])?;
             if lives_on(&instance) {
-                Ok(InstanceChange::One { place, instance })
+                Ok(RowChange::One {
+                    place,
+                    row: instance,
+                })
             } else {
-                Ok(InstanceChange::All(without_turn(alloc, instances, turn)?))
+                let change = RowChange::without(alloc, instances, place)?;
+                Ok(change)
             }
         }
     }
-}
-
-fn without_turn(
-    alloc: Global,
-    instances: &[Instance],
-    turn: u64,
-) -> Result<List<Instance>, OutOfMemory>
-    ensures { IfOk result (λ v. v ≡ filter (λ (i : Instance). not (has_turn turn i)) instances.now) }
-{
-    let mut found = Vec::new(alloc);
-    for instance in instances {
-        if !has_turn(turn, instance) {
-            found.push(instance.copy(alloc)?)?;
-        }
-    }
-    Ok(List::of(found))
 }
 
 // The drain of one is posted.
@@ -181,16 +165,20 @@ fn drained(
     alloc: Global,
     instances: &[Instance],
     number: u64,
-) -> Result<InstanceChange, OutOfMemory>
+) -> Result<RowChange<Instance>, OutOfMemory>
     requires { HaveOwnNumbers instances.now }
-    ensures { IfOk result (λ r. with_change r instances.now ≡ map (drained_in number) instances.now) }
+    ensures rows { IfOk result (λ r. with_change r instances.now ≡ map (drained_in number) instances.now) }
+    ensures room { IfOk result (λ r. HasRoomAmong r instances.now) }
 {
     match place_of(instances, number) {
-        None => Ok(InstanceChange::Same),
+        None => Ok(RowChange::Same),
         Some(place) => {
             let mut instance = instances[place].copy(alloc)?;
             instance.drained = true;
-            Ok(InstanceChange::One { place, instance })
+            Ok(RowChange::One {
+                place,
+                row: instance,
+            })
         }
     }
 }

@@ -1,13 +1,15 @@
 //! Slots, and how often the gate of each was opened (our own).
 ghost use Rattle.prop_map.specs.Words.{has};
+ghost use Rattle.scr_state.specs.Rows.{HasRoomAmong, with_change};
 ghost use Rattle.scr_world.specs.Instances.{first_free_slot, next_generation};
 ghost use Rattle.scr_world.specs.Stepping.{reopened_for, with_room_for};
 ghost use Rattle.scr_world.specs.declared.instance.Instance.{Instance};
 ghost use Rattle.std.specs.List.{list_any};
-ghost use Rattle.std.specs.Option.{option_copied, option_to_list, unwrap_or};
-ghost use Rattle.std.specs.Prelude.{◌≡◌, ◌==◌, IfOk, map, slice_index, slice_set};
+ghost use Rattle.std.specs.Option.{option_copied, option_to_list};
+ghost use Rattle.std.specs.Prelude.{◌≡◌, ◌==◌, IfOk, map, slice_index};
 
-use prop_map::{List, OutOfMemory};
+use prop_map::OutOfMemory;
+use scr_state::RowChange;
 use scr_world::Instance;
 use std::alloc::{AllocError, Global};
 
@@ -54,46 +56,42 @@ fn last_generation(generations: &[u64], slot: u32) -> u64
     generations.get(slot as usize).copied().unwrap_or(0)
 }
 
-/// The generations where a slot has room for its count, none where that is so already.
+/// What gives a slot room for its count among the generations.
+///
+/// # Errors
+/// Only want of memory.
 pub(crate) fn with_room_for(
     alloc: Global,
     generations: &[u64],
     slot: u64,
-) -> Result<Option<List<u64>>, OutOfMemory>
-    ensures { IfOk result (λ r. unwrap_or r generations.now ≡ with_room_for slot generations.now) }
+) -> Result<RowChange<u64>, OutOfMemory>
+    ensures rows { IfOk result (λ r. with_change r generations.now ≡ with_room_for slot generations.now) }
+    ensures room { IfOk result (λ r. HasRoomAmong r generations.now) }
 {
     if slot < generations.len() as u64 {
-        return Ok(None);
+        return Ok(RowChange::Same);
     }
-    let mut all = Vec::from_slice(alloc, generations)?;
-    all.push(0)?;
-    Ok(Some(List::of(all)))
+    let change = RowChange::behind(alloc, generations, 0)?;
+    Ok(change)
 }
 
-/// The generations where the gate of an instance is opened once more, none where no instance is given.
+/// What opens the gate of an instance once more, where one is given.
+///
+/// # Errors
+/// That no number is left counts as want of memory.
 pub(crate) fn reopened_for(
-    alloc: Global,
     generations: &[u64],
     instance: Option<&Instance>,
-) -> Result<Option<List<u64>>, OutOfMemory>
-    ensures { IfOk result (λ r. unwrap_or r generations.now ≡ reopened_for (option_to_list (option_copied instance.entry)) generations.now) }
+) -> Result<RowChange<u64>, OutOfMemory>
+    ensures rows { IfOk result (λ r. with_change r generations.now ≡ reopened_for (option_to_list (option_copied instance.entry)) generations.now) }
+    ensures room { IfOk result (λ r. HasRoomAmong r generations.now) }
 {
     match instance {
-        None => Ok(None),
+        None => Ok(RowChange::Same),
         Some(instance) => {
-            let generation = next_generation(generations, instance)?;
-            let mut all = Vec::from_slice(alloc, generations)?;
-            with_generation(&mut all, instance.slot, generation);
-            Ok(Some(List::of(all)))
+            let row = next_generation(generations, instance)?;
+            let place = instance.slot as usize;
+            Ok(RowChange::One { place, row })
         }
-    }
-}
-
-fn with_generation(generations: &mut [u64], slot: u32, generation: u64)
-    ensures { generations.new ≡ slice_set generations.old slot generation }
-{
-    let slot = slot as usize;
-    if slot < generations.len() {
-        generations[slot] = generation;
     }
 }

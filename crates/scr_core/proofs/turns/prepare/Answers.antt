@@ -1,10 +1,10 @@
-use Rattle.std.proofs.Common.{◌∙◌, ap, subst, sym}
+use Rattle.std.proofs.Common.{◌∙◌, ap, sym}
 use Rattle.scr_core.proofs.Taking.{has_work, prepared}
+use Rattle.scr_core.proofs.Undone.{drafted_alike}
 use Rattle.scr_core.specs.Steps.{turn_of}
 use Rattle.scr_core.specs.declared.turns.Prepared.{Prepared}
 use Rattle.scr_state.specs.Drafts.{with_draft}
-use Rattle.scr_state.specs.Keeps.{IsDraft}
-use Rattle.scr_state.specs.declared.draft.Draft.{Draft}
+use Rattle.scr_world.specs.declared.world.World.{World}
 use Rattle.scr_world.specs.TurnSteps.{work_under_way}
 use Rattle.scr_core.proofs.turns.prepare.Goals as goal
 
@@ -17,8 +17,11 @@ pub returns-clause-prepared : goal.returns-clause-prepared
 returns-clause-prepared c =
     let p : Prepared = record { draft = c.work_after.new.draft; work = c.in-Some.work; line = c.in_ok-line.line } in
     let told =
-    ap (λ (d : Draft). work_under_way (with_draft d c.args.state.now.world) (turn_of c.args.step.now)) c.in_ok-work.ensures.draft
+    ap (λ (m : World). work_under_way m (turn_of c.args.step.now)) c.in_ok-work.ensures.draft.world
     ∙ ap (λ n. work_under_way (with_draft c.in_ok-draft.draft c.args.state.now.world) n) (sym c.turn_of.ensures)
     ∙ sym c.in_ok-work.ensures.work ∙ c.in-Some.is in
     prepared c.requires.kept.journal c.args.state.now c.requires.kept.keeps c.args.step.now c.requires.next p
-    (subst (λ (d : Draft). IsDraft c.args.state.now c.args.step.now d) (sym c.in_ok-work.ensures.draft) c.in_ok-draft.ensures) told c.in_ok-line.ensures
+    (drafted_alike c.args.state.now c.args.step.now c.in_ok-draft.draft c.work_after.new.draft c.in_ok-work.ensures.draft c.in_ok-draft.ensures) told c.in_ok-line.ensures
+
+pub work_after-requires : goal.work_after-requires
+work_after-requires c = record { room = c.in_ok-draft.ensures.room }

@@ -1,12 +1,13 @@
-use Rattle.std.proofs.Common.{◌∙◌, ap}
-use Rattle.scr_core.proofs.Undone.{undone_again}
-use Rattle.scr_state.specs.Drafts.{undoing}
-use Rattle.scr_state.specs.declared.draft.Draft.{Draft}
+use Rattle.std.proofs.Common.{◌∙◌, ap, subst, sym}
+use Rattle.scr_state.specs.Drafts.{HasRoom, with_draft}
+use Rattle.scr_world.specs.declared.world.World.{World}
 use Rattle.scr_core.proofs.turns.work_after.Goals as goal
 
 pub returns-clause-draft : goal.returns-clause-draft
 returns-clause-draft c =
-    c.swap_in-2.ensures.draft
-    ∙ ap (λ (d : Draft). undoing d c.swap_in.new.world) c.swap_in.ensures.draft
-    ∙ ap (undoing (undoing c.args.draft.now c.args.world.now)) c.swap_in.ensures.world
-    ∙ undone_again c.args.draft.now c.args.world.now
+    let same = c.swap_in-2.ensures.world ∙ c.swap_in.ensures.back in record {
+      world = ap (with_draft c.swap_in-2.new.draft) (sym same) ∙ c.swap_in-2.ensures.back ∙ c.swap_in.ensures.world;
+      room = subst (λ (w : World). HasRoom c.swap_in-2.new.draft w) same c.swap_in-2.ensures.room;
+      descriptions = c.swap_in-2.ensures.descriptions ∙ c.swap_in.ensures.descriptions;
+      levels = c.swap_in-2.ensures.levels ∙ c.swap_in.ensures.levels;
+    }

@@ -11,7 +11,7 @@ use Rattle.bundle_life.specs.Lives.{BundleTable}
 use Rattle.bundle_life.specs.Numbers.{SavedBundles}
 use Rattle.scr_bundles.proofs.Coming.{step_may_change}
 use Rattle.scr_bundles.specs.Changes.{IsSavedOf, MayChange}
-use Rattle.scr_state.specs.Drafts.{with_draft}
+use Rattle.scr_state.specs.Drafts.{HasRoom, with_draft}
 use Rattle.scr_state.specs.Keeps.{IsDraft, Keeps}
 use Rattle.scr_world.specs.Legal.{MayCome}
 use Rattle.scr_world.specs.Steps.{history_of}
@@ -96,3 +96,6 @@ returns-clause-keeps c =
 
 pub told_before-requires : goal.told_before-requires
 told_before-requires c = subst (λ (x : Step). IsDraft c.args.state.now x c.args.draft) (sym c.deref.ensures) c.requires.draft
+
+pub swap_in-requires : goal.swap_in-requires
+swap_in-requires c = record { room = c.requires.draft.room }

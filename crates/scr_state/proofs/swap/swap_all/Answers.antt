@@ -1,11 +1,7 @@
 use Rattle.std.proofs.Common.{rules}
-use Rattle.scr_state.specs.Drafts.{undoing, with_draft}
+use Rattle.scr_state.specs.Drafts.{with_draft}
 use Rattle.scr_state.proofs.swap.swap_all.Goals as goal
 
 pub returns-clause-world : goal.returns-clause-world
 unfolding with_draft
 returns-clause-world c = search rules
-
-pub returns-clause-draft : goal.returns-clause-draft
-unfolding undoing
-returns-clause-draft c = search rules

@@ -23,3 +23,6 @@ returns-in-Ok-clause-shut c =
     shut c.args.journal.now c.args.state.now c.requires.keeps c.args.turn c.args.outcome c.requires.still c.requires.may c.requires.room c.args.draft
     c.requires.draft c.swap_in.new.world c.swap_in.ensures.world c.in_ok-leaving.leaving c.in_ok-leaving.ensures
     c.in-Ok.lost c.in-Ok.ensures.lost c.enter.new.journal c.in-Ok.ensures.entry c.take_over.result c.take_over.ensures.shut
+
+pub swap_in-requires : goal.swap_in-requires
+swap_in-requires c = record { room = c.requires.draft.room }

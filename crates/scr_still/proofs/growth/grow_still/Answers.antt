@@ -29,3 +29,6 @@ returns-in-Ok-clause-shut c =
     shut c.args.journal.now c.args.state.now c.requires.keeps c.args.step.value c.requires.shuts c.requires.may c.requires.room c.args.draft
     c.requires.draft c.swap_in.new.world c.swap_in.ensures.world
     c.add_bare.new.journal (c.in-Ok.ensures.ok c.swap_in.new.world)
+
+pub swap_in-requires : goal.swap_in-requires
+swap_in-requires c = record { room = c.requires.draft.room }
