@@ -4,7 +4,7 @@ ghost use Rattle.scr_world.specs.Stepping.{ending_in, failing, failure_of, failu
 ghost use Rattle.scr_world.specs.declared.instance.Instance.{Instance};
 ghost use Rattle.std.specs.Prelude.{◌≡◌, IfOk, filter, map};
 
-use crate::instances::{has_turn, is_failed, last_is_activate, last_is_create};
+use crate::instances::{is_failed, last_is_activate, last_is_create};
 use callback_orders::Outcome;
 use component_state::{OpenPeriod, is_current};
 use prop_map::{List, OutOfMemory};
@@ -15,7 +15,7 @@ use std::alloc::Global;
 fn ends_making(open_now: &[OpenPeriod], turn: u64, instance: &Instance) -> bool
     ensures { result ≡ ends_making open_now.now turn instance.now }
 {
-    has_turn(turn, instance)
+    instance.has_turn(turn)
         && ((last_is_create(instance.callbacks.as_slice())
             || last_is_activate(instance.callbacks.as_slice()))
             && is_current(open_now, &instance.origin))

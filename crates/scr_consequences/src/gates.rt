@@ -5,11 +5,10 @@ ghost use Rattle.scr_world.specs.declared.instance.Instance.{Instance};
 ghost use Rattle.scr_world.specs.declared.world.World.{World};
 ghost use Rattle.std.specs.Prelude.{◌≡◌, IfOk, filter, map};
 
-use crate::endings::ends;
 use crate::sorted_numbers::SortedNumbers;
 use journal_core::GateKey;
 use prop_map::{List, OutOfMemory};
-use scr_world::{Instance, World};
+use scr_world::{Instance, World, ends};
 use std::alloc::Global;
 
 // Active, and ending.

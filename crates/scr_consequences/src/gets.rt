@@ -12,11 +12,10 @@ ghost use Rattle.std.specs.List.{Contains};
 ghost use Rattle.std.specs.Prelude.{◌≡◌, ◌<◌, ◌||◌, ℕ, IfNone, IfOk, IfSome, false, filter, is_some, length, not};
 ghost use Rattle.use_counts.specs.declared.uses.UseRow.{UseRow};
 
-use crate::endings::is_active_bundle;
 use crate::registered::{is_registered_with, opened_numbers};
 use crate::sorted_numbers::SortedNumbers;
 use prop_map::{Copies, List, OutOfMemory};
-use scr_world::{Command, Step, Token, World};
+use scr_world::{Command, Step, Token, World, is_active_bundle};
 use service_registry::ServiceRow;
 use std::alloc::Global;
 use use_counts::{UseCounts, UseRow};

@@ -7,7 +7,7 @@ ghost use Rattle.scr_world.specs.Instances.{becomes_active, next_generation};
 ghost use Rattle.std.specs.Option.{option_copied};
 ghost use Rattle.std.specs.Prelude.{◌≡◌, IfOk, find};
 
-use crate::instances::{has_turn, last_is_activate};
+use crate::instances::last_is_activate;
 use callback_orders::Outcome;
 use journal_core::GateKey;
 use prop_map::OutOfMemory;
@@ -25,7 +25,7 @@ fn becomes_active(outcome: Outcome, instance: &Instance) -> bool
 fn opens_gate(turn: u64, outcome: Outcome, instance: &Instance) -> bool
     ensures { result ≡ opens_gate turn outcome instance.now }
 {
-    has_turn(turn, instance) && becomes_active(outcome, instance)
+    instance.has_turn(turn) && becomes_active(outcome, instance)
 }
 
 fn opening_in(instances: &[Instance], turn: u64, outcome: Outcome) -> Option<&Instance>

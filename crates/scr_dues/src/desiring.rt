@@ -5,14 +5,13 @@ ghost use Rattle.std.specs.Prelude.{◌≡◌, ◌++◌, IfOk, OnOk, map};
 
 use crate::components::references_in;
 use crate::desires::{choice_where_static, choices_from, desired_holding};
-use crate::endings::ends;
 use crate::own_rows::OwnRows;
 use crate::readiness::{bundle_of_instance, consumer_for};
 use component_dto::Reference;
 use component_state::Component;
 use instance_callbacks::HeldServices;
 use prop_map::{List, OutOfMemory};
-use scr_world::{Instance, World};
+use scr_world::{Instance, World, ends};
 use std::alloc::Global;
 
 /// What an instance desires.

@@ -9,14 +9,13 @@ ghost use Rattle.scr_world.specs.Views.{has_holder, view_of, whiteboard_view};
 ghost use Rattle.std.specs.Prelude.{◌≡◌, ◌&&◌, IfOk, None, Some, false, if◌then◌else◌, is_none, not, option_map};
 ghost use Rattle.std.specs.List.{slice_get};
 
-use crate::endings::ends;
 use crate::lean_views::due_view;
 use crate::own_rows::OwnRows;
 use crate::readiness::{has_holder, is_active_phase};
 use crate::wanted::missing_keys;
 use callback_orders::{DueRef, Key, Phase, due_of, is_outstanding, phase_of};
 use prop_map::OutOfMemory;
-use scr_world::{Instance, World};
+use scr_world::{Instance, World, ends};
 use std::alloc::Global;
 
 // By a view in which nobody is said to hold it: that isn't looked at, unless it is active and ending; nor are other parts.

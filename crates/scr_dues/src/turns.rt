@@ -11,28 +11,20 @@ ghost use Rattle.std.specs.Option.{option_copied, option_map_or};
 ghost use Rattle.std.specs.Prelude.{◌≡◌, [], IfOk, find, option_map};
 
 use crate::components::component_in;
-use crate::endings::ends;
 use crate::own_rows::OwnRows;
-use callback_orders::{Callback, Called, is_outstanding};
+use callback_orders::{Callback, Called};
 use component_state::Component;
 use journal_core::GateKey;
 use kind_trait::Site;
 use prop_map::{Copies, OutOfMemory, Str};
-use scr_world::{Instance, World};
+use scr_world::{Instance, World, ends};
 use std::alloc::Global;
 use turn_runner::TurnWork;
-
-// The turn is under way, and the instance is told by it.
-fn has_turn(turn: u64, instance: &Instance) -> bool
-    ensures { result ≡ has_turn turn instance.now }
-{
-    instance.turn == turn && is_outstanding(instance.callbacks.as_slice())
-}
 
 fn told_among(instances: &[Instance], turn: u64) -> Option<&Instance>
     ensures { option_copied result ≡ find (has_turn turn) instances.now }
 {
-    instances.iter().find(|instance| has_turn(turn, instance))
+    instances.iter().find(|instance| instance.has_turn(turn))
 }
 
 // The instance that is told by a turn under way.
@@ -40,7 +32,7 @@ fn told_by(world: &World, turn: u64) -> Option<&Instance>
     ensures { option_copied result ≡ find (has_turn turn) (all_instances world.now) }
 {
     let whiteboard = &world.whiteboard;
-    if has_turn(turn, whiteboard) {
+    if whiteboard.has_turn(turn) {
         Some(whiteboard)
     } else {
         told_among(world.instances.as_slice(), turn)
@@ -50,14 +42,14 @@ fn told_by(world: &World, turn: u64) -> Option<&Instance>
 fn is_told(instances: &[Instance], turn: u64) -> bool
     ensures { result ≡ list_any (has_turn turn) instances.now }
 {
-    instances.iter().any(|instance| has_turn(turn, instance))
+    instances.iter().any(|instance| instance.has_turn(turn))
 }
 
 /// Whether a turn is under way. It takes no memory.
 pub fn is_under_way(world: &World, turn: u64) -> bool
     ensures { result ≡ is_under_way world.now turn }
 {
-    has_turn(turn, &world.whiteboard) || is_told(world.instances.as_slice(), turn)
+    world.whiteboard.has_turn(turn) || is_told(world.instances.as_slice(), turn)
 }
 
 // The last callback that an instance was told of.

@@ -8,7 +8,6 @@ ghost use Rattle.std.specs.Prelude.{◌≡◌, IfOk, map};
 use crate::changes::{awaits_modified, is_changed};
 use crate::components::references_in;
 use crate::desires::desired_for;
-use crate::endings::ends;
 use crate::own_rows::OwnRows;
 use crate::readiness::{bundle_of_instance, has_holder, is_ready};
 use crate::services::sorted;
@@ -17,7 +16,7 @@ use callback_orders::{
 };
 use component_dto::Reference;
 use prop_map::{List, OutOfMemory, Str};
-use scr_world::{Instance, World};
+use scr_world::{Instance, World, ends};
 use std::alloc::Global;
 
 // Services, each with whether it is ready for a bundle.

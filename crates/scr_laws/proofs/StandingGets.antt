@@ -115,7 +115,7 @@ less_same w Shell u = refl
 less_same w ByToken u = refl
 
 module _ (w : World) where
-  abbrev StandAll : List UseRow → Type 0
+  abbrev pub StandAll : List UseRow → Type 0
   StandAll us = (u : UseRow) → Contains us u → stands_for w u.service u.bundle ≡ true
 
   module _ (bundle service : ℕ) where
@@ -165,33 +165,32 @@ module _ (w : World) where
   released_stand us None all = all
   released_stand us (Some t) all = ungot_stand t.bundle t.service ByToken us all
 
-  uses_after : (step : Step) → MayCome w step → is_still_step step w ≡ true → StandAll w.uses → StandAll (uses_by step w.tokens w.uses)
-  uses_after (Commanded (Get bundle service)) may is all = got_stand bundle service Shell w.uses all (get_stands w bundle service may.0)
-  uses_after (Commanded (Unget bundle service)) may is all = ungot_stand bundle service Shell w.uses all
-  uses_after (Commanded (Listen bundle filter)) may is all = all
-  uses_after (Commanded (Unlisten listener)) may is all = all
-  uses_after (Commanded command) may is all = absurd cc
-  uses_after (Begin turn instance configuration consumer callback chosen) may is all = all
-  uses_after (End turn outcome) may is all = all
-  uses_after (Drained instance) may is all = all
-  uses_after (Got bundle service) may is all = got_stand bundle service ByToken w.uses all (get_stands w bundle service may)
-  uses_after (Released place) may is all = released_stand w.uses (find (λ (t : Token). t.place == place) w.tokens) all
+  -- a get and its release aside, a step leaves the uses as they are
+  pub uses_after : (step : Step) → MayCome w step → StandAll w.uses → StandAll (uses_by step w.tokens w.uses)
+  uses_after (Commanded (Get bundle service)) may all = got_stand bundle service Shell w.uses all (get_stands w bundle service may.0)
+  uses_after (Commanded (Unget bundle service)) may all = ungot_stand bundle service Shell w.uses all
+  uses_after (Commanded command) may all = all
+  uses_after (Begin turn instance configuration consumer callback chosen) may all = all
+  uses_after (End turn outcome) may all = all
+  uses_after (Drained instance) may all = all
+  uses_after (Got bundle service) may all = got_stand bundle service ByToken w.uses all (get_stands w bundle service may)
+  uses_after (Released place) may all = released_stand w.uses (find (λ (t : Token). t.place == place) w.tokens) all
 
-  abbrev TokensStand : List Token → Type 0
+  abbrev pub TokensStand : List Token → Type 0
   TokensStand ts = (t : Token) → Contains ts t → stands_for w t.service t.bundle ≡ true
 
-  tokens_after : (step : Step) → MayCome w step → is_still_step step w ≡ true → TokensStand w.tokens → TokensStand (tokens_by step w.entries w.tokens)
-  tokens_after (Commanded command) may is all t h = all t h
-  tokens_after (Begin turn instance configuration consumer callback chosen) may is all t h = all t h
-  tokens_after (End turn outcome) may is all t h = all t h
-  tokens_after (Drained instance) may is all t h = all t h
-  tokens_after (Got bundle service) may is all t h =
+  pub tokens_after : (step : Step) → MayCome w step → TokensStand w.tokens → TokensStand (tokens_by step w.entries w.tokens)
+  tokens_after (Commanded command) may all t h = all t h
+  tokens_after (Begin turn instance configuration consumer callback chosen) may all t h = all t h
+  tokens_after (End turn outcome) may all t h = all t h
+  tokens_after (Drained instance) may all t h = all t h
+  tokens_after (Got bundle service) may all t h =
       let new : Token = record { place = w.entries; bundle = bundle; service = service } in
       elim (in_either w.tokens (new ∷ []) t h) [
         | inl old ↦ all t old
         | inr added ↦ subst (λ (x : Token). stands_for w x.service x.bundle ≡ true) (alone new t added) (get_stands w bundle service may)
       ]
-  tokens_after (Released place) may is all t h = all t (kept_was (λ (x : Token). not (x.place == place)) w.tokens t h).0
+  tokens_after (Released place) may all t h = all t (kept_was (λ (x : Token). not (x.place == place)) w.tokens t h).0
 
 -- ---- an entry without consequences leaves which services are registered, and which bundles are active
 
@@ -294,14 +293,14 @@ module _ (limit : ℕ) (entry : Entry Step) (past : History) (legal : IsLegal li
   -- it drops no get by token
   pub none_dropped : tokens_dropped entry (world_of past) ≡ []
   none_dropped = none_kept (λ (t : Token). not (stands_in (world_after_entry entry w) t)) (tokens_by entry.step w.entries w.tokens)
-      (λ t h. ap not (stands_then t.service t.bundle ∙ tokens_after w entry.step legal.0.step is (tokens_stand past) t h))
+      (λ t h. ap not (stands_then t.service t.bundle ∙ tokens_after w entry.step legal.0.step (tokens_stand past) t h))
 
   pub tokens_left : (world_after_entry entry (world_of past)).tokens ≡ tokens_by entry.step (world_of past).entries (world_of past).tokens
   unfolding world_after_entry world_after_step
   tokens_left = all_pass (stands_in (world_after_entry entry w)) (tokens_by entry.step w.entries w.tokens)
-      (λ t h. stands_then t.service t.bundle ∙ tokens_after w entry.step legal.0.step is (tokens_stand past) t h)
+      (λ t h. stands_then t.service t.bundle ∙ tokens_after w entry.step legal.0.step (tokens_stand past) t h)
 
   pub uses_left : (world_after_entry entry (world_of past)).uses ≡ uses_by entry.step (world_of past).tokens (world_of past).uses
   unfolding world_after_entry world_after_step
   uses_left = all_pass (λ (u : UseRow). stands_for (world_after_entry entry w) u.service u.bundle) (uses_by entry.step w.tokens w.uses)
-      (λ u h. stands_then u.service u.bundle ∙ uses_after w entry.step legal.0.step is (uses_stand past) u h)
+      (λ u h. stands_then u.service u.bundle ∙ uses_after w entry.step legal.0.step (uses_stand past) u h)

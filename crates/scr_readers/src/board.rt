@@ -3,8 +3,7 @@ ghost use Rattle.scr_readers.specs.Board.{changes_board};
 ghost use Rattle.scr_world.specs.Instances.{has_turn};
 ghost use Rattle.std.specs.Prelude.{◌≡◌};
 
-use callback_orders::is_outstanding;
-use scr_world::{Instance, Step, World};
+use scr_world::{Step, World};
 
 /// Whether a step may change what the whiteboard's instance holds, or a service that it holds. Whoever counts these steps has a
 /// count that rises in each entry that changes the rows of [`held_rows`](crate::held_rows). It takes no memory.
@@ -14,13 +13,8 @@ pub fn changes_board(world: &World, step: &Step) -> bool
     match step {
         Step::Command(_) => true,
         Step::Begin { instance, .. } => world.whiteboard.number == *instance,
-        Step::End { turn, .. } => has_turn(*turn, &world.whiteboard),
+        Step::End { turn, .. } => world.whiteboard.has_turn(*turn),
         Step::Drained { .. } | Step::Got { .. } | Step::Released { .. } => false,
     }
 }
 
-fn has_turn(turn: u64, instance: &Instance) -> bool
-    ensures { result ≡ has_turn turn instance.now }
-{
-    instance.turn == turn && is_outstanding(instance.callbacks.as_slice())
-}

@@ -18,8 +18,8 @@ use component_state::Component;
 use journal_core::GateKey;
 use kind_trait::Site;
 use prop_map::{Copies, OutOfMemory, Str};
-use scr_dues::{OwnRows, bundle_of_instance, component_in, ends, row_known};
-use scr_world::{Instance, Token, World};
+use scr_dues::{OwnRows, bundle_of_instance, component_in, row_known};
+use scr_world::{Instance, Token, World, ends};
 use service_registry::ServiceRow;
 use std::alloc::Global;
 

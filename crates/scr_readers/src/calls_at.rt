@@ -11,8 +11,8 @@ use crate::calls::{gate_of, is_direct, stands};
 use crate::instances::{active_server, instance_at, server_of};
 use crate::{InwardAt, LiveAt, OuterAt};
 use prop_map::Str;
-use scr_dues::{OwnRows, bundle_of_instance, ends};
-use scr_world::{Instance, Token, World};
+use scr_dues::{OwnRows, bundle_of_instance};
+use scr_world::{Instance, Token, World, ends};
 
 /// The active instance that a bundle uses of a service, and `None` exactly where there is none. Each slot has to be a number
 /// of 32 bits, as it is in each legal journal. It takes no memory.

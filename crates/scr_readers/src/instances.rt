@@ -7,8 +7,8 @@ ghost use Rattle.std.specs.List.{Contains};
 ghost use Rattle.std.specs.Option.{option_copied};
 ghost use Rattle.std.specs.Prelude.{◌≡◌, ◌==◌, ◌&&◌, find};
 
-use scr_dues::{ends, serves};
-use scr_world::{Instance, World};
+use scr_dues::serves;
+use scr_world::{Instance, World, ends};
 
 /// The instance of a number, that of the whiteboard too. It takes no memory.
 pub(crate) fn instance_at(world: &World, number: u64) -> Option<&Instance>

@@ -16,8 +16,8 @@ use crate::growth::one_more;
 use callback_orders::Outcome;
 use journal_core::GateKey;
 use prop_map::{List, OutOfMemory};
-use scr_consequences::{ends, has_turn, is_service_held};
-use scr_world::{Instance, World};
+use scr_consequences::is_service_held;
+use scr_world::{Instance, World, ends};
 use service_registry::ServiceRow;
 use std::alloc::{AllocError, Global};
 use std::mem;
@@ -39,7 +39,7 @@ pub(crate) struct Leaving {
 fn opens_gate(turn: u64, outcome: Outcome, instance: &Instance) -> bool
     ensures { result ≡ opens_gate turn outcome instance.now }
 {
-    has_turn(turn, instance)
+    instance.has_turn(turn)
         && (outcome == Outcome::Done && last_is_activate(instance.callbacks.as_slice()))
 }
 
@@ -110,7 +110,7 @@ fn shut_by_end(
 fn told_among(instances: &[Instance], turn: u64) -> Option<&Instance>
     ensures { option_copied result ≡ find (has_turn turn) instances.now }
 {
-    instances.iter().find(|instance| has_turn(turn, instance))
+    instances.iter().find(|instance| instance.has_turn(turn))
 }
 
 // The service that a turn unbinds that tells one of these instances.
@@ -127,7 +127,7 @@ fn unbound_among(instances: &[Instance], turn: u64) -> Option<u64>
 fn unbound_by(world: &World, turn: u64) -> Option<u64>
     ensures { result ≡ unbound_by turn world.now }
 {
-    if has_turn(turn, &world.whiteboard) {
+    if world.whiteboard.has_turn(turn) {
         return last_unbound(world.whiteboard.callbacks.as_slice());
     }
     unbound_among(world.instances.as_slice(), turn)
@@ -136,7 +136,7 @@ fn unbound_by(world: &World, turn: u64) -> Option<u64>
 fn activates_by(turn: u64, instance: &Instance) -> bool
     ensures { result ≡ activates_by turn instance.now }
 {
-    has_turn(turn, instance) && last_is_activate(instance.callbacks.as_slice())
+    instance.has_turn(turn) && last_is_activate(instance.callbacks.as_slice())
 }
 
 fn some_activate(instances: &[Instance], turn: u64) -> bool

@@ -8,7 +8,7 @@ use crate::callbacks::{is_failed, last_is_activate, last_is_create, last_is_dest
 use bundle_life::{BundleLife, BundleState};
 use callback_orders::Outcome;
 use component_state::is_current;
-use scr_consequences::{has_turn, keeps_bundle};
+use scr_consequences::keeps_bundle;
 use scr_state::State;
 use scr_world::{Instance, World};
 
@@ -28,7 +28,7 @@ fn are_still(world: &World, satisfied: &[u64], turn: u64, outcome: Outcome) -> b
     ensures { result ≡ are_still turn outcome world.now satisfied.now }
 {
     world.instances.as_slice().iter().all(|instance| {
-        !has_turn(turn, instance) || ends_still(world, satisfied, turn, outcome, instance)
+        !instance.has_turn(turn) || ends_still(world, satisfied, turn, outcome, instance)
     })
 }
 
@@ -83,6 +83,6 @@ fn is_kept_beside(world: &World, turn: u64, bundle: u64) -> bool
     ensures { result ≡ is_kept_beside world.now turn bundle }
 {
     let components = world.components.as_slice();
-    world.instances.as_slice().iter().any(|other| !has_turn(turn, other)
+    world.instances.as_slice().iter().any(|other| !other.has_turn(turn)
         && keeps_bundle(components, bundle, other))
 }

@@ -24,9 +24,9 @@ pub(crate) fn told_in(
 ) -> Result<Instance, OutOfMemory>
     ensures { IfOk result (λ i. i ≡ told_in world.now turn callback.now instance.now) }
 {
-    let mut told = instance.copy(alloc)?;
+    let calls = calls_with(alloc, instance.callbacks.as_slice(), callback)?;
+    let mut told = instance.with_callbacks(alloc, calls)?;
     told.turn = turn;
-    told.callbacks = calls_with(alloc, instance.callbacks.as_slice(), callback)?;
     with_effect(alloc, world, callback, told)
 }
 
@@ -45,8 +45,7 @@ fn with_effect(
         }
         Callback::Unbind { reference, service } => {
             let mut told = instance;
-            let revisions = told.told_revisions.as_slice();
-            told.told_revisions = without_told(alloc, reference, *service, revisions)?;
+            told.told_revisions = without_told(reference, *service, told.told_revisions);
             Ok(told)
         }
         Callback::Modified => with_properties(alloc, world, instance),
@@ -67,8 +66,7 @@ fn with_revision(
 {
     let mut told = instance;
     let revision = revision_of(world, service);
-    let revisions = told.told_revisions.as_slice();
-    told.told_revisions = with_told(alloc, reference, service, revision, revisions)?;
+    told.told_revisions = with_told(alloc, reference, service, revision, told.told_revisions)?;
     Ok(told)
 }
 
@@ -112,20 +110,15 @@ fn is_told_of(reference: &Str, service: u64, told: &ToldRevision) -> bool
 }
 
 fn without_told(
-    alloc: Global,
     reference: &Str,
     service: u64,
-    told: &[ToldRevision],
-) -> Result<List<ToldRevision>, OutOfMemory>
-    ensures { IfOk result (λ v. v ≡ without_told reference.now service told.now) }
+    told: List<ToldRevision>,
+) -> List<ToldRevision>
+    ensures { result ≡ without_told reference.now service told }
 {
-    let mut found = Vec::new(alloc);
-    for one in told {
-        if !is_told_of(reference, service, one) {
-            found.push(one.copy(alloc)?)?;
-        }
-    }
-    Ok(List::of(found))
+    let mut left = told.items();
+    left.retain(|one| !is_told_of(reference, service, one));
+    List::of(left)
 }
 
 fn with_told(
@@ -133,11 +126,11 @@ fn with_told(
     reference: &Str,
     service: u64,
     revision: u64,
-    told: &[ToldRevision],
+    told: List<ToldRevision>,
 ) -> Result<List<ToldRevision>, OutOfMemory>
-    ensures { IfOk result (λ v. v ≡ with_told reference.now service revision told.now) }
+    ensures { IfOk result (λ v. v ≡ with_told reference.now service revision told) }
 {
-    let mut found = without_told(alloc, reference, service, told)?.items();
+    let mut found = without_told(reference, service, told).items();
     found.push(ToldRevision {
         reference: reference.copy(alloc)?,
         service,

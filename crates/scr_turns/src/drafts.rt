@@ -18,7 +18,7 @@ use crate::slots::{first_free_slot, reopened_for, with_room_for};
 use callback_orders::Outcome;
 use component_state::failed_after;
 use prop_map::{List, OutOfMemory};
-use scr_consequences::{failing_of, failures_of, has_turn};
+use scr_consequences::{failing_of, failures_of};
 use scr_state::{Draft, RowChange, State};
 use scr_world::{Failure, Instance, Step, Token, World};
 use std::alloc::{AllocError, Global};
@@ -195,5 +195,5 @@ fn generations_after(
 fn reopening(instances: &[Instance], turn: u64, outcome: Outcome) -> Option<&Instance>
     ensures { option_copied result ≡ find (λ (i : Instance). has_turn turn i && becomes_active outcome i) instances.now }
 {
-    instances.iter().find(|instance| has_turn(turn, instance) && becomes_active(outcome, instance))
+    instances.iter().find(|instance| instance.has_turn(turn) && becomes_active(outcome, instance))
 }

@@ -19,8 +19,8 @@ pub(crate) fn with_outcome(
 ) -> Result<Instance, OutOfMemory>
     ensures { IfOk result (λ i. i ≡ with_outcome outcome generations.now instance.now) }
 {
-    let mut told = instance.copy(alloc)?;
-    told.callbacks = ended_calls(alloc, instance.callbacks.as_slice(), outcome)?;
+    let calls = ended_calls(alloc, instance.callbacks.as_slice(), outcome)?;
+    let mut told = instance.with_callbacks(alloc, calls)?;
     told.generation = generation_after(generations, outcome, instance)?;
     Ok(told)
 }

@@ -16,7 +16,6 @@ use crate::instance_tests::lives_on;
 use callback_orders::{Callback, Outcome};
 use component_state::Choice;
 use prop_map::{Copies, List, OutOfMemory};
-use scr_consequences::has_turn;
 use scr_state::RowChange;
 use scr_world::{Instance, Step, World};
 use std::alloc::Global;
@@ -127,7 +126,7 @@ fn place_by(instances: &[Instance], turn: u64) -> Option<usize>
 {
     instances
         .iter()
-        .position(|instance| has_turn(turn, instance))
+        .position(|instance| instance.has_turn(turn))
 }
 
 // The turn of one ends.
@@ -202,7 +201,7 @@ pub(crate) fn whiteboard_after(
             let told = told_in(alloc, world, *turn, callback, whiteboard)?;
             Ok(Some(told))
         }
-        Step::End { turn, outcome } if has_turn(*turn, whiteboard) => {
+        Step::End { turn, outcome } if whiteboard.has_turn(*turn) => {
             let generations = world.generations.as_slice();
             let told = with_outcome(alloc, generations, *outcome, whiteboard)?;
             Ok(Some(told))

@@ -1,8 +1,8 @@
 //! Living instances (OSGi Compendium 8, chapter 112, "Component Life Cycle").
-ghost use Rattle.scr_world.specs.Instances.{is_active_instance};
-ghost use Rattle.std.specs.Prelude.{◌≡◌};
+ghost use Rattle.scr_world.specs.Instances.{has_failed, has_turn, is_active_instance};
+ghost use Rattle.std.specs.Prelude.{◌≡◌, IfOk};
 
-use callback_orders::{Called, Phase, phase_of};
+use callback_orders::{Called, Outcome, Phase, is_outstanding, phase_of};
 use component_state::Origin;
 use prop_map::{Copies, List, OutOfMemory, Properties, Str};
 use std::alloc::Global;
@@ -64,10 +64,35 @@ impl Instance {
     {
         matches!(phase_of(self.callbacks.as_slice()), Phase::Active)
     }
-}
 
-impl Copies for Instance {
-    fn copy(&self, alloc: Global) -> Result<Instance, OutOfMemory> {
+    /// Whether its activation ended without success. It takes no memory.
+    pub fn has_failed(&self) -> bool
+        ensures { result ≡ has_failed self.now.callbacks }
+    {
+        self.callbacks.as_slice().iter().any(|called| {
+            called.callback.is_activate()
+                && matches!(called.outcome, Some(Outcome::Refused | Outcome::NoMemory))
+        })
+    }
+
+    /// Whether a turn is under way and tells it of a callback. It takes no memory.
+    pub fn has_turn(&self, turn: u64) -> bool
+        ensures { result ≡ has_turn turn self.now }
+    {
+        self.turn == turn && is_outstanding(self.callbacks.as_slice())
+    }
+
+    /// An equal instance but for its callbacks, which are these.
+    ///
+    /// # Errors
+    /// Only want of memory.
+    pub fn with_callbacks(
+        &self,
+        alloc: Global,
+        callbacks: List<Called>,
+    ) -> Result<Instance, OutOfMemory>
+        ensures { IfOk result (λ i. i ≡ record self.now { callbacks = callbacks }) }
+    {
         Ok(Instance {
             number: self.number,
             consumer: self.consumer,
@@ -77,10 +102,16 @@ impl Copies for Instance {
             drained: self.drained,
             turn: self.turn,
             origin: self.origin.copy(alloc)?,
-            callbacks: self.callbacks.copy(alloc)?,
+            callbacks,
             properties: self.properties.copy(alloc)?,
             properties_taken_at: self.properties_taken_at,
             told_revisions: self.told_revisions.copy(alloc)?,
         })
+    }
+}
+
+impl Copies for Instance {
+    fn copy(&self, alloc: Global) -> Result<Instance, OutOfMemory> {
+        self.with_callbacks(alloc, self.callbacks.copy(alloc)?)
     }
 }

@@ -4,6 +4,7 @@
 
 mod command;
 mod contents;
+mod endings;
 mod instance;
 mod lines;
 mod marks;
@@ -14,6 +15,7 @@ mod world;
 
 pub use command::{Command, Limits};
 pub use contents::Contents;
+pub use endings::{ends, is_active_bundle, is_ending};
 pub use instance::{Instance, ToldRevision};
 pub use lines::{BundleLine, ComponentLine, HeldLine, TurnLine};
 pub use marks::{Failure, Token};

@@ -6,18 +6,18 @@ ghost use Rattle.prop_map.specs.JsonProperties.{properties_of};
 ghost use Rattle.serde_json.specs.View.{view};
 
 use crate::LineFault;
-use bundle_doc::{BundleDoc, DocFault, read_bundle};
+use bundle_doc::{BundleDoc, DocFault, read_bundle, with_shared_texts};
 use ldap_filter::{Filter, FilterFault};
 use prop_map::{OutOfMemory, PropFault, Properties, Str};
 use serde_json::{Category, Value};
 use std::alloc::Global;
 
-// The document that a text is.
+// The document that a text is. Its texts are shared, so that what is told of its components takes no memory for them.
 pub(crate) fn read_document(alloc: Global, text: &str) -> Result<BundleDoc, LineFault>
     ensures { Reads (document_argument text.now) result }
 {
     match read_bundle(alloc, text.as_bytes()) {
-        Ok(doc) => Ok(doc),
+        Ok(doc) => Ok(with_shared_texts(alloc, doc)?),
         Err(DocFault::OutOfMemory) => Err(LineFault::OutOfMemory),
         Err(fault) => Err(LineFault::Document { fault }),
     }

@@ -3,10 +3,9 @@ ghost use Rattle.bundle_life.specs.Lives.{is_active, state_is};
 ghost use Rattle.scr_world.specs.Views.{ends, is_ending};
 ghost use Rattle.std.specs.Prelude.{◌≡◌};
 
-use crate::instances::has_failed;
+use crate::{Instance, World};
 use bundle_life::{BundleState, Bundles};
 use component_state::{OpenPeriod, is_current};
-use scr_world::{Instance, World};
 
 /// Whether a bundle is ACTIVE. It takes no memory.
 pub fn is_active_bundle(bundles: &Bundles, bundle: u64) -> bool
@@ -25,7 +24,7 @@ pub fn is_ending(bundles: &Bundles, open_now: &[OpenPeriod], instance: &Instance
 {
     !is_current(open_now, &instance.origin)
         || (instance.consumer != 0 && !is_active_bundle(bundles, instance.consumer))
-        || has_failed(instance.callbacks.as_slice())
+        || instance.has_failed()
 }
 
 /// Whether an instance is ending in a world. It takes no memory.
