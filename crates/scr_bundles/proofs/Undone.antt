@@ -19,7 +19,7 @@ use Rattle.osgi_version.specs.declared.version.Version.{Version}
 use Rattle.prop_map.specs.Words.{first_some}
 use Rattle.scr_bundles.specs.Changes.{MayChange, WasSaved}
 use Rattle.scr_laws.proofs.Listed.{found_is}
-use Rattle.scr_laws.proofs.Stillness.{in_first, in_rest}
+use Rattle.component_state.proofs.Apart.{in_first, in_rest}
 use Rattle.scr_laws.specs.Askeds.{HasOneOfEach}
 use Rattle.scr_world.specs.Tables.{bundles_by}
 use Rattle.scr_world.specs.declared.command.Command.TheVariants.{Install, Update, Start, Stop, Uninstall}

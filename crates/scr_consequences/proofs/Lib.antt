@@ -6,7 +6,6 @@ pub mod DrainingLemmas
 pub mod FilterLemmas
 pub mod FlatMaps
 pub mod GetLemmas
-pub mod LastCallbacks
 pub mod LeftLemmas
 pub mod ListenerNumbers
 pub mod MovedLemmas

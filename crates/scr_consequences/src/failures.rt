@@ -4,11 +4,10 @@ ghost use Rattle.scr_world.specs.Stepping.{ending_in, failing, failure_of, failu
 ghost use Rattle.scr_world.specs.declared.instance.Instance.{Instance};
 ghost use Rattle.std.specs.Prelude.{◌≡◌, IfOk, filter, map};
 
-use crate::instances::{is_failed, last_is_activate, last_is_create};
 use callback_orders::Outcome;
 use component_state::{OpenPeriod, is_current};
 use prop_map::{List, OutOfMemory};
-use scr_world::{Failure, Instance, Step, World};
+use scr_world::{Failure, Instance, Step, World, is_failed, last_is_activate, last_is_create};
 use std::alloc::Global;
 
 // A turn ends the creation or activation of an instance, and the period is open in which it was made.

@@ -46,16 +46,6 @@ pub fn draining_in(alloc: Global, world: &World) -> Result<List<u64>, OutOfMemor
     draining_among(alloc, world, world.instances.as_slice())
 }
 
-// The name of an instance's gate.
-fn gate_of(instance: &Instance) -> GateKey
-    ensures { result ≡ gate_of instance.now }
-{
-    GateKey {
-        slot: instance.slot,
-        generation: instance.generation,
-    }
-}
-
 fn begins_draining(draining: &SortedNumbers, now: &World, instance: &Instance) -> bool
     ensures { result ≡ begins_draining_from draining.now now.now instance.now }
 {
@@ -74,7 +64,7 @@ fn shut_among(
     let mut keys = Vec::new(alloc);
     for instance in instances {
         if begins_draining(draining, now, instance) {
-            keys.push(gate_of(instance))?;
+            keys.push(instance.gate())?;
         }
     }
     Ok(List::of(keys))

@@ -1,31 +1,21 @@
 //! The gate that the end of a turn reopens. Our own.
-ghost use Rattle.callback_orders.specs.Grammar.{is_activate};
-ghost use Rattle.callback_orders.specs.Sequences.{is_done};
 ghost use Rattle.scr_consequences.specs.Ends.{opens_gate};
 ghost use Rattle.scr_world.specs.Consequences.{reopened_by};
-ghost use Rattle.scr_world.specs.Instances.{becomes_active, next_generation};
+ghost use Rattle.scr_world.specs.Instances.{next_generation};
 ghost use Rattle.std.specs.Option.{option_copied};
 ghost use Rattle.std.specs.Prelude.{◌≡◌, IfOk, find};
 
-use crate::instances::last_is_activate;
 use callback_orders::Outcome;
 use journal_core::GateKey;
 use prop_map::OutOfMemory;
 use scr_world::{Instance, World};
 use std::alloc::AllocError;
 
-// It becomes active by the end of its Activate.
-fn becomes_active(outcome: Outcome, instance: &Instance) -> bool
-    ensures { result ≡ becomes_active outcome instance.now }
-{
-    outcome == Outcome::Done && last_is_activate(instance.callbacks.as_slice())
-}
-
-// The end of a turn makes it active.
-fn opens_gate(turn: u64, outcome: Outcome, instance: &Instance) -> bool
+/// Whether the end of a turn makes an instance active, so that its gate opens. It takes no memory.
+pub fn opens_gate(turn: u64, outcome: Outcome, instance: &Instance) -> bool
     ensures { result ≡ opens_gate turn outcome instance.now }
 {
-    instance.has_turn(turn) && becomes_active(outcome, instance)
+    instance.has_turn(turn) && instance.becomes_active(outcome)
 }
 
 fn opening_in(instances: &[Instance], turn: u64, outcome: Outcome) -> Option<&Instance>
@@ -36,8 +26,11 @@ fn opening_in(instances: &[Instance], turn: u64, outcome: Outcome) -> Option<&In
         .find(|instance| opens_gate(turn, outcome, instance))
 }
 
-// How often the gate of its slot will have been opened. A number that doesn't fit counts as want of memory.
-fn next_generation(generations: &[u64], instance: &Instance) -> Result<u64, OutOfMemory>
+/// How often the gate of an instance's slot will have been opened once it opens again. It takes no memory.
+///
+/// # Errors
+/// That no number of 64 bits is left counts as want of memory.
+pub fn next_generation(generations: &[u64], instance: &Instance) -> Result<u64, OutOfMemory>
     ensures { IfOk result (λ generation. generation ≡ next_generation generations.now instance.now) }
 {
     let opened = match generations.get(instance.slot as usize) {

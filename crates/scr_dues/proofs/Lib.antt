@@ -1,6 +1,5 @@
 pub mod Rows
 pub mod Ranks
-pub mod LastCallbacks
 pub mod Meeting
 pub mod Aside
 pub mod Desired

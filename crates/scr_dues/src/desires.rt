@@ -84,8 +84,11 @@ fn direct_meeting(
     Ok(found)
 }
 
-// The registered services that meet a need, best first.
-pub(crate) fn targets(
+/// The registered services that meet a need, best first.
+///
+/// # Errors
+/// Only want of memory.
+pub fn targets(
     alloc: Global,
     own: &OwnRows,
     world: &World,

@@ -1,7 +1,7 @@
 //! Turns that are under way, and gates that await their drain (turns and gates are our own).
 ghost use Rattle.component_state.specs.declared.component.Component.{Component};
 ghost use Rattle.scr_world.specs.Calls.{next_drain};
-ghost use Rattle.scr_world.specs.Consequences.{gate_of, is_draining};
+ghost use Rattle.scr_world.specs.Consequences.{is_draining};
 ghost use Rattle.scr_world.specs.Instances.{has_turn, last_callback};
 ghost use Rattle.scr_world.specs.Legal.{awaits_drain, is_under_way};
 ghost use Rattle.scr_world.specs.TurnSteps.{class_in, name_in, work_for, work_under_way};
@@ -17,7 +17,7 @@ use component_state::Component;
 use journal_core::GateKey;
 use kind_trait::Site;
 use prop_map::{Copies, OutOfMemory, Str};
-use scr_world::{Instance, World, ends};
+use scr_world::{Instance, World, ends, last_callback};
 use std::alloc::Global;
 use turn_runner::TurnWork;
 
@@ -52,13 +52,12 @@ pub fn is_under_way(world: &World, turn: u64) -> bool
     world.whiteboard.has_turn(turn) || is_told(world.instances.as_slice(), turn)
 }
 
-// The last callback that an instance was told of.
-#[tactic(auto, using(crate::proofs::LastCallbacks::callback_last))]
-fn last_callback(alloc: Global, calls: &[Called]) -> Result<Option<Callback>, OutOfMemory>
+// A copy of the last callback that an instance was told of.
+fn last_copied(alloc: Global, calls: &[Called]) -> Result<Option<Callback>, OutOfMemory>
     ensures { IfOk result (λ callback. callback ≡ last_callback calls.now) }
 {
-    match calls.last() {
-        Some(called) => Ok(Some(called.callback.copy(alloc)?)),
+    match last_callback(calls) {
+        Some(callback) => Ok(Some(callback.copy(alloc)?)),
         None => Ok(None),
     }
 }
@@ -95,7 +94,11 @@ fn name_in(
     )
 }
 
-fn class_in(
+/// The class of a component configuration, none where it isn't known.
+///
+/// # Errors
+/// Only want of memory.
+pub fn class_in(
     alloc: Global,
     own: &OwnRows,
     world: &World,
@@ -141,7 +144,7 @@ fn work_told(
 ) -> Result<Option<TurnWork>, OutOfMemory>
     ensures { IfOk result (λ work. work ≡ option_map (work_for world.now turn instance.now) (last_callback instance.now.callbacks)) }
 {
-    match last_callback(alloc, instance.callbacks.as_slice())? {
+    match last_copied(alloc, instance.callbacks.as_slice())? {
         Some(callback) => Ok(Some(work_for(alloc, own, world, turn, instance, callback)?)),
         None => Ok(None),
     }
@@ -180,22 +183,12 @@ fn first_awaiting<'a>(world: &World, instances: &'a [Instance]) -> Option<&'a In
         .find(|instance| awaits_drain(world, instance))
 }
 
-/// The gate of an instance.
-pub fn gate_of(instance: &Instance) -> GateKey
-    ensures { result ≡ gate_of instance.now }
-{
-    GateKey {
-        slot: instance.slot,
-        generation: instance.generation,
-    }
-}
-
 /// The gate of the first instance that awaits its drain, if one does. It takes no memory.
 pub fn next_drain(world: &World) -> Option<GateKey>
     ensures { result ≡ next_drain world.now }
 {
     match first_awaiting(world, world.instances.as_slice()) {
-        Some(instance) => Some(gate_of(instance)),
+        Some(instance) => Some(instance.gate()),
         None => None,
     }
 }

@@ -13,7 +13,7 @@ use Rattle.component_state.specs.declared.component.Component.{Component}
 use Rattle.component_state.specs.declared.rows.BundleRow.{BundleRow}
 use Rattle.component_state.specs.ComponentConfigurations.{component_configurations, components_for_bundle}
 use Rattle.config_admin.specs.declared.configuration.Configuration.{Configuration}
-use Rattle.scr_laws.proofs.Stillness.{in_first, in_rest, kept_was}
+use Rattle.component_state.proofs.Apart.{in_first, in_rest, kept_was}
 use Rattle.scr_world.specs.declared.contents.Contents.{Contents as Held}
 use Rattle.scr_world.specs.Tables.{bundle_row, bundle_rows}
 

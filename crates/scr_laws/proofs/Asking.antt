@@ -9,7 +9,8 @@ use Rattle.prop_map.specs.declared.properties.Property.{Property}
 use Rattle.prop_map.specs.Sameness.{properties_decide, same_properties}
 use Rattle.component_state.specs.declared.component.Component.{Component}
 use Rattle.component_state.specs.ComponentConfigurations.{components_after, as_configured, is_same_component, component_after, new_components, with_numbers, same_pid, with_number}
-use Rattle.scr_laws.proofs.Stillness.{any_from, in_cases, in_either, in_first, in_none, in_rest, kept_was, none_added}
+use Rattle.component_state.proofs.Apart.{any_from, in_cases, in_either, in_first, in_none, in_rest, kept_was}
+use Rattle.scr_laws.proofs.Stillness.{none_added}
 use Rattle.scr_laws.specs.Askeds.{AreAsked}
 use Rattle.scr_laws.proofs.Listed.{any_was, found_is, in_left, in_mapped, in_right, kept_in, map_same, mapped_was, none_found, none_kept, none_passes}
 

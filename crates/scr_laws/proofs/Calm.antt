@@ -35,7 +35,8 @@ use Rattle.scr_world.specs.Worlds.{direct_services, origins_of, satisfied_in as 
 use Rattle.service_registry.specs.declared.row.ServiceRow.{ServiceRow}
 use Rattle.scr_laws.specs.Stills.{IsKnown, is_misled_in}
 use Rattle.scr_laws.proofs.ChoicesStand.{choices_stand}
-use Rattle.scr_laws.proofs.Stillness.{any_from, in_cases, in_either, in_first, in_none, in_rest, kept_was, number_in}
+use Rattle.component_state.proofs.Apart.{any_from, in_cases, in_either, in_first, in_none, in_rest, kept_was}
+use Rattle.scr_laws.proofs.Stillness.{number_in}
 use Rattle.scr_laws.specs.Askeds.{IsAsked}
 use Rattle.scr_laws.specs.Calms.{AreBehind}
 use Rattle.scr_laws.proofs.Distinct.{asked_unchanged}

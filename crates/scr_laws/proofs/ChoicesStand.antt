@@ -15,7 +15,8 @@ use Rattle.component_state.proofs.ReasonLaws.{quiet_lives, reasons_are}
 use Rattle.journal_core.specs.declared.entry.Opened.{Opened}
 use Rattle.prop_map.specs.Words.{has}
 use Rattle.scr_laws.specs.Stills.{is_misled_in}
-use Rattle.scr_laws.proofs.Stillness.{any_from, in_cases, in_either, in_first, in_none, in_rest, kept_was, number_in}
+use Rattle.component_state.proofs.Apart.{any_from, in_cases, in_either, in_first, in_none, in_rest, kept_was}
+use Rattle.scr_laws.proofs.Stillness.{number_in}
 
 any_to : {X : Type 0} (p : X → Bool) (xs : List X) → list_any p xs ≡ true → (x : X) × Contains xs x × (p x ≡ true)
 any_to p [] is = cc

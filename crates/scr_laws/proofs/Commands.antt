@@ -24,7 +24,8 @@ use Rattle.scr_world.specs.Tables.{descriptions_of}
 use Rattle.scr_world.specs.Worlds.{direct_services, origins_of, satisfied_in as satisfied_at}
 use Rattle.scr_laws.specs.Stills.{IsAtRest, IsStill}
 use Rattle.scr_laws.proofs.QuietSteps.{leaves_stage}
-use Rattle.scr_laws.proofs.Stillness.{in_either, in_none, is_still, kept_was, same_lives}
+use Rattle.component_state.proofs.Apart.{in_either, in_none, kept_was}
+use Rattle.scr_laws.proofs.Stillness.{is_still, same_lives}
 use Rattle.ldap_filter.specs.declared.filter.Filter.{Filter}
 use Rattle.scr_laws.specs.Askeds.{IsAsked, asked_in}
 use Rattle.scr_laws.proofs.Histories.{asking_leaves}

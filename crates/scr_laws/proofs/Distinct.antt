@@ -15,7 +15,7 @@ use Rattle.config_admin.specs.declared.configuration.Configuration.{Configuratio
 use Rattle.config_admin.specs.Configurations.{of_factory}
 use Rattle.scr_world.specs.declared.contents.Contents.{Contents}
 use Rattle.scr_world.specs.Tables.{bundle_row, bundle_rows}
-use Rattle.scr_laws.proofs.Stillness.{in_either, in_none, kept_was}
+use Rattle.component_state.proofs.Apart.{in_either, in_none, kept_was}
 use Rattle.scr_laws.proofs.Asking.{same_parts}
 use Rattle.scr_laws.proofs.Listed.{joined_was, mapped_was, single}
 

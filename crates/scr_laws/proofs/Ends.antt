@@ -18,7 +18,7 @@ use Rattle.scr_world.specs.declared.instance.Instance.{Instance}
 use Rattle.scr_world.specs.declared.world.World.{World}
 use Rattle.scr_world.specs.Instances.{BeforeTurn, ended_in, has_turn, last_is, lives_on, with_effect_of_begin, with_outcome}
 use Rattle.scr_world.specs.Stepping.{failing, instances_told}
-use Rattle.scr_laws.proofs.Stillness.{in_cases, in_first, in_none, in_rest}
+use Rattle.component_state.proofs.Apart.{in_cases, in_first, in_none, in_rest}
 use Rattle.scr_laws.specs.Stills.{is_quiet_step}
 use Rattle.scr_laws.specs.Entries.{leaves_instance}
 use Rattle.scr_laws.proofs.Listed.{none_kept}

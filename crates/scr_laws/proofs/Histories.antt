@@ -17,7 +17,7 @@ use Rattle.scr_world.specs.Steps.{History}
 use Rattle.scr_world.specs.Stepping.{component_configurations_by, components_by, is_counted, counted_components, world_after_step}
 use Rattle.scr_world.specs.Tables.{bundles_by, configurations_by, documents_by}
 use Rattle.scr_world.specs.Worlds.{empty_world}
-use Rattle.scr_laws.proofs.Stillness.{in_none}
+use Rattle.component_state.proofs.Apart.{in_none}
 use Rattle.scr_laws.specs.Askeds.{AreApart, AreAsked, IsAsked, asked_in}
 use Rattle.scr_laws.proofs.Distinct.{world_apart, world_live}
 use Rattle.scr_laws.proofs.Asking.{asking_asks, asking_stays, forgetting_stays}

@@ -32,7 +32,7 @@ use Rattle.component_state.proofs.Apart.{any_from, apart_kept, in_cases, in_firs
 use Rattle.component_state.proofs.Below.{below_was, number_of}
 use Rattle.component_state.proofs.Numbering.{AreUpTo, asking_apart, asking_up_to, kept_name}
 use Rattle.component_state.proofs.Plain.{in_mapped, open_after_of, open_after_plain, pass_apart, pass_was, renewed_plain}
-use Rattle.scr_laws.proofs.Renewed.{renewed_of}
+use Rattle.component_state.proofs.Renewed.{renewed_of}
 
 -- numbers differ and are no higher than how many came, and open periods are plain and have their rows
 pub record AreWell (cs : List Component) (came : ℕ) (open_ones : List OpenPeriod) : Type 0 where

@@ -30,7 +30,7 @@ use Rattle.scr_world.specs.Steps.{History}
 use Rattle.scr_world.specs.Stepping.{world_after_step}
 use Rattle.scr_world.specs.Worlds.{all_instances, origins_of}
 use Rattle.scr_laws.specs.Stills.{IsAtRest, life_made}
-use Rattle.scr_laws.proofs.Stillness.{any_from}
+use Rattle.component_state.proofs.Apart.{any_from}
 use Rattle.scr_laws.specs.Calms.{OpensFirst}
 use Rattle.scr_laws.specs.Entries.{IsCalm}
 use Rattle.scr_laws.proofs.Calm.{choices_stand_then, known, legal_is_behind, not_changed_now, open_lives, periods_renewed}

@@ -17,7 +17,6 @@ pub mod Passing
 pub mod QuietCreates
 pub mod QuietEnds
 pub mod QuietSteps
-pub mod Renewed
 pub mod Resting
 pub mod Failures
 pub mod ReadyStages

@@ -3,7 +3,7 @@ use Rattle.std.proofs.Common.{◌≡◌, List, [], ◌∷◌, ◌++◌, ap, sym,
 use Rattle.std.specs.Prelude.{filter, find, flat_map, map}
 use Rattle.std.specs.List.{Contains, list_any}
 use Rattle.std.proofs.lemmas.Bool.{both_ways, cases_Bool}
-use Rattle.scr_laws.proofs.Stillness.{in_cases, in_either, in_first, in_none, in_rest}
+use Rattle.component_state.proofs.Apart.{in_cases, in_either, in_first, in_none, in_rest}
 
 module _ {X : Type 0} where
   pub kept_in : (t : X → Bool) (xs : List X) (x : X) → Contains xs x → t x ≡ true → Contains (filter t xs) x

@@ -18,7 +18,7 @@ use Rattle.component_state.specs.Periods.{is_open}
 use Rattle.scr_world.specs.declared.world.World.{World}
 use Rattle.scr_world.specs.Views.{views_of}
 use Rattle.scr_world.specs.Wanted.{consumers_of, has_instance, is_wanted, keys_for, keys_of, missing, consumer_views, wanted}
-use Rattle.scr_laws.proofs.Stillness.{any_from, in_either, in_first, in_none, in_rest, kept_was}
+use Rattle.component_state.proofs.Apart.{any_from, in_either, in_first, in_none, in_rest, kept_was}
 use Rattle.scr_laws.specs.Calms.{OpensFirst}
 use Rattle.scr_laws.proofs.Listed.{joined_was, mapped_was, single}
 

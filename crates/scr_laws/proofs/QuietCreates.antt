@@ -28,7 +28,7 @@ use Rattle.scr_world.specs.Instances.{created_at}
 use Rattle.scr_world.specs.Stepping.{before_turn, world_after_step}
 use Rattle.scr_world.specs.Worlds.{origins_of, registered_services}
 use Rattle.scr_laws.specs.Stills.{IsAtRest, IsKnown, LeavesPass, life_made}
-use Rattle.scr_laws.proofs.Stillness.{or_true}
+use Rattle.component_state.proofs.Apart.{or_true}
 
 -- ---- a choice of now isn't outdated
 

@@ -21,7 +21,7 @@ use Rattle.scr_world.specs.declared.world.World.{World}
 use Rattle.scr_world.specs.Consequences.{has_stopped, stopped_by, stopped_in}
 use Rattle.scr_world.specs.Stepping.{world_after_step}
 use Rattle.scr_world.specs.Tables.{bundle_row, bundle_rows, bundles_by}
-use Rattle.scr_laws.proofs.Stillness.{in_first, in_rest, kept_was}
+use Rattle.component_state.proofs.Apart.{in_first, in_rest, kept_was}
 use Rattle.scr_laws.specs.Askeds.{HasOneOfEach}
 use Rattle.scr_laws.proofs.Listed.{any_was, mapped_was}
 use Rattle.scr_laws.proofs.Tables.{rest_if_key}

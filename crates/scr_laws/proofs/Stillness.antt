@@ -13,6 +13,7 @@ use Rattle.component_state.specs.Passes.{HasPassed, Stage, closing, pass_order_o
 use Rattle.component_state.specs.Periods.{is_open}
 use Rattle.component_state.specs.Inside.Misled.{is_misled}
 use Rattle.component_state.specs.Reasons.{has_reason}
+use Rattle.component_state.proofs.Apart.{any_from, in_cases, in_either, in_first, in_left, in_none, in_rest, kept_was, or_true}
 use Rattle.component_state.proofs.ReasonLaws.{reasons_are}
 use Rattle.component_state.specs.Scratch.{is_satisfied, offered, offering, satisfied, satisfied_below}
 use Rattle.prop_map.specs.Words.{has}
@@ -26,10 +27,6 @@ use Rattle.scr_world.specs.Worlds.{direct_services, origins_of, satisfied_in as 
 use Rattle.service_registry.specs.declared.row.ServiceRow.{ServiceRow}
 use Rattle.scr_laws.specs.Stills.{IsStill, IsAtRest, LeavesLives, LeavesPass, LeavesStage, passed_nothing}
 
-pub or_true : (b : Bool) → (b || true) ≡ true
-or_true true = refl
-or_true false = refl
-
 pub or_false : (b : Bool) → (b || false) ≡ b
 or_false true = refl
 or_false false = refl
@@ -37,19 +34,6 @@ or_false false = refl
 -- ---- lists
 
 module _ {X : Type 0} where
-  pub in_first : (x : X) (xs : List X) → Contains (x ∷ xs) x
-  in_first x xs = (0, omega arith, refl)
-
-  pub in_rest : (y : X) (xs : List X) (x : X) → Contains xs x → Contains (y ∷ xs) x
-  in_rest y xs x h = (suc h.0, omega (arith, h.1), h.2)
-
-  pub in_cases : (y : X) (ys : List X) (x : X) → Contains (y ∷ ys) x → (y ≡ x) ⊎ Contains ys x
-  in_cases y ys x (zero, low, is) = inl is
-  in_cases y ys x (suc k, low, is) = inr (k, omega (arith, low), is)
-
-  pub in_none : (x : X) → Contains [] x → ⊥
-  in_none x h = omega (arith, h.1)
-
   none_kept : (t : X → Bool) (xs : List X) → ((x : X) → Contains xs x → t x ≡ false) → filter t xs ≡ []
   none_kept t [] each = refl
   none_kept t (x ∷ xs) each = ap (λ b. cond b (x ∷ filter t xs) (filter t xs)) (each x (in_first x xs)) ∙ none_kept t xs (λ y h. each y (in_rest x xs y h))
@@ -65,38 +49,6 @@ module _ {X : Type 0} where
   pub same_kept : (t u : X → Bool) (xs : List X) → ((x : X) → Contains xs x → t x ≡ u x) → filter t xs ≡ filter u xs
   same_kept t u [] each = refl
   same_kept t u (x ∷ xs) each = ap (λ b. cond b (x ∷ filter t xs) (filter t xs)) (each x (in_first x xs)) ∙ ap (λ ys. cond (u x) (x ∷ ys) ys) (same_kept t u xs (λ y h. each y (in_rest x xs y h)))
-
-  pub kept_was : (t : X → Bool) (xs : List X) (x : X) → Contains (filter t xs) x → Contains xs x × (t x ≡ true)
-  kept_was t [] x h = absurd (in_none x h)
-  kept_was t (y ∷ ys) x h = go (kept_was t ys x) (t y) refl h
-    where
-      go : (Contains (filter t ys) x → Contains ys x × (t x ≡ true)) → (b : Bool) → t y ≡ b → Contains (cond b (y ∷ filter t ys) (filter t ys)) x → Contains (y ∷ ys) x × (t x ≡ true)
-      go later false is k = let found = later k in (in_rest y ys x found.0, found.1)
-      go later true is k = elim (in_cases y (filter t ys) x k) [
-        | inl same ↦ (subst (λ (z : X). Contains (y ∷ ys) z) same (in_first y ys), ap t (sym same) ∙ is)
-        | inr rest ↦ (let found = later rest in (in_rest y ys x found.0, found.1))
-      ]
-
-  pub in_either : (xs ys : List X) (x : X) → Contains (xs ++ ys) x → Contains xs x ⊎ Contains ys x
-  in_either [] ys x h = inr h
-  in_either (z ∷ zs) ys x h = elim (in_cases z (zs ++ ys) x h) [
-    | inl same ↦ inl (subst (λ (y : X). Contains (z ∷ zs) y) same (in_first z zs))
-    | inr later ↦ elim (in_either zs ys x later) [ inl l ↦ inl (in_rest z zs x l) | inr r ↦ inr r ]
-  ]
-
-  in_left : (xs ys : List X) (x : X) → Contains xs x → Contains (xs ++ ys) x
-  in_left [] ys x h = absurd (in_none x h)
-  in_left (z ∷ zs) ys x h = elim (in_cases z zs x h) [
-    | inl same ↦ subst (λ (y : X). Contains (z ∷ (zs ++ ys)) y) same (in_first z (zs ++ ys))
-    | inr later ↦ in_rest z (zs ++ ys) x (in_left zs ys x later)
-  ]
-
-  pub any_from : (p : X → Bool) (xs : List X) (x : X) → Contains xs x → p x ≡ true → list_any p xs ≡ true
-  any_from p [] x h is = absurd (in_none x h)
-  any_from p (y ∷ ys) x h is = elim (in_cases y ys x h) [
-    | inl same ↦ ap (λ b. b || list_any p ys) (ap p same ∙ is)
-    | inr later ↦ ap (λ b. p y || b) (any_from p ys x later is) ∙ or_true (p y)
-  ]
 
 -- ---- numbers in lists
 

@@ -17,7 +17,7 @@ use Rattle.scr_world.specs.declared.world.World.{World}
 use Rattle.scr_world.specs.Consequences.{has_stopped, keeps_bundle, stopped_by, stopped_in}
 use Rattle.scr_world.specs.Lists.{world_after_entry}
 use Rattle.scr_world.specs.Stepping.{is_counted, world_after_step}
-use Rattle.scr_laws.proofs.Stillness.{any_from, in_first, in_rest, or_true}
+use Rattle.component_state.proofs.Apart.{any_from, in_first, in_rest, or_true}
 use Rattle.scr_laws.proofs.Listed.{in_mapped, kept_in, mapped_was, none_kept}
 
 module _ (cs ds : List Component) (is js : List Instance) (kept : (n : ℕ) → list_any (keeps_bundle cs n) is ≡ true → list_any (keeps_bundle ds n) js ≡ true) where

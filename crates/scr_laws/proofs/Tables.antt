@@ -18,7 +18,7 @@ use Rattle.scr_world.specs.declared.step.Step.TheVariants.{Command as Commanded}
 use Rattle.scr_world.specs.declared.command.Command.TheVariants.{Install, Update, Start, Stop, Uninstall, Enable, Disable, Configure, ConfigureFactory, Unconfigure}
 use Rattle.scr_world.specs.declared.contents.Contents.{Contents}
 use Rattle.scr_world.specs.Tables.{bundles_by, configurations_by, contents_with, documents_by, flagged, replaced, set_back}
-use Rattle.scr_laws.proofs.Stillness.{in_cases, in_either, in_first, in_rest, kept_was}
+use Rattle.component_state.proofs.Apart.{in_cases, in_either, in_first, in_rest, kept_was}
 use Rattle.scr_laws.specs.Askeds.{AreApart, HasOneOfEach}
 use Rattle.scr_laws.proofs.Listed.{mapped_was, single}
 

@@ -1,24 +1,19 @@
 //! Whom a call reaches (our own).
-ghost use Rattle.component_state.specs.declared.component.Component.{Component};
 ghost use Rattle.scr_readers.specs.Inside.{first_one};
 ghost use Rattle.scr_readers.specs.Reaching.{active_for, held_best_first, inward, inward_by, inward_to, is_direct, live_of, outer, server_of};
-ghost use Rattle.scr_world.specs.Consequences.{gate_of};
-ghost use Rattle.scr_world.specs.TurnSteps.{class_in};
 ghost use Rattle.scr_world.specs.Views.{bundle_of_instance};
 ghost use Rattle.scr_world.specs.declared.marks.Token.{Token};
 ghost use Rattle.service_registry.specs.declared.row.ServiceRow.{ServiceRow};
 ghost use Rattle.std.specs.List.{list_any};
 ghost use Rattle.std.specs.Option.{option_copied, option_map_or};
-ghost use Rattle.std.specs.Prelude.{◌≡◌, ◌==◌, ℕ, List, [], false, IfOk, if◌then◌else◌};
+ghost use Rattle.std.specs.Prelude.{◌≡◌, ◌==◌, ℕ, List, false, IfOk, if◌then◌else◌};
 
 use crate::best_held::best_held;
 use crate::instances::{active_server, instance_at, server_of};
 use crate::{Inward, Live, Outer};
-use component_state::Component;
-use journal_core::GateKey;
 use kind_trait::Site;
-use prop_map::{Copies, OutOfMemory, Str};
-use scr_dues::{OwnRows, bundle_of_instance, component_in, row_known};
+use prop_map::{Copies, OutOfMemory};
+use scr_dues::{OwnRows, bundle_of_instance, class_in, row_known};
 use scr_world::{Instance, Token, World, ends};
 use service_registry::ServiceRow;
 use std::alloc::Global;
@@ -160,16 +155,6 @@ fn is_direct_row(row: Option<&ServiceRow>) -> bool
     }
 }
 
-/// The key of an instance's gate.
-pub(crate) fn gate_of(instance: &Instance) -> GateKey
-    ensures { result ≡ gate_of instance.now }
-{
-    GateKey {
-        slot: instance.slot,
-        generation: instance.generation,
-    }
-}
-
 fn live_of(
     alloc: Global,
     own: &OwnRows,
@@ -179,34 +164,11 @@ fn live_of(
     ensures { IfOk result (λ live. live ≡ live_of world.now instance.now) }
 {
     Ok(Live {
-        key: gate_of(instance),
+        key: instance.gate(),
         instance: instance.number,
         site: Site {
             class: class_in(alloc, own, world, instance.origin.configuration)?,
             properties: instance.properties.copy(alloc)?,
         },
     })
-}
-
-fn class_in(
-    alloc: Global,
-    own: &OwnRows,
-    world: &World,
-    configuration: u64,
-) -> Result<Str, OutOfMemory>
-    ensures { IfOk result (λ class. class ≡ class_in world.now configuration) }
-{
-    class_of(
-        alloc,
-        component_in(own, world.components.as_slice(), configuration),
-    )
-}
-
-fn class_of(alloc: Global, component: Option<&Component>) -> Result<Str, OutOfMemory>
-    ensures { IfOk result (λ class. class ≡ option_map_or (λ (c : Component). c.description.implementation_class) (option_copied component.entry) []) }
-{
-    match component {
-        Some(component) => component.description.get().implementation_class.copy(alloc),
-        None => Ok(Str::of(String::new(alloc))),
-    }
 }

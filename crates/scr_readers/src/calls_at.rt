@@ -7,7 +7,7 @@ ghost use Rattle.scr_world.specs.Views.{bundle_of_instance};
 ghost use Rattle.std.specs.Prelude.{◌≡◌, ℕ, List, option_map, if◌then◌else◌};
 
 use crate::best_held::best_held;
-use crate::calls::{gate_of, is_direct, stands};
+use crate::calls::{is_direct, stands};
 use crate::instances::{active_server, instance_at, server_of};
 use crate::{InwardAt, LiveAt, OuterAt};
 use prop_map::Str;
@@ -91,7 +91,7 @@ fn live_at(instance: &Instance) -> LiveAt
     ensures { result ≡ record { key = gate_of instance.now; instance = instance.now.number } }
 {
     LiveAt {
-        key: gate_of(instance),
+        key: instance.gate(),
         instance: instance.number,
     }
 }

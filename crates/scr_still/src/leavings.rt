@@ -1,6 +1,5 @@
 //! What an end without consequences leaves: the gate that is shut with it, and the service that isn't held any more (OSGi
 //! Compendium 8, chapter 112, "Unbinding"; gates are our own).
-ghost use Rattle.scr_consequences.specs.Ends.{opens_gate};
 ghost use Rattle.scr_laws.specs.Reserving.{activates_by};
 ghost use Rattle.scr_still.specs.StillEnds.{IsLeaving, IsLost, gives_drain_back, is_shut_by, key_opened, left_world, service_unbound};
 ghost use Rattle.scr_still.specs.StillEnds.{shut_by_end, unbound_by, without};
@@ -11,15 +10,15 @@ ghost use Rattle.std.specs.List.{list_any};
 ghost use Rattle.std.specs.Option.{option_copied};
 ghost use Rattle.std.specs.Prelude.{◌≡◌, ◌==◌, IfOk, filter, find, map, not, option_and_then};
 
-use crate::callbacks::{is_failed, last_is_activate, last_unbound};
+use crate::callbacks::last_unbound;
 use crate::growth::one_more;
 use callback_orders::Outcome;
 use journal_core::GateKey;
 use prop_map::{List, OutOfMemory};
-use scr_consequences::is_service_held;
-use scr_world::{Instance, World, ends};
+use scr_consequences::{is_service_held, next_generation, opens_gate};
+use scr_world::{Instance, World, ends, is_failed, last_is_activate};
 use service_registry::ServiceRow;
-use std::alloc::{AllocError, Global};
+use std::alloc::Global;
 use std::mem;
 
 /// What is told of an end before it stands in the world.
@@ -33,25 +32,6 @@ pub(crate) struct Leaving {
     pub(crate) unbound: Option<u64>,
     /// It gives the room of a drain back.
     pub(crate) drain: bool,
-}
-
-// The end of a turn makes an instance active.
-fn opens_gate(turn: u64, outcome: Outcome, instance: &Instance) -> bool
-    ensures { result ≡ opens_gate turn outcome instance.now }
-{
-    instance.has_turn(turn)
-        && (outcome == Outcome::Done && last_is_activate(instance.callbacks.as_slice()))
-}
-
-// How often the gate of its slot will have been opened. A number that doesn't fit counts as want of memory.
-fn next_generation(generations: &[u64], instance: &Instance) -> Result<u64, OutOfMemory>
-    ensures { IfOk result (λ generation. generation ≡ next_generation generations.now instance.now) }
-{
-    let opened = match generations.get(instance.slot as usize) {
-        Some(opened) => *opened,
-        None => 0,
-    };
-    opened.checked_add(1).ok_or(AllocError)
 }
 
 fn key_opened(generations: &[u64], instance: &Instance) -> Result<GateKey, OutOfMemory>
@@ -151,7 +131,7 @@ fn some_activate(instances: &[Instance], turn: u64) -> bool
 fn gives_drain_back(world: &World, turn: u64, outcome: Outcome) -> bool
     ensures { result ≡ gives_drain_back turn outcome world.now }
 {
-    is_failed(outcome)
+    is_failed(Some(outcome))
         && (activates_by(turn, &world.whiteboard)
             || some_activate(world.instances.as_slice(), turn))
 }

@@ -4,13 +4,12 @@ ghost use Rattle.scr_still.specs.StillEnds.{are_still, ends_life, ends_still, fa
 ghost use Rattle.std.specs.List.{list_any};
 ghost use Rattle.std.specs.Prelude.{◌≡◌};
 
-use crate::callbacks::{is_failed, last_is_activate, last_is_create, last_is_destroy};
 use bundle_life::{BundleLife, BundleState};
 use callback_orders::Outcome;
 use component_state::is_current;
 use scr_consequences::keeps_bundle;
 use scr_state::State;
-use scr_world::{Instance, World};
+use scr_world::{Instance, World, is_failed, last_is_activate, last_is_create, last_is_destroy};
 
 /// Whether the end of a turn has no consequences: no pass closes or opens anything, and no bundle has stopped by it. So it is at
 /// any end but that of a Create or an Activate without success in an open period, that of an instance whose component
@@ -51,7 +50,7 @@ fn fails_open(world: &World, outcome: Outcome, instance: &Instance) -> bool
     ensures { result ≡ fails_open outcome world.now instance.now }
 {
     let calls = instance.callbacks.as_slice();
-    is_failed(outcome)
+    is_failed(Some(outcome))
         && ((last_is_create(calls) || last_is_activate(calls))
             && is_current(world.open_periods.as_slice(), &instance.origin))
 }
@@ -60,7 +59,7 @@ fn ends_life(outcome: Outcome, instance: &Instance) -> bool
     ensures { result ≡ ends_life outcome instance.now }
 {
     let calls = instance.callbacks.as_slice();
-    last_is_destroy(calls) || (last_is_create(calls) && is_failed(outcome))
+    last_is_destroy(calls) || (last_is_create(calls) && is_failed(Some(outcome)))
 }
 
 fn is_waited_for(world: &World, bundles: &[BundleLife], turn: u64, instance: &Instance) -> bool

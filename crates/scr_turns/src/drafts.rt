@@ -12,13 +12,12 @@ ghost use Rattle.std.specs.Option.{option_copied, option_to_list};
 ghost use Rattle.std.specs.Prelude.{◌≡◌, ◌+◌, ◌++◌, ◌&&◌, ℕ, IfOk, find, true};
 
 use crate::gets::{tokens_after, uses_after};
-use crate::instance_tests::becomes_active;
 use crate::instances::{instances_after, whiteboard_after};
 use crate::slots::{first_free_slot, reopened_for, with_room_for};
 use callback_orders::Outcome;
 use component_state::failed_after;
 use prop_map::{List, OutOfMemory};
-use scr_consequences::{failing_of, failures_of};
+use scr_consequences::{failing_of, failures_of, opens_gate};
 use scr_state::{Draft, RowChange, State};
 use scr_world::{Failure, Instance, Step, Token, World};
 use std::alloc::{AllocError, Global};
@@ -195,5 +194,5 @@ fn generations_after(
 fn reopening(instances: &[Instance], turn: u64, outcome: Outcome) -> Option<&Instance>
     ensures { option_copied result ≡ find (λ (i : Instance). has_turn turn i && becomes_active outcome i) instances.now }
 {
-    instances.iter().find(|instance| instance.has_turn(turn) && becomes_active(outcome, instance))
+    instances.iter().find(|instance| opens_gate(turn, outcome, instance))
 }

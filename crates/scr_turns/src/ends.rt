@@ -3,10 +3,9 @@ ghost use Rattle.callback_orders.specs.Sequences.{ended};
 ghost use Rattle.scr_world.specs.Instances.{with_outcome};
 ghost use Rattle.std.specs.Prelude.{◌≡◌, IfOk};
 
-use crate::instance_tests::becomes_active;
-use crate::slots::next_generation;
 use callback_orders::{Called, Outcome};
 use prop_map::{Copies, List, OutOfMemory};
+use scr_consequences::next_generation;
 use scr_world::Instance;
 use std::alloc::Global;
 
@@ -32,7 +31,7 @@ fn generation_after(
 ) -> Result<u64, OutOfMemory>
     ensures { IfOk result (λ g. g ≡ (with_outcome outcome generations.now instance.now).generation) }
 {
-    if becomes_active(outcome, instance) {
+    if instance.becomes_active(outcome) {
         next_generation(generations, instance)
     } else {
         Ok(instance.generation)

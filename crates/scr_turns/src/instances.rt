@@ -12,8 +12,7 @@ ghost use Rattle.std.specs.Prelude.{◌≡◌, ◌==◌, ◌++◌, ◌∷◌, []
 use crate::begins::told_in;
 use crate::creations::created;
 use crate::ends::with_outcome;
-use crate::instance_tests::lives_on;
-use callback_orders::{Callback, Outcome};
+use callback_orders::{Callback, Outcome, is_living};
 use component_state::Choice;
 use prop_map::{Copies, List, OutOfMemory};
 use scr_state::RowChange;
@@ -157,6 +156,12 @@ fn ended(
             }
         }
     }
+}
+
+fn lives_on(instance: &Instance) -> bool
+    ensures { result ≡ lives_on instance.now }
+{
+    is_living(instance.callbacks.as_slice())
 }
 
 // The drain of one is posted.

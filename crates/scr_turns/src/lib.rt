@@ -6,7 +6,6 @@ mod creations;
 mod drafts;
 mod ends;
 mod gets;
-mod instance_tests;
 mod instances;
 mod revisions;
 mod slots;

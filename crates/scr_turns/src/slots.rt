@@ -1,17 +1,18 @@
 //! Slots, and how often the gate of each was opened (our own).
 ghost use Rattle.prop_map.specs.Words.{has};
 ghost use Rattle.scr_state.specs.Rows.{HasRoomAmong, with_change};
-ghost use Rattle.scr_world.specs.Instances.{first_free_slot, next_generation};
+ghost use Rattle.scr_world.specs.Instances.{first_free_slot};
 ghost use Rattle.scr_world.specs.Stepping.{reopened_for, with_room_for};
 ghost use Rattle.scr_world.specs.declared.instance.Instance.{Instance};
 ghost use Rattle.std.specs.List.{list_any};
 ghost use Rattle.std.specs.Option.{option_copied, option_to_list};
-ghost use Rattle.std.specs.Prelude.{◌≡◌, ◌==◌, IfOk, map, slice_index};
+ghost use Rattle.std.specs.Prelude.{◌≡◌, ◌==◌, IfOk, map};
 
 use prop_map::OutOfMemory;
+use scr_consequences::next_generation;
 use scr_state::RowChange;
 use scr_world::Instance;
-use std::alloc::{AllocError, Global};
+use std::alloc::Global;
 
 /// The lowest slot that no living instance has.
 pub(crate) fn first_free_slot(instances: &[Instance]) -> u64
@@ -37,23 +38,6 @@ fn has_slot(instances: &[Instance], slot: u64) -> bool
     instances
         .iter()
         .any(|instance| u64::from(instance.slot) == slot)
-}
-
-/// The next generation of an instance's gate.
-///
-/// # Errors
-/// That no number is left counts as want of memory.
-pub(crate) fn next_generation(generations: &[u64], instance: &Instance) -> Result<u64, OutOfMemory>
-    ensures { IfOk result (λ g. g ≡ next_generation generations.now instance.now) }
-{
-    let last = last_generation(generations, instance.slot);
-    last.checked_add(1).ok_or(AllocError)
-}
-
-fn last_generation(generations: &[u64], slot: u32) -> u64
-    ensures { result ≡ slice_index generations.now slot }
-{
-    generations.get(slot as usize).copied().unwrap_or(0)
 }
 
 /// What gives a slot room for its count among the generations.

@@ -6,7 +6,7 @@ mod bound_services;
 mod component_views;
 mod failures;
 mod reference_states;
-mod target_services;
+mod target_texts;
 mod view;
 
 pub use component_views::component;

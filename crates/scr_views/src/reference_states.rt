@@ -7,12 +7,12 @@ ghost use Rattle.std.specs.Prelude.{◌≡◌, IfOk, map};
 
 use crate::ReferenceState;
 use crate::bound_services::{bound_services, present_instance};
-use crate::target_services::{target_text, targets};
+use crate::target_texts::target_text;
 use component_dto::Reference;
 use component_state::Component;
 use prop_map::{Copies, List, OutOfMemory, Properties, Str};
 use reference_match::{Need, implicit_need, need_of};
-use scr_dues::OwnRows;
+use scr_dues::{OwnRows, targets};
 use scr_world::{Instance, World};
 use std::alloc::Global;
 

@@ -1,9 +1,13 @@
 //! Living instances (OSGi Compendium 8, chapter 112, "Component Life Cycle").
-ghost use Rattle.scr_world.specs.Instances.{has_failed, has_turn, is_active_instance};
+ghost use Rattle.callback_orders.specs.Sequences.{is_failed};
+ghost use Rattle.scr_world.specs.Consequences.{gate_of};
+ghost use Rattle.scr_world.specs.Instances.{becomes_active, has_failed, has_turn, is_active_instance};
 ghost use Rattle.std.specs.Prelude.{◌≡◌, IfOk};
 
+use crate::last_callbacks::last_is_activate;
 use callback_orders::{Called, Outcome, Phase, is_outstanding, phase_of};
 use component_state::Origin;
+use journal_core::GateKey;
 use prop_map::{Copies, List, OutOfMemory, Properties, Str};
 use std::alloc::Global;
 
@@ -57,6 +61,13 @@ pub struct Instance {
     pub told_revisions: List<ToldRevision>,
 }
 
+/// Whether a callback ended other than Done. It takes no memory.
+pub fn is_failed(outcome: Option<Outcome>) -> bool
+    ensures { result ≡ is_failed outcome }
+{
+    matches!(outcome, Some(Outcome::Refused | Outcome::NoMemory))
+}
+
 impl Instance {
     /// Whether it is active: from the end of a successful Activate to the end of its Deactivate. It takes no memory.
     pub fn is_active(&self) -> bool
@@ -69,10 +80,8 @@ impl Instance {
     pub fn has_failed(&self) -> bool
         ensures { result ≡ has_failed self.now.callbacks }
     {
-        self.callbacks.as_slice().iter().any(|called| {
-            called.callback.is_activate()
-                && matches!(called.outcome, Some(Outcome::Refused | Outcome::NoMemory))
-        })
+        let calls = self.callbacks.as_slice();
+        calls.iter().any(|called| called.callback.is_activate() && is_failed(called.outcome))
     }
 
     /// Whether a turn is under way and tells it of a callback. It takes no memory.
@@ -80,6 +89,23 @@ impl Instance {
         ensures { result ≡ has_turn turn self.now }
     {
         self.turn == turn && is_outstanding(self.callbacks.as_slice())
+    }
+
+    /// Whether it becomes active as its turn ends with this outcome: its Activate is done. It takes no memory.
+    pub fn becomes_active(&self, outcome: Outcome) -> bool
+        ensures { result ≡ becomes_active outcome self.now }
+    {
+        outcome == Outcome::Done && last_is_activate(self.callbacks.as_slice())
+    }
+
+    /// Its gate, by the generation under which it was opened. It takes no memory.
+    pub fn gate(&self) -> GateKey
+        ensures { result ≡ gate_of self.now }
+    {
+        GateKey {
+            slot: self.slot,
+            generation: self.generation,
+        }
     }
 
     /// An equal instance but for its callbacks, which are these.
