@@ -17,4 +17,3 @@ pub fn changes_board(world: &World, step: &Step) -> bool
         Step::Drained { .. } | Step::Got { .. } | Step::Released { .. } => false,
     }
 }
-

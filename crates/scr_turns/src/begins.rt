@@ -109,11 +109,7 @@ fn is_told_of(reference: &Str, service: u64, told: &ToldRevision) -> bool
     told.reference == *reference && told.service == service
 }
 
-fn without_told(
-    reference: &Str,
-    service: u64,
-    told: List<ToldRevision>,
-) -> List<ToldRevision>
+fn without_told(reference: &Str, service: u64, told: List<ToldRevision>) -> List<ToldRevision>
     ensures { result ≡ without_told reference.now service told }
 {
     let mut left = told.items();

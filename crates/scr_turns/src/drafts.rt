@@ -194,5 +194,7 @@ fn generations_after(
 fn reopening(instances: &[Instance], turn: u64, outcome: Outcome) -> Option<&Instance>
     ensures { option_copied result ≡ find (λ (i : Instance). has_turn turn i && becomes_active outcome i) instances.now }
 {
-    instances.iter().find(|instance| opens_gate(turn, outcome, instance))
+    instances
+        .iter()
+        .find(|instance| opens_gate(turn, outcome, instance))
 }
