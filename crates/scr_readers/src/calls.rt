@@ -9,11 +9,11 @@ ghost use Rattle.std.specs.Option.{option_copied, option_map_or};
 ghost use Rattle.std.specs.Prelude.{◌≡◌, ◌==◌, ℕ, List, false, IfOk, if◌then◌else◌};
 
 use crate::best_held::best_held;
-use crate::instances::{active_server, instance_at, server_of};
+use crate::instances::{active_server, server_of};
 use crate::{Inward, Live, Outer};
 use kind_trait::Site;
 use prop_map::{Copies, OutOfMemory};
-use scr_dues::{OwnRows, bundle_of_instance, class_in, row_known};
+use scr_dues::{OwnRows, bundle_of_instance, class_in, instance_of, row_known};
 use scr_world::{Instance, Token, World, ends};
 use service_registry::ServiceRow;
 use std::alloc::Global;
@@ -71,7 +71,7 @@ pub fn nested(
 ) -> Result<Inward, OutOfMemory>
     ensures { IfOk result (λ reached. reached ≡ inward world.now instance reference.now) }
 {
-    match instance_at(world, instance) {
+    match instance_of(world, instance) {
         Some(instance) => nested_of(alloc, own, world, instance, reference),
         None => Ok(Inward::NoService),
     }

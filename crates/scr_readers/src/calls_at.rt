@@ -8,10 +8,10 @@ ghost use Rattle.std.specs.Prelude.{◌≡◌, ℕ, List, option_map, if◌then�
 
 use crate::best_held::best_held;
 use crate::calls::{is_direct, stands};
-use crate::instances::{active_server, instance_at, server_of};
+use crate::instances::{active_server, server_of};
 use crate::{InwardAt, LiveAt, OuterAt};
 use prop_map::Str;
-use scr_dues::{OwnRows, bundle_of_instance};
+use scr_dues::{OwnRows, bundle_of_instance, instance_of};
 use scr_world::{Instance, Token, World, ends};
 
 /// The active instance that a bundle uses of a service, and `None` exactly where there is none. Each slot has to be a number
@@ -46,7 +46,7 @@ pub fn outer_at(own: &OwnRows, world: &World, get: &Token) -> OuterAt
 pub fn nested_at(own: &OwnRows, world: &World, instance: u64, reference: &Str) -> InwardAt
     ensures { result ≡ inward_at (inward world.now instance reference.now) }
 {
-    match instance_at(world, instance) {
+    match instance_of(world, instance) {
         Some(instance) => nested_of(own, world, instance, reference),
         None => InwardAt::NoService,
     }

@@ -5,13 +5,12 @@ ghost use Rattle.scr_world.specs.Worlds.{row_known};
 ghost use Rattle.std.specs.Fmt.{decimal};
 ghost use Rattle.std.specs.Prelude.{◌≡◌, IfOk, flat_map, map};
 
-use crate::instances::instance_at;
 use crate::services::copied;
 use callback_orders::held_for;
 use component_dto::Reference;
 use component_state::exists;
 use prop_map::{Copies, List, OutOfMemory, Str};
-use scr_dues::{OwnRows, references_in, row_known, sorted};
+use scr_dues::{OwnRows, instance_of, references_in, row_known, sorted};
 use scr_world::{CoreFault, HeldLine, Instance, World};
 use service_registry::ServiceRow;
 use std::alloc::Global;
@@ -68,7 +67,7 @@ pub fn held_services(
 ) -> Result<List<ServiceRow>, OutOfMemory>
     ensures { IfOk result (λ rows. rows ≡ held_services world.now instance reference.now) }
 {
-    match instance_at(world, instance) {
+    match instance_of(world, instance) {
         Some(instance) => copies_held(alloc, own, world, instance, reference),
         None => Ok(List::of(Vec::new(alloc))),
     }

@@ -1,5 +1,5 @@
 //! Living instances by what they are asked for (OSGi Core 8, chapter 5, "Service Scope"; numbers are our own).
-ghost use Rattle.scr_readers.specs.Reaching.{instance_at, is_ending_at, server_of};
+ghost use Rattle.scr_readers.specs.Reaching.{is_ending_at, server_of};
 ghost use Rattle.scr_world.specs.Instances.{is_active_instance};
 ghost use Rattle.scr_world.specs.Views.{serves};
 ghost use Rattle.scr_world.specs.declared.instance.Instance.{Instance};
@@ -7,26 +7,8 @@ ghost use Rattle.std.specs.List.{Contains};
 ghost use Rattle.std.specs.Option.{option_copied};
 ghost use Rattle.std.specs.Prelude.{◌≡◌, ◌==◌, ◌&&◌, find};
 
-use scr_dues::serves;
+use scr_dues::{instance_of, serves};
 use scr_world::{Instance, World, ends};
-
-/// The instance of a number, that of the whiteboard too. It takes no memory.
-pub(crate) fn instance_at(world: &World, number: u64) -> Option<&Instance>
-    ensures { option_copied result ≡ instance_at world.now number }
-{
-    let whiteboard = &world.whiteboard;
-    if whiteboard.number == number {
-        Some(whiteboard)
-    } else {
-        instance_among(world.instances.as_slice(), number)
-    }
-}
-
-fn instance_among(instances: &[Instance], number: u64) -> Option<&Instance>
-    ensures { option_copied result ≡ find (λ (i : Instance). i.number == number) instances.now }
-{
-    instances.iter().find(|instance| instance.number == number)
-}
 
 /// Whether an instance is ending, or isn't there any more. That of the whiteboard, which has the number 0, never is. It takes
 /// no memory.
@@ -36,7 +18,7 @@ pub fn ending(world: &World, instance: u64) -> bool
     if instance == 0 {
         return false;
     }
-    match instance_at(world, instance) {
+    match instance_of(world, instance) {
         Some(instance) => ends(world, instance),
         None => true,
     }
