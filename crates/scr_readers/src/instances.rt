@@ -5,7 +5,7 @@ ghost use Rattle.scr_world.specs.Views.{serves};
 ghost use Rattle.scr_world.specs.declared.instance.Instance.{Instance};
 ghost use Rattle.std.specs.List.{Contains};
 ghost use Rattle.std.specs.Option.{option_copied};
-ghost use Rattle.std.specs.Prelude.{◌≡◌, ◌==◌, ◌&&◌, find};
+ghost use Rattle.std.specs.Prelude.{◌≡◌, ◌&&◌, find};
 
 use scr_dues::{instance_of, serves};
 use scr_world::{Instance, World, ends};
