@@ -3,7 +3,6 @@ ghost use Rattle.scr_readers.specs.Reaching.{is_ending_at, server_of};
 ghost use Rattle.scr_world.specs.Instances.{is_active_instance};
 ghost use Rattle.scr_world.specs.Views.{serves};
 ghost use Rattle.scr_world.specs.declared.instance.Instance.{Instance};
-ghost use Rattle.std.specs.List.{Contains};
 ghost use Rattle.std.specs.Option.{option_copied};
 ghost use Rattle.std.specs.Prelude.{◌≡◌, ◌&&◌, find};
 
