@@ -56,7 +56,7 @@ fn follow<'a>(
     match (&called.callback, called.outcome) {
         (Callback::Bind { reference, service }, _) => add(alloc, by_name, reference, *service),
         (Callback::Unbind { reference, service }, Some(_)) => {
-            let_go(alloc, by_name, reference, *service)
+            let_go(by_name, reference, *service)
         }
         _ => Ok(()),
     }
@@ -71,15 +71,16 @@ fn add<'a>(
 ) -> Result<(), OutOfMemory>
     ensures { OnOk result ((name : List ℕ) → services_in by_name.new name ≡ (if bytes_eq reference.now name then services_in by_name.old name ++ service ∷ [] else services_in by_name.old name)) }
 {
-    let one = Services::one(alloc, service)?;
+    let one = Services::one(service);
     match put(by_name, reference, one)? {
-        Some(services) => add_behind(by_name, reference, services, service),
+        Some(services) => add_behind(alloc, by_name, reference, services, service),
         None => Ok(()),
     }
 }
 
 // One service more behind those that a reference has had.
 fn add_behind<'a>(
+    alloc: Global,
     by_name: &mut BTreeMap<&'a str, Services>,
     reference: &'a Str,
     services: Services,
@@ -88,34 +89,33 @@ fn add_behind<'a>(
     ensures { OnOk result ((name : List ℕ) → services_in by_name.new name ≡ (if bytes_eq reference.now name then services ++ service ∷ [] else services_in by_name.old name)) }
 {
     let mut services = services;
-    services.add(service)?;
+    services.add(alloc, service)?;
     put(by_name, reference, services)?;
     Ok(())
 }
 
 // A service is held no more for a reference.
 fn let_go<'a>(
-    alloc: Global,
     by_name: &mut BTreeMap<&'a str, Services>,
     reference: &'a Str,
     service: u64,
 ) -> Result<(), OutOfMemory>
     ensures { OnOk result ((name : List ℕ) → services_in by_name.new name ≡ (if bytes_eq reference.now name then filter (λ s. not (s == service)) (services_in by_name.old name) else services_in by_name.old name)) }
 {
-    let mut services = taken(alloc, by_name, reference);
+    let mut services = taken(by_name, reference);
     services.let_go(service);
     put(by_name, reference, services)?;
     Ok(())
 }
 
 // Takes the services of a reference out.
-fn taken(alloc: Global, by_name: &mut BTreeMap<&str, Services>, reference: &Str) -> Services
+fn taken(by_name: &mut BTreeMap<&str, Services>, reference: &Str) -> Services
     ensures these { result ≡ services_in by_name.old reference.now }
     ensures rest { (name : List ℕ) → services_in by_name.new name ≡ (if bytes_eq reference.now name then [] else services_in by_name.old name) }
 {
     match by_name.remove(reference.as_str()) {
         Some(services) => services,
-        None => Services::none(alloc),
+        None => Services::none(),
     }
 }
 
