@@ -56,7 +56,8 @@ fn follow<'a>(
     match (&called.callback, called.outcome) {
         (Callback::Bind { reference, service }, _) => add(alloc, by_name, reference, *service),
         (Callback::Unbind { reference, service }, Some(_)) => {
-            let_go(by_name, reference, *service)
+            let_go(by_name, reference, *service);
+            Ok(())
         }
         _ => Ok(()),
     }
@@ -71,65 +72,32 @@ fn add<'a>(
 ) -> Result<(), OutOfMemory>
     ensures { OnOk result ((name : List ℕ) → services_in by_name.new name ≡ (if bytes_eq reference.now name then services_in by_name.old name ++ service ∷ [] else services_in by_name.old name)) }
 {
-    let one = Services::one(service);
-    match put(by_name, reference, one)? {
-        Some(services) => add_behind(alloc, by_name, reference, services, service),
-        None => Ok(()),
+    match by_name.get_mut(reference.as_str()) {
+        Some(services) => services.add(alloc, service),
+        None => put(by_name, reference, service),
     }
 }
 
-// One service more behind those that a reference has had.
-fn add_behind<'a>(
-    alloc: Global,
-    by_name: &mut BTreeMap<&'a str, Services>,
-    reference: &'a Str,
-    services: Services,
-    service: u64,
-) -> Result<(), OutOfMemory>
-    ensures { OnOk result ((name : List ℕ) → services_in by_name.new name ≡ (if bytes_eq reference.now name then services ++ service ∷ [] else services_in by_name.old name)) }
-{
-    let mut services = services;
-    services.add(alloc, service)?;
-    put(by_name, reference, services)?;
-    Ok(())
-}
-
-// A service is held no more for a reference.
-fn let_go<'a>(
-    by_name: &mut BTreeMap<&'a str, Services>,
-    reference: &'a Str,
-    service: u64,
-) -> Result<(), OutOfMemory>
-    ensures { OnOk result ((name : List ℕ) → services_in by_name.new name ≡ (if bytes_eq reference.now name then filter (λ s. not (s == service)) (services_in by_name.old name) else services_in by_name.old name)) }
-{
-    let mut services = taken(by_name, reference);
-    services.let_go(service);
-    put(by_name, reference, services)?;
-    Ok(())
-}
-
-// Takes the services of a reference out.
-fn taken(by_name: &mut BTreeMap<&str, Services>, reference: &Str) -> Services
-    ensures these { result ≡ services_in by_name.old reference.now }
-    ensures rest { (name : List ℕ) → services_in by_name.new name ≡ (if bytes_eq reference.now name then [] else services_in by_name.old name) }
-{
-    match by_name.remove(reference.as_str()) {
-        Some(services) => services,
-        None => Services::none(),
-    }
-}
-
-// Puts services in for a reference, and gives those that it had.
+// Puts a service in for a reference, as its only one.
 fn put<'a>(
     by_name: &mut BTreeMap<&'a str, Services>,
     reference: &'a Str,
-    services: Services,
-) -> Result<Option<Services>, OutOfMemory>
-    ensures had { IfOk result (λ had. unwrap_or had [] ≡ services_in by_name.old reference.now) }
-    ensures rest { OnOk result ((name : List ℕ) → services_in by_name.new name ≡ (if bytes_eq reference.now name then services else services_in by_name.old name)) }
+    service: u64,
+) -> Result<(), OutOfMemory>
+    ensures { OnOk result ((name : List ℕ) → services_in by_name.new name ≡ (if bytes_eq reference.now name then service ∷ [] else services_in by_name.old name)) }
 {
-    match by_name.insert(reference.as_str(), services) {
-        Ok(had) => Ok(had),
+    match by_name.insert(reference.as_str(), Services::one(service)) {
+        Ok(_) => Ok(()),
         Err(_) => Err(AllocError),
+    }
+}
+
+// A service is held no more for a reference. It takes no memory.
+fn let_go(by_name: &mut BTreeMap<&str, Services>, reference: &Str, service: u64)
+    ensures { (name : List ℕ) → services_in by_name.new name ≡ (if bytes_eq reference.now name then filter (λ s. not (s == service)) (services_in by_name.old name) else services_in by_name.old name) }
+{
+    match by_name.get_mut(reference.as_str()) {
+        Some(services) => services.let_go(service),
+        None => {}
     }
 }
