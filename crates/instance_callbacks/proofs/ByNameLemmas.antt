@@ -1,6 +1,6 @@
 -- Services that are put in for a name, or changed.
 use Rattle.std.specs.Borrow.{Bor}
-use Rattle.std.proofs.Common.{◌≡◌, ap, ◌∙◌, refl, sym, ℕ, List, [], Bool, true, false, cond, Option, Some, None, nat_cmp}
+use Rattle.std.proofs.Common.{◌≡◌, ap, ◌∙◌, refl, sym, ℕ, List, [], Bool, true, false, cond, Option, Some, nat_cmp}
 use Rattle.std.specs.BTreeMap.{BTreeMap, get_by}
 use Rattle.std.specs.Cmp.Lexicographic.{slice_cmp}
 use Rattle.std.specs.Map.{update}
