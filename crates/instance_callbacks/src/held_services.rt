@@ -2,7 +2,6 @@
 ghost use Rattle.callback_orders.specs.Lives.{held_by, held_for};
 ghost use Rattle.instance_callbacks.specs.ByName.{held_in, services_in};
 ghost use Rattle.std.specs.Prelude.{◌≡◌, ◌==◌, ◌++◌, ◌∷◌, ℕ, [], filter, not, List, IfOk, OnOk, if◌then◌else◌};
-ghost use Rattle.std.specs.Option.{unwrap_or};
 ghost use Rattle.std.specs.Str.{bytes_eq};
 
 use crate::services::Services;
