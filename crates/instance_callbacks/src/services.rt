@@ -41,15 +41,6 @@ impl Copies for Services {
 }
 
 impl Services {
-    /// No service.
-    pub(crate) fn none() -> Services
-        ensures { result ≡ [] }
-    {
-        Services {
-            kept: Kept::Nothing,
-        }
-    }
-
     /// One service. It takes no memory.
     pub(crate) fn one(service: u64) -> Services
         ensures { result ≡ service ∷ [] }
