@@ -2,7 +2,6 @@
 ghost use Rattle.callback_orders.specs.Lives.{held_by, held_for};
 ghost use Rattle.instance_callbacks.specs.ByName.{held_in, services_in};
 ghost use Rattle.std.specs.Prelude.{◌≡◌, ◌==◌, ◌++◌, ◌∷◌, ℕ, [], filter, not, List, IfOk, OnOk, if◌then◌else◌};
-ghost use Rattle.std.specs.Option.{unwrap_or};
 ghost use Rattle.std.specs.Str.{bytes_eq};
 
 use crate::services::Services;
@@ -12,18 +11,19 @@ use std::alloc::{AllocError, Global};
 use std::collections::BTreeMap;
 
 /// What an instance holds by its callbacks, for each reference. It's made once where many references are asked for: the
-/// callbacks are gone over once, and a reference is found in the time of a search. `held_in` is what it holds.
+/// callbacks are gone over once, and a reference is found in the time of a search. The names are borrowed from the
+/// callbacks. `held_in` is what it holds.
 #[derive(Drop)]
-pub struct HeldServices {
-    by_name: BTreeMap<String, Services>,
+pub struct HeldServices<'a> {
+    by_name: BTreeMap<&'a str, Services>,
 }
 
-impl HeldServices {
+impl<'a> HeldServices<'a> {
     /// What is held by these callbacks, the first one first.
     ///
     /// # Errors
     /// Only want of memory.
-    pub fn of(alloc: Global, calls: &[Called]) -> Result<HeldServices, OutOfMemory>
+    pub fn of(alloc: Global, calls: &'a [Called]) -> Result<HeldServices<'a>, OutOfMemory>
         ensures { IfOk result (λ held. (name : List ℕ) → held_in held name ≡ held_for name calls.now) }
     {
         let mut by_name = BTreeMap::new(alloc);
@@ -45,93 +45,58 @@ impl HeldServices {
 }
 
 // What is held behind one callback more.
-fn follow(
+fn follow<'a>(
     alloc: Global,
-    by_name: &mut BTreeMap<String, Services>,
-    called: &Called,
+    by_name: &mut BTreeMap<&'a str, Services>,
+    called: &'a Called,
 ) -> Result<(), OutOfMemory>
     ensures { OnOk result ((name : List ℕ) → services_in by_name.new name ≡ held_by name called.now.callback called.now.outcome (services_in by_name.old name)) }
 {
     match (&called.callback, called.outcome) {
         (Callback::Bind { reference, service }, _) => add(alloc, by_name, reference, *service),
         (Callback::Unbind { reference, service }, Some(_)) => {
-            let_go(alloc, by_name, reference, *service)
+            let_go(by_name, reference, *service);
+            Ok(())
         }
         _ => Ok(()),
     }
 }
 
 // One service more for a reference, the last one.
-fn add(
+fn add<'a>(
     alloc: Global,
-    by_name: &mut BTreeMap<String, Services>,
-    reference: &Str,
+    by_name: &mut BTreeMap<&'a str, Services>,
+    reference: &'a Str,
     service: u64,
 ) -> Result<(), OutOfMemory>
     ensures { OnOk result ((name : List ℕ) → services_in by_name.new name ≡ (if bytes_eq reference.now name then services_in by_name.old name ++ service ∷ [] else services_in by_name.old name)) }
 {
-    let one = Services::one(alloc, service)?;
-    match put(alloc, by_name, reference, one)? {
-        Some(services) => add_behind(alloc, by_name, reference, services, service),
-        None => Ok(()),
+    match by_name.get_mut(reference.as_str()) {
+        Some(services) => services.add(alloc, service),
+        None => put(by_name, reference, service),
     }
 }
 
-// One service more behind those that a reference has had.
-fn add_behind(
-    alloc: Global,
-    by_name: &mut BTreeMap<String, Services>,
-    reference: &Str,
-    services: Services,
+// Puts a service in for a reference, as its only one.
+fn put<'a>(
+    by_name: &mut BTreeMap<&'a str, Services>,
+    reference: &'a Str,
     service: u64,
 ) -> Result<(), OutOfMemory>
-    ensures { OnOk result ((name : List ℕ) → services_in by_name.new name ≡ (if bytes_eq reference.now name then services ++ service ∷ [] else services_in by_name.old name)) }
+    ensures { OnOk result ((name : List ℕ) → services_in by_name.new name ≡ (if bytes_eq reference.now name then service ∷ [] else services_in by_name.old name)) }
 {
-    let mut services = services;
-    services.add(service)?;
-    put(alloc, by_name, reference, services)?;
-    Ok(())
-}
-
-// A service is held no more for a reference.
-fn let_go(
-    alloc: Global,
-    by_name: &mut BTreeMap<String, Services>,
-    reference: &Str,
-    service: u64,
-) -> Result<(), OutOfMemory>
-    ensures { OnOk result ((name : List ℕ) → services_in by_name.new name ≡ (if bytes_eq reference.now name then filter (λ s. not (s == service)) (services_in by_name.old name) else services_in by_name.old name)) }
-{
-    let mut services = taken(alloc, by_name, reference);
-    services.let_go(service);
-    put(alloc, by_name, reference, services)?;
-    Ok(())
-}
-
-// Takes the services of a reference out.
-fn taken(alloc: Global, by_name: &mut BTreeMap<String, Services>, reference: &Str) -> Services
-    ensures these { result ≡ services_in by_name.old reference.now }
-    ensures rest { (name : List ℕ) → services_in by_name.new name ≡ (if bytes_eq reference.now name then [] else services_in by_name.old name) }
-{
-    match by_name.remove(reference.as_str()) {
-        Some(services) => services,
-        None => Services::none(alloc),
-    }
-}
-
-// Puts services in for a reference, and gives those that it had.
-fn put(
-    alloc: Global,
-    by_name: &mut BTreeMap<String, Services>,
-    reference: &Str,
-    services: Services,
-) -> Result<Option<Services>, OutOfMemory>
-    ensures had { IfOk result (λ had. unwrap_or had [] ≡ services_in by_name.old reference.now) }
-    ensures rest { OnOk result ((name : List ℕ) → services_in by_name.new name ≡ (if bytes_eq reference.now name then services else services_in by_name.old name)) }
-{
-    let key = String::from_str(alloc, reference.as_str())?;
-    match by_name.insert(key, services) {
-        Ok(had) => Ok(had),
+    match by_name.insert(reference.as_str(), Services::one(service)) {
+        Ok(_) => Ok(()),
         Err(_) => Err(AllocError),
+    }
+}
+
+// A service is held no more for a reference. It takes no memory.
+fn let_go(by_name: &mut BTreeMap<&str, Services>, reference: &Str, service: u64)
+    ensures { (name : List ℕ) → services_in by_name.new name ≡ (if bytes_eq reference.now name then filter (λ s. not (s == service)) (services_in by_name.old name) else services_in by_name.old name) }
+{
+    match by_name.get_mut(reference.as_str()) {
+        Some(services) => services.let_go(service),
+        None => {}
     }
 }

@@ -58,7 +58,7 @@ pub(crate) fn add(
     ensures order { AreByReference rows.new.items }
 {
     match place_of(rows.as_slice(), reference.as_str()) {
-        Ok(place) => rows[place].services.add(service),
+        Ok(place) => rows[place].services.add(alloc, service),
         Err(gap) => add_row(alloc, rows, gap, reference, service),
     }
 }
@@ -79,7 +79,7 @@ fn add_row(
 {
     let row = Holding {
         reference: reference.copy(alloc)?,
-        services: Services::one(alloc, service)?,
+        services: Services::one(service),
     };
     rows.insert(gap, row)?;
     Ok(())

@@ -24,6 +24,7 @@ fn a_service_is_held_from_its_bind_on(rt: HostRuntime) -> Result<(), Fail> {
     let by_name = HeldServices::of(alloc, callbacks.calls())?;
     assert!(rt; by_name.held(&log) == [4u64].as_slice());
     assert!(rt; by_name.held(&text(alloc, "a")?).is_empty());
+    drop(by_name);
     callbacks.take_back();
     assert!(rt; callbacks.held(&log).is_empty());
     Ok(())

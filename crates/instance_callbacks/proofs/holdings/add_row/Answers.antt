@@ -7,7 +7,7 @@ use Rattle.instance_callbacks.proofs.holdings.add_row.Goals as goal
 pub returns-clause-ok : goal.returns-clause-ok
 returns-clause-ok c = λ name. ap (services_of name) c.in_ok-insert.ensures.items
     ∙ added_row c.args.reference.now name c.args.gap c.args.rows.now.items _ c.requires.place c.in_ok-copy.ensures
-    ∙ ap (λ (v : List ℕ). cond (bytes_eq c.args.reference.now name) (services_of name c.args.rows.now.items ++ v) (services_of name c.args.rows.now.items)) c.in_ok-one.ensures
+    ∙ ap (λ (v : List ℕ). cond (bytes_eq c.args.reference.now name) (services_of name c.args.rows.now.items ++ v) (services_of name c.args.rows.now.items)) c.one.ensures
 
 pub returns-clause-order : goal.returns-clause-order
 returns-clause-order c =
