@@ -12,7 +12,7 @@ use crate::best_held::best_held;
 use crate::instances::{active_server, server_of};
 use crate::{Inward, Live, Outer};
 use kind_trait::Site;
-use prop_map::{Copies, OutOfMemory};
+use prop_map::{Copies, OutOfMemory, Str};
 use scr_dues::{OwnRows, bundle_of_instance, class_in, instance_of, row_known};
 use scr_world::{Instance, Token, World, ends};
 use service_registry::ServiceRow;
