@@ -51,8 +51,3 @@ module _ (s : ℕ) where
 
   pub never_bound : (calls : List Called) (rs : List Reference) → list_any (binds s) calls ≡ false → list_any (λ (r : Reference). has (held_for r.name calls) s) rs ≡ false
   never_bound calls rs unbound = list_any_none (λ (r : Reference). has (held_for r.name calls) s) rs (λ k d within. not_after (get_or rs k d).name [] calls unbound refl)
-
--- two tests that agree
-pub any_alike : {X : Type 0} (p q : X → Bool) (xs : List X) → ((x : X) → p x ≡ q x) → list_any p xs ≡ list_any q xs
-any_alike p q [] same = refl
-any_alike p q (x ∷ xs) same = ap (λ b. b || list_any p xs) (same x) ∙ ap (λ b. q x || b) (any_alike p q xs same)

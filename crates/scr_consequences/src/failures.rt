@@ -15,8 +15,8 @@ fn ends_making(open_now: &[OpenPeriod], turn: u64, instance: &Instance) -> bool
     ensures { result ≡ ends_making open_now.now turn instance.now }
 {
     instance.has_turn(turn)
-        && ((last_is_create(instance.callbacks.as_slice())
-            || last_is_activate(instance.callbacks.as_slice()))
+        && ((last_is_create(instance.callbacks.calls())
+            || last_is_activate(instance.callbacks.calls()))
             && is_current(open_now, &instance.origin))
 }
 

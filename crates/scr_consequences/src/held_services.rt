@@ -1,7 +1,6 @@
 //! The services that instances hold (OSGi Compendium 8, chapter 112, "Binding Services", "Unbinding").
 ghost use Rattle.callback_orders.specs.Lives.{held_for};
 ghost use Rattle.component_dto.specs.declared.description.Reference.{Reference};
-ghost use Rattle.instance_callbacks.specs.ByName.{held_in};
 ghost use Rattle.prop_map.specs.Words.{has};
 ghost use Rattle.scr_consequences.specs.Lefts.{binds};
 ghost use Rattle.scr_world.specs.Lists.{holds, is_service_held};
@@ -11,10 +10,10 @@ ghost use Rattle.std.specs.List.{list_any};
 ghost use Rattle.std.specs.Prelude.{◌≡◌, ◌||◌, IfOk};
 
 use crate::platform_services::text;
-use callback_orders::{Callback, Called, is_held};
+use callback_orders::{Callback, Called};
 use component_dto::Reference;
 use component_state::{Component, component_of};
-use instance_callbacks::HeldServices;
+use instance_callbacks::InstanceCallbacks;
 use prop_map::{OutOfMemory, Str};
 use scr_world::{Instance, World};
 use std::alloc::Global;
@@ -30,47 +29,39 @@ fn was_bound(calls: &[Called], service: u64) -> bool
 }
 
 // Whether a service is held for the reference of a name.
-fn has_service(held: &HeldServices, name: &Str, service: u64) -> bool
-    ensures { result ≡ has (held_in held.now name.now) service }
+fn has_service(callbacks: &InstanceCallbacks, name: &Str, service: u64) -> bool
+    ensures { result ≡ has (held_for name.now callbacks.now) service }
 {
-    held.held(name).iter().any(|other| *other == service)
+    callbacks.held(name).iter().any(|other| *other == service)
 }
 
-fn some_has_service(references: &[Reference], held: &HeldServices, service: u64) -> bool
-    ensures { result ≡ list_any (λ (r : Reference). has (held_in held.now r.name) service) references.now }
+// Whether it is held for one of these references.
+fn holds_for(references: &[Reference], callbacks: &InstanceCallbacks, service: u64) -> bool
+    ensures { result ≡ list_any (λ (r : Reference). has (held_for r.name callbacks.now) service) references.now }
 {
     references
         .iter()
-        .any(|reference| has_service(held, &reference.name, service))
-}
-
-// Whether a service is held for one of these references. The callbacks are gone over once for all of them.
-fn holds_for(
-    alloc: Global,
-    references: &[Reference],
-    calls: &[Called],
-    service: u64,
-) -> Result<bool, OutOfMemory>
-    ensures { IfOk result (λ b. b ≡ list_any (λ (r : Reference). has (held_for r.name calls.now) service) references.now) }
-{
-    let held = HeldServices::of(alloc, calls)?;
-    Ok(some_has_service(references, &held, service))
+        .any(|reference| has_service(callbacks, &reference.name, service))
 }
 
 // Whether it is held for one of two references.
-fn either_holds(first: &Str, second: &Str, calls: &[Called], service: u64) -> bool
-    ensures { result ≡ (has (held_for first.now calls.now) service || has (held_for second.now calls.now) service) }
+fn either_holds(first: &Str, second: &Str, callbacks: &InstanceCallbacks, service: u64) -> bool
+    ensures { result ≡ (has (held_for first.now callbacks.now) service || has (held_for second.now callbacks.now) service) }
 {
-    is_held(calls, first, service) || is_held(calls, second, service)
+    has_service(callbacks, first, service) || has_service(callbacks, second, service)
 }
 
 // Whether it is held for one of the references of the whiteboard.
-fn whiteboard_holds(alloc: Global, calls: &[Called], service: u64) -> Result<bool, OutOfMemory>
-    ensures { IfOk result (λ b. b ≡ list_any (λ (r : Reference). has (held_for r.name calls.now) service) whiteboard_references) }
+fn whiteboard_holds(
+    alloc: Global,
+    callbacks: &InstanceCallbacks,
+    service: u64,
+) -> Result<bool, OutOfMemory>
+    ensures { IfOk result (λ b. b ≡ list_any (λ (r : Reference). has (held_for r.name callbacks.now) service) whiteboard_references) }
 {
     let contexts = text(alloc, "contexts")?;
     let servlets = text(alloc, "servlets")?;
-    Ok(either_holds(&contexts, &servlets, calls, service))
+    Ok(either_holds(&contexts, &servlets, callbacks, service))
 }
 
 // Whether an instance holds a service, where it was bound to it.
@@ -82,14 +73,13 @@ fn holds_bound(
 ) -> Result<bool, OutOfMemory>
     ensures { IfOk result (λ b. b ≡ holds components.now service instance.now) }
 {
-    let calls = instance.callbacks.as_slice();
     if instance.origin.configuration == 0 {
-        return whiteboard_holds(alloc, calls, service);
+        return whiteboard_holds(alloc, &instance.callbacks, service);
     }
     match component_of(components, instance.origin.configuration) {
         Some(component) => {
             let references = component.description.get().references.as_slice();
-            holds_for(alloc, references, calls, service)
+            Ok(holds_for(references, &instance.callbacks, service))
         }
         None => Ok(false),
     }
@@ -107,7 +97,7 @@ pub fn holds(
 ) -> Result<bool, OutOfMemory>
     ensures { IfOk result (λ b. b ≡ holds components.now service instance.now) }
 {
-    if was_bound(instance.callbacks.as_slice(), service) {
+    if was_bound(instance.callbacks.calls(), service) {
         return holds_bound(alloc, components, service, instance);
     }
     Ok(false)

@@ -8,6 +8,7 @@ ghost use Rattle.std.specs.Prelude.{◌≡◌, ℕ, [], IfOk};
 use bundle_life::Bundles;
 use component_state::Origin;
 use config_admin::Configurations;
+use instance_callbacks::InstanceCallbacks;
 use prop_map::{Copies, List, OutOfMemory};
 use scr_dues::OwnRows;
 use scr_state::State;
@@ -40,7 +41,7 @@ fn new_whiteboard(alloc: Global, own: &OwnRows) -> Result<Instance, OutOfMemory>
             created: 0,
             chosen: none(alloc),
         },
-        callbacks: none(alloc),
+        callbacks: InstanceCallbacks::new(alloc),
         properties: own.whiteboard().properties.copy(alloc)?,
         properties_taken_at: 0,
         told_revisions: none(alloc),

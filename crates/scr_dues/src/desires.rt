@@ -18,7 +18,6 @@ ghost use Rattle.std.specs.Prelude.{◌≡◌, ◌≤◌, ◌++◌, ℕ, [], IfO
 use crate::components::component_in;
 use crate::own_rows::OwnRows;
 use crate::services::sorted;
-use callback_orders::held_for;
 use component_dto::Reference;
 use component_state::{Choice, Component, OpenPeriod, choice_at};
 use prop_map::{OutOfMemory, Policy, Properties};
@@ -152,20 +151,6 @@ fn desired_now(
     desired(alloc, &need, &[], held, &targets)
 }
 
-// What an instance holds for a reference, where that is dynamic.
-fn held_where_dynamic(
-    alloc: Global,
-    instance: &Instance,
-    reference: &Reference,
-) -> Result<Vec<u64>, OutOfMemory>
-    ensures { IfOk result (λ v. reference.now.policy ≡ Dynamic → v.items ≡ held_for reference.now.name instance.now.callbacks) }
-{
-    match reference.policy {
-        Policy::Static => Ok(Vec::new(alloc)),
-        Policy::Dynamic => held_for(alloc, &reference.name, instance.callbacks.as_slice()),
-    }
-}
-
 /// What was chosen for the reference at a place, where that is static: it is looked for from the first of these choices on.
 pub(crate) fn choice_where_static<'a>(
     choices: &'a [Choice],
@@ -232,9 +217,9 @@ pub fn desired_for(
     if ending {
         return Ok(Vec::new(alloc));
     }
-    let held = held_where_dynamic(alloc, instance, reference)?;
+    let held = instance.callbacks.held(&reference.name);
     let choice = choice_where_static(instance.origin.chosen.as_slice(), place, reference);
-    desired_services(alloc, own, world, instance, &held, choice, place, reference)
+    desired_services(alloc, own, world, instance, held, choice, place, reference)
 }
 
 /// The same, where what it holds for the reference is known, and what it chose for it where that is static.

@@ -9,7 +9,6 @@ use crate::own_rows::OwnRows;
 use crate::readiness::{bundle_of_instance, consumer_for};
 use component_dto::Reference;
 use component_state::Component;
-use instance_callbacks::HeldServices;
 use prop_map::{List, OutOfMemory};
 use scr_world::{Instance, World, ends};
 use std::alloc::Global;
@@ -34,13 +33,12 @@ fn desired_for_all(
     ensures { IfOk result (λ v. v.items ≡ desired_for_all ending world.now instance.now (with_places 0 references.now)) }
 {
     let mut found = Vec::new(alloc);
-    let all_held = HeldServices::of(alloc, instance.callbacks.as_slice())?;
     let mut choices = instance.origin.chosen.as_slice();
     for (at, reference) in references.iter().enumerate() {
         let place = at as u64;
         choices = choices_from(choices, place);
         let choice = choice_where_static(choices, place, reference);
-        let held = all_held.held(&reference.name);
+        let held = instance.callbacks.held(&reference.name);
         let mut more = desired_holding(
             alloc, own, world, ending, instance, held, choice, place, reference,
         )?;

@@ -13,7 +13,7 @@ use crate::lean_views::due_view;
 use crate::own_rows::OwnRows;
 use crate::readiness::{has_holder, is_active_phase};
 use crate::wanted::missing_keys;
-use callback_orders::{DueRef, Key, Phase, due_of, is_outstanding, phase_of};
+use callback_orders::{DueRef, Key, Phase, due_of};
 use prop_map::OutOfMemory;
 use scr_world::{Instance, World, ends};
 use std::alloc::Global;
@@ -59,7 +59,7 @@ fn due_as(
 ) -> Result<Option<DueRef>, OutOfMemory>
     ensures { IfOk result (λ due. due ≡ due_as phase ending world.now instance.now) }
 {
-    if is_outstanding(instance.callbacks.as_slice()) {
+    if instance.callbacks.is_outstanding() {
         return Ok(None);
     }
     let may_leave = ending && is_active_phase(phase);
@@ -78,7 +78,7 @@ fn due_for(
 ) -> Result<Option<DueRef>, OutOfMemory>
     ensures { IfOk result (λ due. due ≡ due_for world.now instance.now) }
 {
-    let phase = phase_of(instance.callbacks.as_slice());
+    let phase = instance.callbacks.phase();
     let ending = ends(world, instance);
     due_as(alloc, own, world, phase, ending, instance)
 }

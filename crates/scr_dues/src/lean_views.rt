@@ -2,12 +2,11 @@
 //! holds is ready, and whether one changed of which it isn't told (our own).
 ghost use Rattle.callback_orders.specs.Lives.{held_for};
 ghost use Rattle.component_state.specs.Reasons.{choice_at};
-ghost use Rattle.instance_callbacks.specs.ByName.{held_in};
 ghost use Rattle.prop_map.specs.Words.{has, with_places};
 ghost use Rattle.prop_map.specs.declared.reference_words.Policy.TheVariants.{Static};
 ghost use Rattle.scr_dues.specs.LeanViews.{due_view, is_making, is_settled, is_unbound, lean_reference, references_looked_at, staying_reference, staying_references, wants_nothing};
 ghost use Rattle.scr_world.specs.Views.{is_changed, is_ready, references_in};
-ghost use Rattle.std.specs.Prelude.{◌≡◌, ◌&&◌, ℕ, IfOk, List, map, not};
+ghost use Rattle.std.specs.Prelude.{◌≡◌, ◌&&◌, IfOk, map, not};
 
 use crate::changes::{awaits_modified, is_changed};
 use crate::components::references_in;
@@ -15,9 +14,8 @@ use crate::desires::{choice_where_static, choices_from, desired_holding, is_stat
 use crate::own_rows::OwnRows;
 use crate::readiness::{bundle_of_instance, is_ready};
 use crate::services::sorted;
-use callback_orders::{HeldService, InstanceView, Phase, ReferenceView, Wish, is_outstanding};
+use callback_orders::{HeldService, InstanceView, Phase, ReferenceView, Wish};
 use component_dto::Reference;
-use instance_callbacks::HeldServices;
 use prop_map::{List, OutOfMemory, Str};
 use scr_world::{Instance, World};
 use std::alloc::Global;
@@ -122,10 +120,8 @@ fn lean_references(
     world: &World,
     ending: bool,
     instance: &Instance,
-    all_held: &HeldServices,
     references: &[Reference],
 ) -> Result<Vec<ReferenceView>, OutOfMemory>
-    requires { (name : List ℕ) → held_in all_held.now name ≡ held_for name instance.now.callbacks }
     ensures { IfOk result (λ v. v.items ≡ map (lean_reference ending world.now instance.now) (with_places 0 references.now)) }
 {
     let mut found = Vec::new(alloc);
@@ -134,7 +130,7 @@ fn lean_references(
         let place = at as u64;
         choices = choices_from(choices, place);
         let choice = choice_where_static(choices, place, reference);
-        let services = all_held.held(&reference.name);
+        let services = instance.callbacks.held(&reference.name);
         found.push(lean_reference(
             alloc, own, world, ending, instance, services, choice, place, reference,
         )?)?;
@@ -216,10 +212,8 @@ fn staying_references(
     world: &World,
     making: bool,
     instance: &Instance,
-    all_held: &HeldServices,
     references: &[Reference],
 ) -> Result<Vec<ReferenceView>, OutOfMemory>
-    requires { (name : List ℕ) → held_in all_held.now name ≡ held_for name instance.now.callbacks }
     ensures { IfOk result (λ v. v.items ≡ staying_references making world.now instance.now (with_places 0 references.now)) }
 {
     let mut found = Vec::new(alloc);
@@ -228,7 +222,7 @@ fn staying_references(
         let place = at as u64;
         choices = choices_from(choices, place);
         let choice = choice_where_static(choices, place, reference);
-        let services = all_held.held(&reference.name);
+        let services = instance.callbacks.held(&reference.name);
         found.push(staying_reference(
             alloc, own, world, instance, services, choice, place, reference,
         )?)?;
@@ -245,7 +239,7 @@ fn is_making(phase: Phase) -> bool
     matches!(phase, Phase::Making)
 }
 
-// What is looked at of the references of an instance. Its callbacks are gone over once, however many references it has.
+// What is looked at of the references of an instance.
 #[tactic(auto, unfolding(crate::specs::LeanViews::references_looked_at))]
 fn references_looked_at(
     alloc: Global,
@@ -258,12 +252,11 @@ fn references_looked_at(
     ensures { IfOk result (λ v. v.items ≡ references_looked_at phase ending world.now instance.now (with_places 0 (references_in world.now instance.now))) }
 {
     let references = references_in(own, world, instance);
-    let all_held = HeldServices::of(alloc, instance.callbacks.as_slice())?;
     if ending {
-        return lean_references(alloc, own, world, true, instance, &all_held, references);
+        return lean_references(alloc, own, world, true, instance, references);
     }
     let making = is_making(phase);
-    staying_references(alloc, own, world, making, instance, &all_held, references)
+    staying_references(alloc, own, world, making, instance, references)
 }
 
 /// What decides it, where the instance is in this phase, and ends or doesn't, as if nobody held it.
@@ -283,7 +276,7 @@ pub(crate) fn due_view(
         instance: instance.number,
         phase,
         ending,
-        outstanding: is_outstanding(instance.callbacks.as_slice()),
+        outstanding: instance.callbacks.is_outstanding(),
         drained: instance.drained,
         unheld: true,
         stale: awaits_modified(world, instance),

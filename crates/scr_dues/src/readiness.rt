@@ -17,9 +17,11 @@ ghost use Rattle.std.specs.Prelude.{◌≡◌, ◌==◌, ◌&&◌, false};
 
 use crate::components::references_in;
 use crate::own_rows::OwnRows;
-use callback_orders::{Callback, Called, Phase, is_held};
+use callback_orders::{Callback, Called, Phase};
 use component_dto::{Reference, Scope};
 use component_state::{Component, component_of};
+use instance_callbacks::InstanceCallbacks;
+use prop_map::Str;
 use scr_world::{Instance, World};
 use service_registry::Registry;
 
@@ -110,9 +112,9 @@ pub fn is_ready(own: &OwnRows, world: &World, bundle: u64, service: u64) -> bool
 pub fn holds(own: &OwnRows, world: &World, service: u64, instance: &Instance) -> bool
     ensures { result ≡ holds world.now.components service instance.now }
 {
-    let calls = instance.callbacks.as_slice();
-    was_bound(calls, service)
-        && holds_for_last_or_any(references_in(own, world, instance), calls, service)
+    let callbacks = &instance.callbacks;
+    was_bound(callbacks.calls(), service)
+        && holds_for_last_or_any(references_in(own, world, instance), callbacks, service)
 }
 
 fn binds(callback: &Callback, sought: u64) -> bool
@@ -131,24 +133,36 @@ fn was_bound(calls: &[Called], service: u64) -> bool
     calls.iter().any(|called| binds(&called.callback, service))
 }
 
-// Whether a service is held for one of these references, the first one first.
-fn holds_for_any(references: &[Reference], calls: &[Called], service: u64) -> bool
-    ensures { result ≡ list_any (λ (r : Reference). has (held_for r.name calls.now) service) references.now }
+// Whether a service is held for the reference of a name.
+fn holds_for(callbacks: &InstanceCallbacks, name: &Str, service: u64) -> bool
+    ensures { result ≡ has (held_for name.now callbacks.now) service }
+{
+    callbacks.held(name).iter().any(|other| *other == service)
+}
+
+// Whether it is held for one of these references, the first one first.
+fn holds_for_any(references: &[Reference], callbacks: &InstanceCallbacks, service: u64) -> bool
+    ensures { result ≡ list_any (λ (r : Reference). has (held_for r.name callbacks.now) service) references.now }
 {
     references
         .iter()
-        .any(|reference| is_held(calls, &reference.name, service))
+        .any(|reference| holds_for(callbacks, &reference.name, service))
 }
 
 // The same. An ending instance lets go of the last reference first, one that goes on of the first: so that which is held longest
-// stands at an end, and the callbacks are gone over once or twice until the last Unbind.
+// stands at an end, and is looked for there first.
 #[tactic(auto, using(crate::proofs::Bound::last_too))]
-fn holds_for_last_or_any(references: &[Reference], calls: &[Called], service: u64) -> bool
-    ensures { result ≡ list_any (λ (r : Reference). has (held_for r.name calls.now) service) references.now }
+fn holds_for_last_or_any(
+    references: &[Reference],
+    callbacks: &InstanceCallbacks,
+    service: u64,
+) -> bool
+    ensures { result ≡ list_any (λ (r : Reference). has (held_for r.name callbacks.now) service) references.now }
 {
     match references {
         [.., last] => {
-            is_held(calls, &last.name, service) || holds_for_any(references, calls, service)
+            holds_for(callbacks, &last.name, service)
+                || holds_for_any(references, callbacks, service)
         }
         [] => false,
     }

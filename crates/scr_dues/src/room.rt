@@ -3,7 +3,7 @@ ghost use Rattle.scr_world.specs.Instances.{is_activated};
 ghost use Rattle.scr_world.specs.Room.{has_room, needed_by, reserved, reserved_for};
 ghost use Rattle.std.specs.Prelude.{◌≡◌, ◌≤◌, ◌<◌, ◌+◌, ◌^◌, map, sum};
 
-use callback_orders::{Callback, Called, Outcome, is_outstanding};
+use callback_orders::{Callback, Called, Outcome};
 use scr_world::{Instance, Step, World};
 
 // Whether an Activate is outstanding or ended Done.
@@ -21,8 +21,8 @@ fn reserved_for(instance: &Instance) -> u64
     ensures value { result ≡ reserved_for instance.now }
     ensures small { result ≤ 2 }
 {
-    let calls = instance.callbacks.as_slice();
-    u64::from(is_outstanding(calls)) + u64::from(is_activated(calls) && !instance.drained)
+    let calls = instance.callbacks.calls();
+    u64::from(instance.callbacks.is_outstanding()) + u64::from(is_activated(calls) && !instance.drained)
 }
 
 fn reserved_for_all(instances: &[Instance]) -> u128

@@ -144,7 +144,7 @@ fn work_told(
 ) -> Result<Option<TurnWork>, OutOfMemory>
     ensures { IfOk result (λ work. work ≡ option_map (work_for world.now turn instance.now) (last_callback instance.now.callbacks)) }
 {
-    match last_copied(alloc, instance.callbacks.as_slice())? {
+    match last_copied(alloc, instance.callbacks.calls())? {
         Some(callback) => Ok(Some(work_for(alloc, own, world, turn, instance, callback)?)),
         None => Ok(None),
     }

@@ -11,9 +11,7 @@ use crate::desires::desired_for;
 use crate::own_rows::OwnRows;
 use crate::readiness::{bundle_of_instance, has_holder, is_ready};
 use crate::services::sorted;
-use callback_orders::{
-    HeldService, InstanceView, Phase, ReferenceView, Wish, held_for, is_outstanding, phase_of,
-};
+use callback_orders::{HeldService, InstanceView, Phase, ReferenceView, Wish};
 use component_dto::Reference;
 use prop_map::{List, OutOfMemory, Str};
 use scr_world::{Instance, World, ends};
@@ -71,8 +69,8 @@ fn held_services(
     ensures { IfOk result (λ v. v.items ≡ map (λ s. record { service = s; changed = is_changed world.now instance.now reference.now s })
         (sorted world.now (held_for reference.now instance.now.callbacks))) }
 {
-    let held = held_for(alloc, reference, instance.callbacks.as_slice())?;
-    let best_first = sorted(alloc, own, world, &held)?;
+    let held = instance.callbacks.held(reference);
+    let best_first = sorted(alloc, own, world, held)?;
     changes(alloc, own, world, instance, reference, &best_first)
 }
 
@@ -131,7 +129,7 @@ pub(crate) fn view_as(
         instance: instance.number,
         phase,
         ending,
-        outstanding: is_outstanding(instance.callbacks.as_slice()),
+        outstanding: instance.callbacks.is_outstanding(),
         drained: instance.drained,
         unheld,
         stale: awaits_modified(world, instance),
@@ -151,7 +149,7 @@ pub fn view_of(
 ) -> Result<InstanceView, OutOfMemory>
     ensures { IfOk result (λ v. v ≡ view_of world.now instance.now) }
 {
-    let phase = phase_of(instance.callbacks.as_slice());
+    let phase = instance.callbacks.phase();
     let ending = ends(world, instance);
     let unheld = !has_holder(own, world, instance);
     view_as(alloc, own, world, phase, ending, unheld, instance)

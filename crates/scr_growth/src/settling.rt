@@ -225,7 +225,7 @@ fn reserved_for_all(instances: &[Instance]) -> Result<u64, OutOfMemory>
 fn reserved_for(instance: &Instance) -> u64
     ensures { result ≡ reserved_for instance.now }
 {
-    let calls = instance.callbacks.as_slice();
+    let calls = instance.callbacks.calls();
     one_if(is_outstanding(calls)) + one_if(is_activated(calls) && !instance.drained)
 }
 

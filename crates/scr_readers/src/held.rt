@@ -6,7 +6,6 @@ ghost use Rattle.std.specs.Fmt.{decimal};
 ghost use Rattle.std.specs.Prelude.{◌≡◌, IfOk, flat_map, map};
 
 use crate::services::copied;
-use callback_orders::held_for;
 use component_dto::Reference;
 use component_state::exists;
 use prop_map::{Copies, List, OutOfMemory, Str};
@@ -149,8 +148,7 @@ fn held_best_first(
 ) -> Result<Vec<u64>, OutOfMemory>
     ensures { IfOk result (λ v. v.items ≡ held_best_first world.now reference.now instance.now) }
 {
-    let held = held_for(alloc, reference, instance.callbacks.as_slice())?;
-    sorted(alloc, own, world, &held)
+    sorted(alloc, own, world, instance.callbacks.held(reference))
 }
 
 fn lines_with(

@@ -49,7 +49,7 @@ fn ends_still(
 fn fails_open(world: &World, outcome: Outcome, instance: &Instance) -> bool
     ensures { result ≡ fails_open outcome world.now instance.now }
 {
-    let calls = instance.callbacks.as_slice();
+    let calls = instance.callbacks.calls();
     is_failed(Some(outcome))
         && ((last_is_create(calls) || last_is_activate(calls))
             && is_current(world.open_periods.as_slice(), &instance.origin))
@@ -58,7 +58,7 @@ fn fails_open(world: &World, outcome: Outcome, instance: &Instance) -> bool
 fn ends_life(outcome: Outcome, instance: &Instance) -> bool
     ensures { result ≡ ends_life outcome instance.now }
 {
-    let calls = instance.callbacks.as_slice();
+    let calls = instance.callbacks.calls();
     last_is_destroy(calls) || (last_is_create(calls) && is_failed(Some(outcome)))
 }
 

@@ -77,6 +77,9 @@ module _ (w : World) (known : AreKnown w) (turn : ℕ) (outcome : Outcome) where
         ∙ ap (λ (x : Instance). filter lives_on (set w.instances k (with_outcome outcome w.generations x))) at
         ∙ ap (filter lives_on) (sym (map_only (has_turn turn) (with_outcome outcome w.generations) k w.instances i (only_turn k i placed)))
 
+    pub outstanding_there : is_outstanding i.callbacks ≡ true
+    outstanding_there = (and_parts (i.turn == turn) (is_outstanding i.callbacks) (ap (has_turn turn) at ∙ only_passes (has_turn turn) k w.instances i (only_turn k i placed))).1
+
     turn_of : (j : Instance) → has_turn turn j ≡ true → j.turn ≡ turn
     turn_of j here = eqb-true j.turn turn (and_parts (j.turn == turn) (is_outstanding j.callbacks) here).0
 

@@ -1,14 +1,13 @@
 //! An instance that is told of a callback (OSGi Compendium 8, chapter 112, "Activation", "Modification").
-ghost use Rattle.callback_orders.specs.Sequences.{begun};
 ghost use Rattle.component_state.specs.Components.{properties_of};
 ghost use Rattle.scr_turns.specs.TurnDrafts.{told_in};
 ghost use Rattle.scr_world.specs.Instances.{is_told_of, with_effect_of_begin, with_told, without_told};
 ghost use Rattle.scr_world.specs.Stepping.{before_turn};
 ghost use Rattle.scr_world.specs.Worlds.{revision_of};
-ghost use Rattle.std.specs.Prelude.{◌≡◌, ◌++◌, ◌∷◌, [], IfOk};
+ghost use Rattle.std.specs.Prelude.{◌≡◌, IfOk};
 
 use crate::revisions::revision_of;
-use callback_orders::{Callback, Called};
+use callback_orders::Callback;
 use component_state::{Component, component_of};
 use prop_map::{Copies, List, OutOfMemory, Properties, Str};
 use scr_world::{Instance, ToldRevision, World};
@@ -24,9 +23,9 @@ pub(crate) fn told_in(
 ) -> Result<Instance, OutOfMemory>
     ensures { IfOk result (λ i. i ≡ told_in world.now turn callback.now instance.now) }
 {
-    let calls = calls_with(alloc, instance.callbacks.as_slice(), callback)?;
-    let mut told = instance.with_callbacks(alloc, calls)?;
+    let mut told = instance.copy(alloc)?;
     told.turn = turn;
+    told.callbacks.begin(alloc, callback.copy(alloc)?)?;
     with_effect(alloc, world, callback, told)
 }
 
@@ -82,25 +81,6 @@ fn with_properties(
     told.properties = properties_of(alloc, components, told.origin.configuration)?;
     told.properties_taken_at = world.entries;
     Ok(told)
-}
-
-// The callbacks with one that begins.
-pub(crate) fn calls_with(
-    alloc: Global,
-    calls: &[Called],
-    callback: &Callback,
-) -> Result<List<Called>, OutOfMemory>
-    ensures { IfOk result (λ v. v ≡ calls.now ++ begun callback.now ∷ []) }
-{
-    let mut found = Vec::new(alloc);
-    for called in calls {
-        found.push(called.copy(alloc)?)?;
-    }
-    found.push(Called {
-        callback: callback.copy(alloc)?,
-        outcome: None,
-    })?;
-    Ok(List::of(found))
 }
 
 fn is_told_of(reference: &Str, service: u64, told: &ToldRevision) -> bool

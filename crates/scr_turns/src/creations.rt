@@ -1,15 +1,18 @@
 //! An instance that the beginning of a Create makes (OSGi Compendium 8, chapter 112, "Activation").
+ghost use Rattle.callback_orders.specs.Sequences.{begun};
+ghost use Rattle.callback_orders.specs.declared.callback.Callback.TheVariants.{Create};
 ghost use Rattle.component_state.specs.Rows.{service_in};
 ghost use Rattle.component_state.specs.declared.open_period.OpenPeriod.{OpenPeriod};
 ghost use Rattle.scr_world.specs.Instances.{created_at};
 ghost use Rattle.scr_world.specs.Stepping.{before_turn};
 ghost use Rattle.std.specs.Option.{option_copied};
-ghost use Rattle.std.specs.Prelude.{◌≡◌, ◌==◌, IfOk, find};
+ghost use Rattle.std.specs.Prelude.{◌≡◌, ◌==◌, ◌∷◌, [], IfOk, find};
 
-use crate::begins::{calls_with, properties_of};
+use crate::begins::properties_of;
 use crate::slots::first_free_slot;
 use callback_orders::Callback;
 use component_state::{Choice, OpenPeriod, Origin};
+use instance_callbacks::InstanceCallbacks;
 use prop_map::{Copies, List, OutOfMemory};
 use scr_world::{Instance, World};
 use std::alloc::{AllocError, Global};
@@ -39,11 +42,20 @@ pub(crate) fn created(
             created: world.entries,
             chosen: chosen.copy(alloc)?,
         },
-        callbacks: calls_with(alloc, &[], &Callback::Create)?,
+        callbacks: create_begun(alloc)?,
         properties: properties_of(alloc, world.components.as_slice(), configuration)?,
         properties_taken_at: world.entries,
         told_revisions: List::of(Vec::new(alloc)),
     })
+}
+
+// The callbacks of an instance whose Create begins.
+fn create_begun(alloc: Global) -> Result<InstanceCallbacks, OutOfMemory>
+    ensures { IfOk result (λ callbacks. callbacks ≡ begun Create ∷ []) }
+{
+    let mut callbacks = InstanceCallbacks::new(alloc);
+    callbacks.begin(alloc, Callback::Create)?;
+    Ok(callbacks)
 }
 
 // The service of the open period of a component configuration, 0 where there is none.

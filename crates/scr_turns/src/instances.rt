@@ -161,7 +161,7 @@ fn ended(
 fn lives_on(instance: &Instance) -> bool
     ensures { result ≡ lives_on instance.now }
 {
-    is_living(instance.callbacks.as_slice())
+    is_living(instance.callbacks.calls())
 }
 
 // The drain of one is posted.

@@ -7,7 +7,6 @@ ghost use Rattle.scr_world.specs.declared.instance.Instance.{Instance};
 ghost use Rattle.std.specs.Option.{option_copied};
 ghost use Rattle.std.specs.Prelude.{◌≡◌, ◌==◌, ◌&&◌, IfOk, find};
 
-use callback_orders::held_for;
 use component_state::{OpenPeriod, is_current};
 use prop_map::{OutOfMemory, Str};
 use scr_dues::{OwnRows, sorted};
@@ -61,6 +60,5 @@ fn held_best_first(
 ) -> Result<Vec<u64>, OutOfMemory>
     ensures { IfOk result (λ v. v.items ≡ sorted world.now (held_for name.now instance.now.callbacks)) }
 {
-    let held = held_for(alloc, name, instance.callbacks.as_slice())?;
-    sorted(alloc, own, world, &held)
+    sorted(alloc, own, world, instance.callbacks.held(name))
 }

@@ -2,11 +2,12 @@
 ghost use Rattle.callback_orders.specs.Sequences.{is_failed};
 ghost use Rattle.scr_world.specs.Consequences.{gate_of};
 ghost use Rattle.scr_world.specs.Instances.{becomes_active, has_failed, has_turn, is_active_instance};
-ghost use Rattle.std.specs.Prelude.{◌≡◌, IfOk};
+ghost use Rattle.std.specs.Prelude.{◌≡◌};
 
 use crate::last_callbacks::last_is_activate;
-use callback_orders::{Called, Outcome, Phase, is_outstanding, phase_of};
+use callback_orders::{Outcome, Phase};
 use component_state::Origin;
+use instance_callbacks::InstanceCallbacks;
 use journal_core::GateKey;
 use prop_map::{Copies, List, OutOfMemory, Properties, Str};
 use std::alloc::Global;
@@ -52,7 +53,7 @@ pub struct Instance {
     /// Its component configuration, its Create and its choices.
     pub origin: Origin,
     /// Its callbacks so far.
-    pub callbacks: List<Called>,
+    pub callbacks: InstanceCallbacks,
     /// The properties that it took when its Create or its last Modified began.
     pub properties: Properties,
     /// The place of the entry in which that callback began.
@@ -73,14 +74,14 @@ impl Instance {
     pub fn is_active(&self) -> bool
         ensures { result ≡ is_active_instance self.now }
     {
-        matches!(phase_of(self.callbacks.as_slice()), Phase::Active)
+        matches!(self.callbacks.phase(), Phase::Active)
     }
 
     /// Whether its activation ended without success. It takes no memory.
     pub fn has_failed(&self) -> bool
         ensures { result ≡ has_failed self.now.callbacks }
     {
-        let calls = self.callbacks.as_slice();
+        let calls = self.callbacks.calls();
         calls.iter().any(|called| called.callback.is_activate() && is_failed(called.outcome))
     }
 
@@ -88,14 +89,14 @@ impl Instance {
     pub fn has_turn(&self, turn: u64) -> bool
         ensures { result ≡ has_turn turn self.now }
     {
-        self.turn == turn && is_outstanding(self.callbacks.as_slice())
+        self.turn == turn && self.callbacks.is_outstanding()
     }
 
     /// Whether it becomes active as its turn ends with this outcome: its Activate is done. It takes no memory.
     pub fn becomes_active(&self, outcome: Outcome) -> bool
         ensures { result ≡ becomes_active outcome self.now }
     {
-        outcome == Outcome::Done && last_is_activate(self.callbacks.as_slice())
+        outcome == Outcome::Done && last_is_activate(self.callbacks.calls())
     }
 
     /// Its gate, by the generation under which it was opened. It takes no memory.
@@ -107,18 +108,10 @@ impl Instance {
             generation: self.generation,
         }
     }
+}
 
-    /// An equal instance but for its callbacks, which are these.
-    ///
-    /// # Errors
-    /// Only want of memory.
-    pub fn with_callbacks(
-        &self,
-        alloc: Global,
-        callbacks: List<Called>,
-    ) -> Result<Instance, OutOfMemory>
-        ensures { IfOk result (λ i. i ≡ record self.now { callbacks = callbacks }) }
-    {
+impl Copies for Instance {
+    fn copy(&self, alloc: Global) -> Result<Instance, OutOfMemory> {
         Ok(Instance {
             number: self.number,
             consumer: self.consumer,
@@ -128,16 +121,10 @@ impl Instance {
             drained: self.drained,
             turn: self.turn,
             origin: self.origin.copy(alloc)?,
-            callbacks,
+            callbacks: self.callbacks.copy(alloc)?,
             properties: self.properties.copy(alloc)?,
             properties_taken_at: self.properties_taken_at,
             told_revisions: self.told_revisions.copy(alloc)?,
         })
-    }
-}
-
-impl Copies for Instance {
-    fn copy(&self, alloc: Global) -> Result<Instance, OutOfMemory> {
-        self.with_callbacks(alloc, self.callbacks.copy(alloc)?)
     }
 }

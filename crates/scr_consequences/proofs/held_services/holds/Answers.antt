@@ -10,5 +10,5 @@ use Rattle.scr_consequences.proofs.held_services.holds.Goals as goal
 pub returns : goal.returns
 returns c =
     let i = c.args.instance.now in
-    let none = ap (list_any (binds c.args.service)) (sym c.as_slice.ensures) ∙ sym c.was_bound.ensures ∙ c.if-was_bound.false in
+    let none = ap (list_any (binds c.args.service)) (sym c.calls.ensures) ∙ sym c.was_bound.ensures ∙ c.if-was_bound.false in
     sym (never_bound c.args.service i.callbacks (option_map_or (λ (d : Component). d.description.references) (component_in c.args.components.now i.origin.configuration) []) none)

@@ -7,5 +7,5 @@ use Rattle.scr_dues.proofs.readiness.holds.Goals as goal
 pub returns-else-was_bound : goal.returns-else-was_bound
 returns-else-was_bound c =
     let never : was_bound c.args.service c.args.instance.now.callbacks ≡ false =
-    ap (was_bound c.args.service) (sym c.as_slice-calls.ensures) ∙ sym c.was_bound.ensures ∙ c.if-was_bound.false in
+    ap (was_bound c.args.service) (sym c.calls.ensures) ∙ sym c.was_bound.ensures ∙ c.if-was_bound.false in
     c.if-was_bound.false ∙ sym (none_held c.args.service c.args.instance.now.callbacks (references_in c.args.world.now c.args.instance.now) never)
