@@ -1,8 +1,7 @@
 -- What the callbacks say once another one began, ended or was taken back.
-use Rattle.std.proofs.Common.{◌≡◌, ℕ, ◌-◌, suc, length, get_or, ◌⊎◌, inl, inr, List, [], ◌∷◌, ◌++◌, true, false, refl, ap, ◌∙◌, sym, subst, arith}
-use Rattle.std.specs.List.{list_all}
-use Rattle.std.specs.Prelude.{◌&&◌, ◌||◌, Option, Some, None, is_none, is_some}
-use Rattle.std.proofs.lemmas.Bool.{and_parts, or_cases, false≢true}
+use Rattle.std.proofs.Common.{◌≡◌, ℕ, ◌-◌, suc, length, get_or, List, [], ◌∷◌, ◌++◌, true, false, refl, ap, ◌∙◌, sym, subst, arith}
+use Rattle.std.specs.Prelude.{Option, Some, None, is_none}
+use Rattle.std.proofs.lemmas.Bool.{false≢true}
 use Rattle.callback_orders.specs.declared.callback.Callback.{Callback}
 use Rattle.callback_orders.specs.declared.callback.Callback.TheVariants.{Create, Bind, Updated, Unbind, Activate, Modified, Deactivate, Destroy}
 use Rattle.callback_orders.specs.declared.callback.Outcome.{Outcome}
@@ -10,7 +9,7 @@ use Rattle.callback_orders.specs.declared.instance_view.Phase.{Phase}
 use Rattle.callback_orders.specs.declared.instance_view.Phase.TheVariants.{Making}
 use Rattle.callback_orders.specs.declared.word.Called.{Called}
 use Rattle.callback_orders.specs.Lives.{phase_by, phase_after, phase_of, held_by, held_after, held_for}
-use Rattle.callback_orders.specs.Sequences.{begun, done_with, all_but_last, ended, is_outstanding, is_sequence, is_whiteboard_sequence, is_in_order, one_at_a_time, created, alternate, is_bind_or_unbind}
+use Rattle.callback_orders.specs.Sequences.{begun, done_with, all_but_last, ended, is_outstanding}
 
 -- the last callback, which is outstanding, and those before it
 abbrev called : Callback → Option Outcome → Called
@@ -96,27 +95,6 @@ outstanding_ended o (c ∷ []) = refl
 outstanding_ended o (c ∷ d ∷ []) = refl
 outstanding_ended o (c ∷ d ∷ e ∷ rest) = outstanding_ended o (d ∷ e ∷ rest)
 
-none_from_some : (x : Option Outcome) → (is_some x || false) ≡ true → is_none x ≡ false
-none_from_some (Some o) h = refl
-none_from_some None h = absurd (false≢true h)
-
-none_before : (calls : List Called) (c : Called) → one_at_a_time (calls ++ c ∷ []) ≡ true → is_outstanding calls ≡ false
-none_before [] c h = refl
-none_before (d ∷ []) c h = none_from_some d.outcome (and_parts (is_some d.outcome || false) (one_at_a_time (c ∷ [])) h).0
-none_before (d ∷ e ∷ rest) c h = none_before (e ∷ rest) c (and_parts (is_some d.outcome || false) (one_at_a_time (e ∷ rest ++ c ∷ [])) h).1
-
-in_turn : (calls : List Called) → is_in_order calls ≡ true → one_at_a_time calls ≡ true
-in_turn calls h = by_cases (or_cases (is_sequence calls) (is_whiteboard_sequence calls) h) where
-  by_cases : (is_sequence calls ≡ true) ⊎ (is_whiteboard_sequence calls ≡ true) → one_at_a_time calls ≡ true
-  by_cases (inl s) = (and_parts (created calls) (one_at_a_time calls) (and_parts (created calls && one_at_a_time calls) (alternate [] calls) s).0).1
-  by_cases (inr s) =
-      let binds = list_all (λ (c : Called). is_bind_or_unbind c.callback) calls in
-      (and_parts binds (one_at_a_time calls) (and_parts (binds && one_at_a_time calls) (alternate [] calls) s).0).1
-
--- none is outstanding before the last callback
-pub none_outstanding_before : (calls : List Called) (b : Callback) → calls ≡ all_but_last calls ++ begun b ∷ [] → is_in_order calls ≡ true → is_outstanding (all_but_last calls) ≡ false
-none_outstanding_before calls b e h = none_before (all_but_last calls) (begun b) (subst (λ (l : List Called). one_at_a_time l ≡ true) e (in_turn calls h))
-
 last_some : (calls : List Called) → is_outstanding calls ≡ true → (b : Callback) × (calls ≡ all_but_last calls ++ begun b ∷ [])
 last_some [] o = absurd (false≢true o)
 last_some (c ∷ rest) o = ((get_or (c ∷ rest) (length rest) c).callback, last_at c rest c o)
@@ -124,6 +102,3 @@ last_some (c ∷ rest) o = ((get_or (c ∷ rest) (length rest) c).callback, last
 -- what is left once an outstanding callback is taken back
 pub phase_taken_back : (calls : List Called) → is_outstanding calls ≡ true → phase_of calls ≡ phase_of (all_but_last calls)
 phase_taken_back calls o = let l = last_some calls o in phase_before calls l.0 l.1
-
-pub outstanding_taken_back : (calls : List Called) → is_outstanding calls ≡ true → is_in_order calls ≡ true → is_outstanding (all_but_last calls) ≡ false
-outstanding_taken_back calls o h = let l = last_some calls o in none_outstanding_before calls l.0 l.1 h

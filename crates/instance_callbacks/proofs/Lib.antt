@@ -1,3 +1,2 @@
-pub mod ByNameLemmas
 pub mod HeldLemmas
 pub mod LastLemmas

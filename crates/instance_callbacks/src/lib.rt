@@ -1,11 +1,9 @@
 //! The callbacks of one instance, and beside them what they say of it.
 #![tactic(auto)]
 
-mod held_services;
 mod holdings;
 mod instance_callbacks;
 mod services;
 mod steps;
 
-pub use held_services::HeldServices;
 pub use instance_callbacks::InstanceCallbacks;

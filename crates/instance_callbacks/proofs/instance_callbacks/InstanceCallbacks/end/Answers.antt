@@ -8,8 +8,9 @@ use Rattle.instance_callbacks.proofs.instance_callbacks.InstanceCallbacks.end.Go
 
 pub invariant_of-self : goal.invariant_of-self
 invariant_of-self c =
-    let as_ended : ended c.args.outcome c.calls-calls.result.now ≡ c.end.new.self = ap (ended c.args.outcome) c.calls-calls.ensures.all ∙ sym c.end.ensures in record {
+    let as_ended : ended c.args.outcome c.as_slice.result.now ≡ c.end_last.new.calls.items = ap (ended c.args.outcome) c.as_slice.ensures.value ∙ sym c.end_last.ensures in
+    let as_ended_2 : ended c.args.outcome c.as_slice-2.result.now ≡ c.end_last.new.calls.items = ap (ended c.args.outcome) c.as_slice-2.ensures.value ∙ sym c.end_last.ensures in record {
       phase = c.phase_ended-self-inside.ensures ∙ ap phase_of as_ended;
-      outstanding = sym (ap is_outstanding c.end.ensures ∙ outstanding_ended c.args.outcome c.self.inside.word);
-      held = subst (λ (calls : List Called). AreHeld calls c.hold_ended.new.rows.items) as_ended (c.hold_ended.ensures c.args.outcome);
+      outstanding = sym (ap is_outstanding c.end_last.ensures ∙ outstanding_ended c.args.outcome c.self.inside.calls.items);
+      held = subst (λ (calls : List Called). AreHeld calls c.hold_ended.new.rows.items) as_ended_2 (c.hold_ended.ensures c.args.outcome);
     }
