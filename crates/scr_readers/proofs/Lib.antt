@@ -2,7 +2,6 @@ pub mod StableOrder
 pub mod FoundServices
 pub mod SameStates
 pub mod BestOne
-pub mod BoundServices
 pub mod BestHeld
 pub mod FirstReached
 pub mod TurnLemmas

@@ -1,8 +1,5 @@
 -- Words of the crate's own code.
 use Rattle.std.specs.Prelude.{◌≡◌, ℕ, List, [], ◌∷◌, Bool, true, false, Option, Some, None, if◌then◌else◌}
-use Rattle.std.specs.Str.{bytes_eq}
-use Rattle.callback_orders.specs.declared.callback.Callback.{Callback}
-use Rattle.callback_orders.specs.declared.callback.Callback.TheVariants.{Bind}
 use Rattle.service_registry.specs.Services.{ranks_before}
 use Rattle.scr_world.specs.declared.world.World.{World}
 use Rattle.scr_world.specs.Worlds.{ranking_of}
@@ -20,11 +17,6 @@ IsBestBy before p (Some m) = (p m ≡ true) × ((y : ℕ) → p y ≡ true → b
 abbrev pub better_one : (ℕ → ℕ → Bool) → ℕ → Option ℕ → ℕ
 better_one before x None = x
 better_one before x (Some m) = if before x m then x else m
-
--- the service that a callback binds for the reference of a name
-abbrev pub bound_by : List ℕ → Callback → List ℕ
-bound_by name (Bind reference service) = if bytes_eq reference name then service ∷ [] else []
-bound_by name _ = []
 
 -- the order of services by their present or last properties
 abbrev pub better_by : World → ℕ → ℕ → Bool

@@ -87,7 +87,7 @@ fn nested_of(
     ensures { IfOk result (λ reached. reached
         ≡ inward_to world.now (bundle_of_instance world.now instance.now) (held_best_first world.now reference.now instance.now)) }
 {
-    let best = best_held(own, world, instance.callbacks.calls(), reference);
+    let best = best_held(own, world, instance.callbacks.held(reference));
     let bundle = bundle_of_instance(world, instance);
     let reached = inward_by_best(alloc, own, world, bundle, best)?;
     Ok(reached)

@@ -55,7 +55,7 @@ pub fn nested_at(own: &OwnRows, world: &World, instance: u64, reference: &Str) -
 fn nested_of(own: &OwnRows, world: &World, instance: &Instance, reference: &Str) -> InwardAt
     ensures { result ≡ inward_at (inward_to world.now (bundle_of_instance world.now instance.now) (held_best_first world.now reference.now instance.now)) }
 {
-    let best = best_held(own, world, instance.callbacks.calls(), reference);
+    let best = best_held(own, world, instance.callbacks.held(reference));
     let bundle = bundle_of_instance(world, instance);
     inward_by_best(own, world, bundle, best)
 }

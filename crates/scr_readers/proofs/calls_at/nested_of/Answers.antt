@@ -1,6 +1,4 @@
-use Rattle.std.proofs.Common.{ap, ◌∙◌, List}
-use Rattle.callback_orders.specs.declared.word.Called.{Called}
-use Rattle.callback_orders.specs.Lives.{held_for}
+use Rattle.std.proofs.Common.{ap, ◌∙◌, ℕ, List}
 use Rattle.scr_world.specs.Worlds.{sorted}
 use Rattle.scr_readers.specs.Inside.{first_one}
 use Rattle.scr_readers.specs.Reaching.{held_best_first, inward_at, inward_to}
@@ -10,4 +8,4 @@ pub returns : goal.returns
 returns c =
     let w = c.args.world.now in
     let held = held_best_first w c.args.reference.now c.args.instance.now in
-    c.inward_by_best.ensures held (c.best_held-best.ensures ∙ ap (λ (l : List Called). first_one (sorted w (held_for c.args.reference.now l))) c.as_slice.ensures) ∙ ap (λ b. inward_at (inward_to w b held)) c.bundle_of_instance-bundle.ensures
+    c.inward_by_best.ensures held (c.best_held-best.ensures ∙ ap (λ (ns : List ℕ). first_one (sorted w ns)) c.held.ensures) ∙ ap (λ b. inward_at (inward_to w b held)) c.bundle_of_instance-bundle.ensures
