@@ -2,7 +2,7 @@
 
 use crate::samples::text;
 use callback_orders::{Callback, Outcome, Phase};
-use instance_callbacks::{HeldServices, InstanceCallbacks};
+use instance_callbacks::InstanceCallbacks;
 use prop_map::Copies;
 use std::test::Fail;
 
@@ -10,7 +10,7 @@ use std::test::Fail;
 fn a_service_is_held_from_its_bind_on(rt: HostRuntime) -> Result<(), Fail> {
     let alloc = rt.alloc();
     let log = text(alloc, "log")?;
-    let mut callbacks = InstanceCallbacks::new(alloc)?;
+    let mut callbacks = InstanceCallbacks::new(alloc);
     callbacks.begin(alloc, Callback::Create)?;
     callbacks.end(Outcome::Done);
     callbacks.begin(
@@ -21,10 +21,7 @@ fn a_service_is_held_from_its_bind_on(rt: HostRuntime) -> Result<(), Fail> {
         },
     )?;
     assert!(rt; callbacks.held(&log) == [4u64].as_slice());
-    let by_name = HeldServices::of(alloc, callbacks.calls())?;
-    assert!(rt; by_name.held(&log) == [4u64].as_slice());
-    assert!(rt; by_name.held(&text(alloc, "a")?).is_empty());
-    drop(by_name);
+    assert!(rt; callbacks.held(&text(alloc, "a")?).is_empty());
     callbacks.take_back();
     assert!(rt; callbacks.held(&log).is_empty());
     Ok(())
@@ -33,10 +30,15 @@ fn a_service_is_held_from_its_bind_on(rt: HostRuntime) -> Result<(), Fail> {
 #[test]
 fn a_begun_callback_is_outstanding(rt: HostRuntime) -> Result<(), Fail> {
     let alloc = rt.alloc();
-    let mut callbacks = InstanceCallbacks::new(alloc)?;
+    let mut callbacks = InstanceCallbacks::new(alloc);
     callbacks.begin(alloc, Callback::Create)?;
     assert!(rt; callbacks.is_outstanding());
     assert!(rt; callbacks.phase() == Phase::Making);
-    assert!(rt; callbacks.copy(alloc)?.calls().len() == 1);
+    let before = callbacks.copy(alloc)?;
+    assert!(rt; before.calls().len() == 1);
+    assert!(rt; before == callbacks);
+    callbacks.end(Outcome::Done);
+    assert!(rt; before != callbacks);
+    assert!(rt; !callbacks.is_outstanding());
     Ok(())
 }
