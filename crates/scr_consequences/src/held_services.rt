@@ -39,9 +39,7 @@ fn has_service(callbacks: &InstanceCallbacks, name: &Str, service: u64) -> bool
 fn holds_for(references: &[Reference], callbacks: &InstanceCallbacks, service: u64) -> bool
     ensures { result ≡ list_any (λ (r : Reference). has (held_for r.name callbacks.now) service) references.now }
 {
-    references
-        .iter()
-        .any(|reference| has_service(callbacks, &reference.name, service))
+    references.iter().any(|reference| has_service(callbacks, &reference.name, service))
 }
 
 // Whether it is held for one of two references.

@@ -22,7 +22,8 @@ fn reserved_for(instance: &Instance) -> u64
     ensures small { result ≤ 2 }
 {
     let calls = instance.callbacks.calls();
-    u64::from(instance.callbacks.is_outstanding()) + u64::from(is_activated(calls) && !instance.drained)
+    u64::from(instance.callbacks.is_outstanding())
+        + u64::from(is_activated(calls) && !instance.drained)
 }
 
 fn reserved_for_all(instances: &[Instance]) -> u128
