@@ -1,5 +1,5 @@
 -- The best of what is held, found by one service after the other.
-use Rattle.std.proofs.Common.{◌≡◌, ◌<◌, ◌+◌, ℕ, List, [], ◌∷◌, ◌++◌, ap, sym, ◌∙◌, refl, Bool, true, false, Option, length, take, get_or}
+use Rattle.std.proofs.Common.{◌≡◌, ◌<◌, ◌+◌, ℕ, List, [], ◌∷◌, ◌++◌, ap, ◌∙◌, refl, Bool, true, false, Option, length, take, get_or}
 use Rattle.std.proofs.lemmas.List.{take_more}
 use Rattle.std.specs.Prelude.{◌||◌, ◌==◌}
 use Rattle.prop_map.specs.Words.{has, in_order}
@@ -25,11 +25,8 @@ one_behind y s (x ∷ xs) = ap (λ b. (x == y) || b) (one_behind y s xs) ∙ oth
     other_first true false c = refl
     other_first false b c = refl
 
-pub one_further : (held : List ℕ) (i s y : ℕ) → i < length held → s ≡ get_or held i s → has (take (i + 1) held) y ≡ ((s == y) || has (take i held) y)
-one_further held i s y within is =
-    ap (λ (l : List ℕ). has l y) (take_more held i s within)
-    ∙ ap (λ (n : ℕ). has (take i held ++ n ∷ []) y) (sym is)
-    ∙ one_behind y s (take i held)
+pub one_further : (held : List ℕ) (i d y : ℕ) → i < length held → has (take (i + 1) held) y ≡ ((get_or held i d == y) || has (take i held) y)
+one_further held i d y within = ap (λ (l : List ℕ). has l y) (take_more held i d within) ∙ one_behind y (get_or held i d) (take i held)
 
 -- services of different numbers are told apart by their rankings and numbers
 module _ (w : World) where

@@ -11,8 +11,8 @@ pub(crate) fn best_held(own: &OwnRows, world: &World, held: &[u64]) -> Option<u6
     ensures { result ≡ first_one (sorted world.now held.now) }
 {
     let mut best = None;
-    for &service in held {
-        best = Some(better_one(own, world, service, best));
+    for service in held {
+        best = Some(better_one(own, world, *service, best));
     }
     best
 }

@@ -1,4 +1,4 @@
-use Rattle.std.proofs.Common.{◌≤◌, ◌+◌, ℕ, List, Option, Some, arith, length, subst, sym, take}
+use Rattle.std.proofs.Common.{◌≤◌, ◌+◌, ℕ, List, Some, arith, get_or, length, subst, sym, take}
 use Rattle.std.proofs.lemmas.List.{take_all}
 use Rattle.prop_map.specs.Words.{has}
 use Rattle.scr_readers.specs.Inside.{IsBestBy, better_by}
@@ -11,9 +11,9 @@ loop-service-preserved c =
     let w = c.args.world.now in
     let held : List ℕ = c.args.held.now in
     let i = c.loop-service.service-index in
-    let s : ℕ = c.service-item.result in
+    let s : ℕ = get_or held i 0 in
     subst (λ (n : ℕ). IsBestBy (better_by w) (has (take (i + 1) held)) (Some n)) (sym c.better_one.ensures)
-    (with_one (better_by w) (better_apart w) s c.loop-service.best (has (take i held)) (has (take (i + 1) held)) (λ y. one_further held i s y (omega arith) c.service-item.is) c.loop-service.invariant)
+    (with_one (better_by w) (better_apart w) s c.loop-service.best (has (take i held)) (has (take (i + 1) held)) (λ y. one_further held i 0 y (omega arith)) c.loop-service.invariant)
 
 pub returns : goal.returns
 returns c =
