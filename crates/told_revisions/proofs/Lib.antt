@@ -1,0 +1,4 @@
+pub mod FoundLemmas
+pub mod LatestLemmas
+pub mod ServiceLemmas
+pub mod ToldLemmas
