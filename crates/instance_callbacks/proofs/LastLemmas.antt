@@ -1,104 +1,78 @@
--- What the callbacks say once another one began, ended or was taken back.
-use Rattle.std.proofs.Common.{◌≡◌, ℕ, ◌-◌, suc, length, get_or, List, [], ◌∷◌, ◌++◌, true, false, refl, ap, ◌∙◌, sym, subst, arith}
-use Rattle.std.specs.Prelude.{Option, Some, None, is_none}
-use Rattle.std.proofs.lemmas.Bool.{false≢true}
+-- The callbacks, as those before the last one and the last one.
+use Rattle.std.proofs.Common.{◌≡◌, ℕ, List, [], ◌∷◌, ◌++◌, Bool, true, false, refl, ap, ◌∙◌, sym}
+use Rattle.std.specs.Prelude.{Option, Some, None, is_none, ◌&&◌}
+use Rattle.std.specs.Cmp.Lexicographic.{pointwise}
+use Rattle.std.specs.Option.{option_eq, option_map, option_map_or, option_to_list}
+use Rattle.std.proofs.Math.Bool.{and-false, and-true, and_assoc}
 use Rattle.callback_orders.specs.declared.callback.Callback.{Callback}
-use Rattle.callback_orders.specs.declared.callback.Callback.TheVariants.{Create, Bind, Updated, Unbind, Activate, Modified, Deactivate, Destroy}
 use Rattle.callback_orders.specs.declared.callback.Outcome.{Outcome}
-use Rattle.callback_orders.specs.declared.instance_view.Phase.{Phase}
-use Rattle.callback_orders.specs.declared.instance_view.Phase.TheVariants.{Making}
 use Rattle.callback_orders.specs.declared.word.Called.{Called}
-use Rattle.callback_orders.specs.Lives.{phase_by, phase_after, phase_of, held_by, held_after, held_for}
-use Rattle.callback_orders.specs.Sequences.{begun, done_with, all_but_last, ended, is_outstanding}
+use Rattle.callback_orders.specs.Lives.{held_after, held_by, held_for}
+use Rattle.callback_orders.specs.Sequences.{begun, done_with, ended, is_outstanding}
 
--- the last callback, which is outstanding, and those before it
-abbrev called : Callback → Option Outcome → Called
-called b o = record { callback = b; outcome = o }
+-- whether the last one is outstanding, and what its end makes of the callbacks
+is_outstanding-append : (earlier : List Called) (c : Called) → is_outstanding (earlier ++ c ∷ []) ≡ is_none c.outcome
+is_outstanding-append [] c = refl
+is_outstanding-append (d ∷ []) c = refl
+is_outstanding-append (d ∷ e ∷ earlier) c = is_outstanding-append (e ∷ earlier) c
 
-begun_with : (b : Callback) (o : Option Outcome) → is_none o ≡ true → called b o ≡ begun b
-begun_with b None n = refl
-begun_with b (Some o) n = absurd (false≢true n)
+pub is_outstanding-last : (earlier : List Called) (last : Option Called) → (last ≡ None → earlier ≡ [])
+    → is_outstanding (earlier ++ option_to_list last) ≡ option_map_or (λ (c : Called). is_none c.outcome) last false
+is_outstanding-last earlier None first = ap (λ calls. is_outstanding (calls ++ [])) (first refl)
+is_outstanding-last earlier (Some c) first = is_outstanding-append earlier c
 
-begun_is : (c : Called) → is_none c.outcome ≡ true → c ≡ begun c.callback
-begun_is c n = begun_with c.callback c.outcome n
+pub ended-append : (o : Outcome) (earlier : List Called) (c : Called) → ended o (earlier ++ c ∷ []) ≡ earlier ++ done_with c.callback o ∷ []
+ended-append o [] c = refl
+ended-append o (d ∷ []) c = refl
+ended-append o (d ∷ e ∷ earlier) c = ap (λ (calls : List Called). d ∷ calls) (ended-append o (e ∷ earlier) c)
 
-last_at : (c : Called) (rest : List Called) (d : Called) → is_outstanding (c ∷ rest) ≡ true
-    → c ∷ rest ≡ all_but_last (c ∷ rest) ++ begun (get_or (c ∷ rest) (length rest) d).callback ∷ []
-last_at c [] d o = ap (λ (x : Called). x ∷ []) (begun_is c o)
-last_at c (e ∷ rest) d o = ap (λ (l : List Called). c ∷ l) (last_at e rest d o)
+pub ended-last : (o : Outcome) (earlier : List Called) (last : Option Called) → (last ≡ None → earlier ≡ [])
+    → earlier ++ option_to_list (option_map (λ (c : Called). done_with c.callback o) last) ≡ ended o (earlier ++ option_to_list last)
+ended-last o earlier None first = ap (λ calls. calls ++ []) (first refl) ∙ sym (ap (λ calls. ended o (calls ++ [])) (first refl))
+ended-last o earlier (Some c) first = sym (ended-append o earlier c)
 
-pub last_before : (calls : List Called) (d : Called) → is_outstanding calls ≡ true
-    → calls ≡ all_but_last calls ++ begun (get_or calls (length calls - 1) d).callback ∷ []
-last_before [] d o = absurd (false≢true o)
-last_before (c ∷ rest) d o =
-    let e : length rest ≡ suc (length rest) - 1 = omega arith in
-    subst (λ (i : ℕ). c ∷ rest ≡ all_but_last (c ∷ rest) ++ begun (get_or (c ∷ rest) i d).callback ∷ []) e (last_at c rest d o)
+pub is_outstanding-ended : (o : Outcome) (calls : List Called) → is_outstanding (ended o calls) ≡ false
+is_outstanding-ended o [] = refl
+is_outstanding-ended o (c ∷ []) = refl
+is_outstanding-ended o (c ∷ d ∷ []) = refl
+is_outstanding-ended o (c ∷ d ∷ e ∷ calls) = is_outstanding-ended o (d ∷ e ∷ calls)
 
-ended_onto : (o : Outcome) (calls : List Called) (c : Called) → ended o (calls ++ c ∷ []) ≡ calls ++ done_with c.callback o ∷ []
-ended_onto o [] c = refl
-ended_onto o (d ∷ []) c = refl
-ended_onto o (d ∷ e ∷ rest) c = ap (λ (l : List Called). d ∷ l) (ended_onto o (e ∷ rest) c)
+-- what is held by one callback more
+held_after-append : (name held : List ℕ) (calls : List Called) (c : Called) → held_after name held (calls ++ c ∷ []) ≡ held_by name c.callback c.outcome (held_after name held calls)
+held_after-append name held [] c = refl
+held_after-append name held (d ∷ calls) c = held_after-append name (held_by name d.callback d.outcome held) calls c
 
-pub ended_last : (o : Outcome) (calls : List Called) (b : Callback) → calls ≡ all_but_last calls ++ begun b ∷ [] → ended o calls ≡ all_but_last calls ++ done_with b o ∷ []
-ended_last o calls b e = ap (ended o) e ∙ ended_onto o (all_but_last calls) (begun b)
+pub held_for-begun : (name : List ℕ) (calls : List Called) (b : Callback) → held_for name (calls ++ begun b ∷ []) ≡ held_by name b None (held_for name calls)
+held_for-begun name calls b = held_after-append name [] calls (begun b)
 
-phase_onto : (p : Phase) (calls : List Called) (c : Called) → phase_after p (calls ++ c ∷ []) ≡ phase_by c.callback c.outcome (phase_after p calls)
-phase_onto p [] c = refl
-phase_onto p (d ∷ rest) c = phase_onto (phase_by d.callback d.outcome p) rest c
+pub held_for-ended : (name : List ℕ) (o : Outcome) (calls : List Called) (b : Callback) → held_for name (ended o (calls ++ begun b ∷ [])) ≡ held_by name b (Some o) (held_for name calls)
+held_for-ended name o calls b = ap (held_for name) (ended-append o calls (begun b)) ∙ held_after-append name [] calls (done_with b o)
 
-begins_same : (b : Callback) (p : Phase) → phase_by b None p ≡ p
-begins_same Create p = refl
-begins_same (Bind r s) p = refl
-begins_same (Updated r s) p = refl
-begins_same (Unbind r s) p = refl
-begins_same Activate p = refl
-begins_same Modified p = refl
-begins_same Deactivate p = refl
-begins_same Destroy p = refl
+-- two lists of callbacks are equal where those before the last ones are, and the last ones
+module _ {X : Type 0} (same : X → X → Bool) where
+  one_more : (xs ys : List X) (x y : X) → pointwise same (xs ++ x ∷ []) (ys ++ y ∷ []) ≡ (pointwise same xs ys && same x y)
+  one_more [] [] x y = and-true (same x y)
+  one_more [] (b ∷ []) x y = and-false (same x b)
+  one_more [] (b ∷ d ∷ ys) x y = and-false (same x b)
+  one_more (a ∷ []) [] x y = and-false (same a y)
+  one_more (a ∷ d ∷ xs) [] x y = and-false (same a y)
+  one_more (a ∷ xs) (b ∷ ys) x y = ap (λ c. same a b && c) (one_more xs ys x y) ∙ sym (and_assoc (same a b) (pointwise same xs ys) (same x y))
 
--- a callback that begins leaves the phase as it is
-pub phase_begun : (calls : List Called) (b : Callback) → phase_of (calls ++ begun b ∷ []) ≡ phase_of calls
-phase_begun calls b = phase_onto Making calls (begun b) ∙ begins_same b (phase_of calls)
+  none_here : (ys : List X) (y : X) → pointwise same [] (ys ++ y ∷ []) ≡ false
+  none_here [] y = refl
+  none_here (b ∷ ys) y = refl
 
--- the phase before the last callback, and once it has ended
-pub phase_before : (calls : List Called) (b : Callback) → calls ≡ all_but_last calls ++ begun b ∷ [] → phase_of calls ≡ phase_of (all_but_last calls)
-phase_before calls b e = ap phase_of e ∙ phase_begun (all_but_last calls) b
+  none_there : (xs : List X) (x : X) → pointwise same (xs ++ x ∷ []) [] ≡ false
+  none_there [] x = refl
+  none_there (a ∷ xs) x = refl
 
-pub phase_ended : (o : Outcome) (calls : List Called) (b : Callback) → calls ≡ all_but_last calls ++ begun b ∷ [] → phase_of (ended o calls) ≡ phase_by b (Some o) (phase_of calls)
-phase_ended o calls b e =
-    ap phase_of (ended_last o calls b e)
-    ∙ phase_onto Making (all_but_last calls) (done_with b o)
-    ∙ ap (phase_by b (Some o)) (sym (phase_before calls b e))
-
-held_onto : (name held : List ℕ) (calls : List Called) (c : Called) → held_after name held (calls ++ c ∷ []) ≡ held_by name c.callback c.outcome (held_after name held calls)
-held_onto name held [] c = refl
-held_onto name held (d ∷ rest) c = held_onto name (held_by name d.callback d.outcome held) rest c
-
-pub held_begun : (name : List ℕ) (calls : List Called) (b : Callback) → calls ≡ all_but_last calls ++ begun b ∷ [] → held_for name calls ≡ held_by name b None (held_for name (all_but_last calls))
-held_begun name calls b e = ap (held_for name) e ∙ held_onto name [] (all_but_last calls) (begun b)
-
-pub held_ended : (name : List ℕ) (o : Outcome) (calls : List Called) (b : Callback) → calls ≡ all_but_last calls ++ begun b ∷ []
-    → held_for name (ended o calls) ≡ held_by name b (Some o) (held_for name (all_but_last calls))
-held_ended name o calls b e = ap (held_for name) (ended_last o calls b e) ∙ held_onto name [] (all_but_last calls) (done_with b o)
-
-outstanding_onto : (calls : List Called) (c : Called) → is_outstanding (calls ++ c ∷ []) ≡ is_none c.outcome
-outstanding_onto [] c = refl
-outstanding_onto (d ∷ []) c = refl
-outstanding_onto (d ∷ e ∷ rest) c = outstanding_onto (e ∷ rest) c
-
-pub outstanding_begun : (calls : List Called) (b : Callback) → is_outstanding (calls ++ begun b ∷ []) ≡ true
-outstanding_begun calls b = outstanding_onto calls (begun b)
-
-pub outstanding_ended : (o : Outcome) (calls : List Called) → is_outstanding (ended o calls) ≡ false
-outstanding_ended o [] = refl
-outstanding_ended o (c ∷ []) = refl
-outstanding_ended o (c ∷ d ∷ []) = refl
-outstanding_ended o (c ∷ d ∷ e ∷ rest) = outstanding_ended o (d ∷ e ∷ rest)
-
-last_some : (calls : List Called) → is_outstanding calls ≡ true → (b : Callback) × (calls ≡ all_but_last calls ++ begun b ∷ [])
-last_some [] o = absurd (false≢true o)
-last_some (c ∷ rest) o = ((get_or (c ∷ rest) (length rest) c).callback, last_at c rest c o)
-
--- what is left once an outstanding callback is taken back
-pub phase_taken_back : (calls : List Called) → is_outstanding calls ≡ true → phase_of calls ≡ phase_of (all_but_last calls)
-phase_taken_back calls o = let l = last_some calls o in phase_before calls l.0 l.1
+  pub pointwise-last : (xs ys : List X) (x y : Option X) → (x ≡ None → xs ≡ []) → (y ≡ None → ys ≡ [])
+      → (pointwise same xs ys && option_eq same x y) ≡ pointwise same (xs ++ option_to_list x) (ys ++ option_to_list y)
+  pointwise-last xs ys None None f g =
+      ap (λ l. pointwise same l ys && true) (f refl) ∙ ap (λ l. pointwise same [] l && true) (g refl)
+      ∙ sym (ap (λ l. pointwise same (l ++ []) (ys ++ [])) (f refl) ∙ ap (λ l. pointwise same [] (l ++ [])) (g refl))
+  pointwise-last xs ys None (Some y) f g =
+      and-false (pointwise same xs ys) ∙ sym (ap (λ l. pointwise same (l ++ []) (ys ++ y ∷ [])) (f refl) ∙ none_here ys y)
+  pointwise-last xs ys (Some x) None f g =
+      and-false (pointwise same xs ys) ∙ sym (ap (λ l. pointwise same (xs ++ x ∷ []) (l ++ [])) (g refl) ∙ none_there xs x)
+  pointwise-last xs ys (Some x) (Some y) f g = sym (one_more xs ys x y)

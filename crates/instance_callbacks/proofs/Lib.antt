@@ -1,2 +1,5 @@
-pub mod HeldLemmas
+pub mod BoundLemmas
+pub mod CourseLemmas
+pub mod KeptLemmas
 pub mod LastLemmas
+pub mod UnboundLemmas

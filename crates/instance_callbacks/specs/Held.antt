@@ -1,44 +1,41 @@
 -- What is kept beside an instance's callbacks. Our own.
-use Rattle.std.specs.Prelude.{◌≡◌, ℕ, List, [], Bool, find}
-use Rattle.std.specs.Cmp.Lexicographic.{slice_cmp}
-use Rattle.std.specs.List.{AllPairs}
-use Rattle.std.specs.Option.{option_map_or}
-use Rattle.std.specs.Ordering.{nat_cmp}
-use Rattle.std.specs.Str.{bytes_eq}
-use Rattle.std.specs.declared.cmp.Ordering.{Ordering}
-use Rattle.std.specs.declared.cmp.Ordering.TheVariants.{Less}
-use Rattle.callback_orders.specs.declared.instance_view.Phase.{Phase}
+use Rattle.std.specs.Prelude.{◌≡◌, ℕ, List, [], ◌++◌, Option, Some, None, IsTrue, unwrap_or}
+use Rattle.std.specs.Option.{option_to_list}
+use Rattle.callback_orders.specs.declared.callback.Callback.{Callback}
+use Rattle.callback_orders.specs.declared.callback.Outcome.{Outcome}
 use Rattle.callback_orders.specs.declared.word.Called.{Called}
-use Rattle.callback_orders.specs.Lives.{held_for, phase_of}
-use Rattle.callback_orders.specs.Sequences.{is_outstanding}
-use Rattle.instance_callbacks.specs.declared.holdings.Holding.{Holding}
+use Rattle.callback_orders.specs.Lives.{held_by, held_for}
+use Rattle.callback_orders.specs.Sequences.{ended, is_outstanding}
+use Rattle.shared_map.specs.declared.rows.Row.{Row}
+use Rattle.shared_map.specs.Rows.{value_of}
+use Rattle.instance_callbacks.specs.Courses.{IsCourseOf}
+use Rattle.instance_callbacks.specs.declared.course.Course.{Course}
+use Rattle.instance_callbacks.specs.declared.holdings.Holdings.{Holdings}
 
--- the row of a reference
-abbrev pub is_named : List ℕ → Holding → Bool
-is_named name h = bytes_eq h.reference name
+-- the services that are kept for a reference, none where it has no row
+abbrev pub services_of : List ℕ → List (Row (List ℕ)) → List ℕ
+services_of name rows = unwrap_or (value_of name rows) []
 
--- the services of a reference's row, none where it has no row
-abbrev pub services_of : List ℕ → List Holding → List ℕ
-services_of name rows = option_map_or (λ (h : Holding). h.services) (find (is_named name) rows) []
+-- what is kept for when the last callback has ended
+abbrev pub once_ended : Holdings → List (Row (List ℕ))
+once_ended h = unwrap_or h.left h.held
 
--- the rows stand by reference in byte order, and a reference has one
-abbrev pub reference_cmp : Holding → Holding → Ordering
-reference_cmp h k = slice_cmp nat_cmp h.reference k.reference
-
-abbrev pub AreByReference : List Holding → Type 0
-AreByReference rows = AllPairs (λ (h k : Holding). reference_cmp h k ≡ Less) rows
-
--- some row of a reference, to compare with
-abbrev pub sought : List ℕ → Holding
-sought name = record { reference = name; services = [] }
+-- what is kept once a callback has begun that comes upon these rows
+pub record AreBegun (callback : Callback) (rows : List (Row (List ℕ))) (h : Holdings) : Type 0 where
+  pub begun : (name : List ℕ) → services_of name h.held ≡ held_by name callback None (services_of name rows)
+  pub ended : (outcome : Outcome) (name : List ℕ) → services_of name (once_ended h) ≡ held_by name callback (Some outcome) (services_of name rows)
 
 -- the rows have for each reference what is held by the callbacks
-pub record AreHeld (calls : List Called) (rows : List Holding) : Type 0 where
-  pub order : AreByReference rows
-  pub services : (name : List ℕ) → services_of name rows ≡ held_for name calls
+abbrev pub AreHeld : List Called → List (Row (List ℕ)) → Type 0
+AreHeld calls rows = (name : List ℕ) → services_of name rows ≡ held_for name calls
 
--- what is kept beside the callbacks is what they say
-pub record AreKept (calls : List Called) (kept_phase : Phase) (kept_outstanding : Bool) (rows : List Holding) : Type 0 where
-  pub phase : kept_phase ≡ phase_of calls
-  pub outstanding : kept_outstanding ≡ is_outstanding calls
-  pub held : AreHeld calls rows
+-- what is kept is what the callbacks say, and what they say once the last one has ended
+pub record AreHoldings (calls : List Called) (h : Holdings) : Type 0 where
+  pub held : AreHeld calls h.held
+  pub left : IsTrue (is_outstanding calls) → (outcome : Outcome) → AreHeld (ended outcome calls) (once_ended h)
+
+-- what is kept beside the callbacks: how the instance fares by those before the last one, and what it holds by all
+pub record AreKept (earlier : List Called) (last : Option Called) (c : Course) (h : Holdings) : Type 0 where
+  pub first : last ≡ None → earlier ≡ []
+  pub course : IsCourseOf earlier c
+  pub held : AreHoldings (earlier ++ option_to_list last) h

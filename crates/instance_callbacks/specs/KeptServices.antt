@@ -7,4 +7,4 @@ use Rattle.instance_callbacks.specs.declared.services.Kept.TheVariants.{Nothing,
 abbrev pub kept_services : Kept → List ℕ
 kept_services Nothing = []
 kept_services (One s) = s ∷ []
-kept_services (Several v) = v.items
+kept_services (Several services) = services

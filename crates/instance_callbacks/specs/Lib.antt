@@ -1,2 +1,4 @@
+pub mod Bound
+pub mod Courses
 pub mod Held
 pub mod KeptServices

@@ -1,121 +1,126 @@
-//! The services that are held, in a row for each reference that was bound, by reference in byte order.
-ghost use Rattle.instance_callbacks.specs.Held.{AreByReference, reference_cmp, services_of, sought};
-ghost use Rattle.instance_callbacks.specs.declared.holdings.Holding.{Holding};
-ghost use Rattle.row_places.specs.RowPlaces.{IsPlaceOrGap};
-ghost use Rattle.std.specs.Prelude.{◌≡◌, ◌==◌, ◌++◌, ◌∷◌, ◌-◌, ◌<◌, ◌≤◌, ℕ, [], filter, length, not, take, List, Err, IfOk, MatchResult, OnErr, OnOk, if◌then◌else◌};
+//! What an instance holds, by the name of the reference.
+ghost use Rattle.instance_callbacks.specs.Held.{AreBegun, services_of, once_ended};
+ghost use Rattle.std.specs.Prelude.{◌≡◌, ◌==◌, ◌++◌, ◌∷◌, ℕ, List, [], None, IfOk, filter, not, if◌then◌else◌};
 ghost use Rattle.std.specs.Str.{bytes_eq};
 
-use crate::services::Services;
+use crate::services::{Services, with, without};
+use callback_orders::Callback;
 use prop_map::{Copies, OutOfMemory, Str};
+use shared_map::SharedMap;
 use std::alloc::Global;
 
-/// A reference that was bound, and the services that are held for it.
+/// What an instance holds, by the name of the reference. The end of an Unbind takes no memory, since what is held from
+/// then on is made ready at its beginning.
 #[derive(Drop)]
-pub(crate) struct Holding {
-    pub(crate) reference: Str,
-    pub(crate) services: Services,
+pub(crate) struct Holdings {
+    // The services that are held for each reference that was bound.
+    held: SharedMap<Services>,
+    // Those that are left once the last callback has ended, if they are others.
+    left: Option<SharedMap<Services>>,
 }
 
-impl Copies for Holding {
-    fn copy(&self, alloc: Global) -> Result<Holding, OutOfMemory> {
-        Ok(Holding {
-            reference: self.reference.copy(alloc)?,
-            services: self.services.copy(alloc)?,
+impl Copies for Holdings {
+    fn copy(&self, alloc: Global) -> Result<Holdings, OutOfMemory> {
+        Ok(Holdings {
+            held: self.held.copy(alloc)?,
+            left: self.left.copy(alloc)?,
         })
     }
 }
 
-/// The services that are held for a reference, none where it has no row.
-pub(crate) fn services_of<'a>(rows: &'a [Holding], reference: &Str) -> &'a [u64]
-    requires { AreByReference rows.now }
-    ensures { result.now ≡ services_of reference.now rows.now }
-{
-    match place_of(rows, reference.as_str()) {
-        Ok(place) => rows[place].services.as_slice(),
-        Err(_) => &[],
+impl Holdings {
+    /// Nothing is held. It takes no memory.
+    pub(crate) fn new(alloc: Global) -> Holdings
+        ensures held { result.held ≡ [] }
+        ensures left { result.left ≡ None }
+    {
+        Holdings {
+            held: SharedMap::new(alloc),
+            left: None,
+        }
+    }
+
+    /// The services that are held for a reference, none where there was no Bind.
+    pub(crate) fn services(&self, reference: &Str) -> &[u64]
+        ensures { result.now ≡ services_of reference.now self.now.held }
+    {
+        services_in(&self.held, reference)
+    }
+
+    /// What is held once a callback more has begun.
+    ///
+    /// # Errors
+    /// Only want of memory.
+    pub(crate) fn begun(&self, alloc: Global, callback: &Callback) -> Result<Holdings, OutOfMemory>
+        ensures { IfOk result (λ holdings. AreBegun callback.now self.now.held holdings) }
+    {
+        let held = match callback {
+            Callback::Bind { reference, service } => bound(alloc, &self.held, reference, *service)?,
+            _ => self.held.copy(alloc)?,
+        };
+        let left = match callback {
+            Callback::Unbind { reference, service } => {
+                Some(unbound(alloc, &self.held, reference, *service)?)
+            }
+            _ => None,
+        };
+        Ok(Holdings { held, left })
+    }
+
+    /// The last callback ends. It takes no memory.
+    pub(crate) fn end(&mut self)
+        ensures held { self.new.held ≡ once_ended self.old }
+        ensures left { self.new.left ≡ None }
+    {
+        if let Some(left) = self.left.take() {
+            self.held = left;
+        }
     }
 }
 
-// Where a reference's row stands, or the gap where it would stand. It is found by halving.
-fn place_of(rows: &[Holding], reference: &str) -> Result<usize, usize>
-    requires { AreByReference rows.now }
-    ensures place { IsPlaceOrGap (λ (h : Holding). reference_cmp h (sought reference.now)) result rows.now }
-    ensures within { MatchResult result (λ place. place < length rows.now) (λ gap. gap ≤ length rows.now) }
+fn services_in<'a>(held: &'a SharedMap<Services>, reference: &Str) -> &'a [u64]
+    ensures { result.now ≡ services_of reference.now held.now }
 {
-    rows.binary_search_by(|row| row.reference.as_str().cmp(reference))
+    match held.value(reference.as_str()) {
+        Some(services) => services.as_slice(),
+        None => &[],
+    }
 }
 
-/// Holds a service more for a reference.
-pub(crate) fn add(
+// What is held, but for one reference these services.
+fn changed(
     alloc: Global,
-    rows: &mut Vec<Holding>,
+    held: &SharedMap<Services>,
+    reference: &Str,
+    services: Services,
+) -> Result<SharedMap<Services>, OutOfMemory>
+    ensures { IfOk result (λ rows. (name : List ℕ) → services_of name rows ≡ (if bytes_eq reference.now name then services else services_of name held.now)) }
+{
+    let mut rows = held.copy(alloc)?;
+    rows.set(alloc, reference.copy(alloc)?, services)?;
+    Ok(rows)
+}
+
+fn bound(
+    alloc: Global,
+    held: &SharedMap<Services>,
     reference: &Str,
     service: u64,
-) -> Result<(), OutOfMemory>
-    requires { AreByReference rows.old.items }
-    ensures ok { OnOk result ((name : List ℕ) → services_of name rows.new.items ≡ (if bytes_eq reference.now name then services_of name rows.old.items ++ service ∷ [] else services_of name rows.old.items)) }
-    ensures err { OnErr result ((name : List ℕ) → services_of name rows.new.items ≡ services_of name rows.old.items) }
-    ensures order { AreByReference rows.new.items }
+) -> Result<SharedMap<Services>, OutOfMemory>
+    ensures { IfOk result (λ rows. (name : List ℕ) → services_of name rows ≡ (if bytes_eq reference.now name then services_of name held.now ++ service ∷ [] else services_of name held.now)) }
 {
-    match place_of(rows.as_slice(), reference.as_str()) {
-        Ok(place) => rows[place].services.add(alloc, service),
-        Err(gap) => add_row(alloc, rows, gap, reference, service),
-    }
+    let more = with(alloc, services_in(held, reference), service)?;
+    changed(alloc, held, reference, more)
 }
 
-// The first service for a reference, in the gap where its row would stand.
-fn add_row(
+fn unbound(
     alloc: Global,
-    rows: &mut Vec<Holding>,
-    gap: usize,
+    held: &SharedMap<Services>,
     reference: &Str,
     service: u64,
-) -> Result<(), OutOfMemory>
-    requires order { AreByReference rows.old.items }
-    requires place { IsPlaceOrGap (λ (h : Holding). reference_cmp h (sought reference.now)) (Err gap) rows.old.items }
-    ensures ok { OnOk result ((name : List ℕ) → services_of name rows.new.items ≡ (if bytes_eq reference.now name then services_of name rows.old.items ++ service ∷ [] else services_of name rows.old.items)) }
-    ensures err { OnErr result (rows.new.items ≡ rows.old.items) }
-    ensures order { AreByReference rows.new.items }
+) -> Result<SharedMap<Services>, OutOfMemory>
+    ensures { IfOk result (λ rows. (name : List ℕ) → services_of name rows ≡ (if bytes_eq reference.now name then filter (λ s. not (s == service)) (services_of name held.now) else services_of name held.now)) }
 {
-    let row = Holding {
-        reference: reference.copy(alloc)?,
-        services: Services::one(service),
-    };
-    rows.insert(gap, row)?;
-    Ok(())
-}
-
-/// A service isn't held any more for a reference.
-pub(crate) fn let_go(rows: &mut Vec<Holding>, reference: &Str, service: u64)
-    requires { AreByReference rows.old.items }
-    ensures held { (name : List ℕ) → services_of name rows.new.items ≡ (if bytes_eq reference.now name then filter (λ s. not (s == service)) (services_of name rows.old.items) else services_of name rows.old.items) }
-    ensures order { AreByReference rows.new.items }
-{
-    match place_of(rows.as_slice(), reference.as_str()) {
-        Ok(place) => rows[place].services.let_go(service),
-        Err(_) => {}
-    }
-}
-
-/// Takes the newest service of a reference back.
-pub(crate) fn take_back(rows: &mut Vec<Holding>, reference: &Str)
-    requires { AreByReference rows.old.items }
-    ensures held { (name : List ℕ) → services_of name rows.new.items ≡ (if bytes_eq reference.now name then take (length (services_of name rows.old.items) - 1) (services_of name rows.old.items) else services_of name rows.old.items) }
-    ensures order { AreByReference rows.new.items }
-{
-    match place_of(rows.as_slice(), reference.as_str()) {
-        Ok(place) => rows[place].services.take_back(),
-        Err(_) => {}
-    }
-}
-
-/// Equal rows beside them.
-pub(crate) fn copied(alloc: Global, rows: &[Holding]) -> Result<Vec<Holding>, OutOfMemory>
-    ensures { IfOk result (λ v. v.items ≡ rows.now) }
-{
-    let mut copies = Vec::new(alloc);
-    for row in rows {
-        copies.push(row.copy(alloc)?)?;
-    }
-    Ok(copies)
+    let rest = without(alloc, services_in(held, reference), service)?;
+    changed(alloc, held, reference, rest)
 }

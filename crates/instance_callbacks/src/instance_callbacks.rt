@@ -1,43 +1,56 @@
 //! The callbacks of one instance so far, and beside them what they say of it (OSGi Compendium 8, section 112.5
 //! "Component Life Cycle").
-ghost use Rattle.callback_orders.specs.Lives.{held_for, phase_of};
+ghost use Rattle.callback_orders.specs.Grammar.{is_activate};
+ghost use Rattle.callback_orders.specs.Lives.{held_for, is_living, phase_of};
+ghost use Rattle.callback_orders.specs.Sequences.{begun, done_with, ended, is_failed, is_outstanding};
 ghost use Rattle.callback_orders.specs.contracts.word.CalledPartialEq.TheImpl as called_same;
 ghost use Rattle.callback_orders.specs.contracts.word.CalledPartialEq.TheImpl.Laws as called_per;
 ghost use Rattle.callback_orders.specs.contracts.word.CalledEq.TheImpl.Laws as called_equiv;
-ghost use Rattle.callback_orders.specs.Sequences.{all_but_last, begun, ended, is_outstanding};
+ghost use Rattle.callback_orders.specs.declared.word.Called.{Called};
+ghost use Rattle.instance_callbacks.specs.Bound.{was_bound};
+ghost use Rattle.instance_callbacks.specs.Courses.{IsCourseOf};
 ghost use Rattle.std.specs.Cmp.Lexicographic.{lists_equiv, lists_per, pointwise};
-ghost use Rattle.std.specs.Prelude.{◌≡◌, ◌++◌, ◌∷◌, [], IfOk, IsTrue, OnErr, OnOk};
+ghost use Rattle.std.specs.List.{list_any, slice_get};
+ghost use Rattle.std.specs.Option.{option_copied, option_map, option_to_list};
+ghost use Rattle.std.specs.Prelude.{◌≡◌, ◌++◌, ◌∷◌, ◌-◌, ◌&&◌, [], IsTrue, OnErr, OnOk, length, not};
 
-use crate::holdings::{Holding, copied, services_of};
-use crate::steps::{hold_begun, hold_ended, hold_taken_back, phase_ended};
-use callback_orders::{Callback, Called, Outcome, Phase, is_outstanding};
+use crate::bound;
+use crate::course::Course;
+use crate::holdings::Holdings;
+use callback_orders::{Callback, Called, Outcome, Phase};
 use prop_map::{Copies, OutOfMemory, Str};
+use shared_log::SharedLog;
 use std::alloc::Global;
 use std::fmt;
 use std::marker::Model;
 
-/// The callbacks of one instance so far, each with its outcome once it has ended, in whatever order they came. Contracts
-/// see the list of them. How far the instance is, whether a callback is outstanding and what it holds are kept beside
-/// the list, so nobody goes over the list to know it.
+/// The callbacks of one instance so far, each with its outcome once it has ended, in whatever order they came.
+/// Contracts see the list of them. How the instance fares by them and what it holds are kept beside the list, so nobody
+/// goes over the list to know it. A copy shares what is kept: it takes memory and time by the logarithm of how many
+/// callbacks there are, and of how many references.
 #[derive(Drop)]
 pub struct InstanceCallbacks {
-    calls: Vec<Called>,
-    phase: Phase,
-    outstanding: bool,
-    held: Vec<Holding>,
+    // All but the last one.
+    earlier: SharedLog<Called>,
+    last: Option<Called>,
+    // How the instance fares by those before the last one.
+    course: Course,
+    // What it holds by all of them.
+    held: Holdings,
 }
 
 impl Model for InstanceCallbacks {
-    ghost use Rattle.std.specs.Prelude.{List};
+    ghost use Rattle.std.specs.Prelude.{List, ◌++◌};
+    ghost use Rattle.std.specs.Option.{option_to_list};
     ghost use Rattle.callback_orders.specs.declared.word.Called.{Called};
 
     ghost Value = { List Called };
 
     ghost use Rattle.instance_callbacks.specs.Held.{AreKept};
 
-    ghost view = { λ i. i.calls.items };
+    ghost view = { λ i. i.earlier ++ option_to_list i.last };
 
-    ghost invariant = { λ i. AreKept i.calls.items i.phase i.outstanding i.held.items };
+    ghost invariant = { λ i. AreKept i.earlier i.last i.course i.held };
 }
 
 impl PartialEq for InstanceCallbacks {
@@ -46,7 +59,7 @@ impl PartialEq for InstanceCallbacks {
     ghost laws = { lists_per called_per.laws-law };
 
     fn eq(&self, other: &InstanceCallbacks) -> bool {
-        self.calls.as_slice() == other.calls.as_slice()
+        self.earlier == other.earlier && self.last == other.last
     }
 }
 
@@ -56,17 +69,25 @@ impl Eq for InstanceCallbacks {
 
 impl fmt::Debug for InstanceCallbacks {
     fn fmt<W: fmt::Write>(&self, f: &mut fmt::Formatter<W>) -> fmt::Result {
-        f.debug_list().entries(self.calls.iter()).finish()
+        let earlier = self
+            .earlier
+            .parts()
+            .iter()
+            .flat_map(|part| part.get().as_slice());
+        f.debug_list()
+            .entries(earlier)
+            .entries(self.last.iter())
+            .finish()
     }
 }
 
 impl Copies for InstanceCallbacks {
     fn copy(&self, alloc: Global) -> Result<InstanceCallbacks, OutOfMemory> {
         Ok(InstanceCallbacks {
-            calls: copied_calls(alloc, self.calls.as_slice())?,
-            phase: self.phase,
-            outstanding: self.outstanding,
-            held: copied(alloc, self.held.as_slice())?,
+            earlier: self.earlier.copy(alloc)?,
+            last: self.last.copy(alloc)?,
+            course: self.course,
+            held: self.held.copy(alloc)?,
         })
     }
 }
@@ -77,18 +98,37 @@ impl InstanceCallbacks {
         ensures { result ≡ [] }
     {
         InstanceCallbacks {
-            calls: Vec::new(alloc),
-            phase: Phase::Making,
-            outstanding: false,
-            held: Vec::new(alloc),
+            earlier: SharedLog::new(alloc),
+            last: None,
+            course: Course::new(),
+            held: Holdings::new(alloc),
         }
     }
 
-    /// The callbacks, the first one first.
-    pub fn calls(&self) -> &[Called]
-        ensures { result.now ≡ self.now }
+    /// The last callback, if there is one.
+    pub fn last(&self) -> Option<&Called>
+        ensures { option_copied result ≡ slice_get self.now (length self.now - 1) }
     {
-        self.calls.as_slice()
+        self.last.as_ref()
+    }
+
+    /// Whether the last callback has begun and not ended.
+    pub fn is_outstanding(&self) -> bool
+        ensures { result ≡ is_outstanding self.now }
+    {
+        self.last
+            .as_ref()
+            .is_some_and(|called| called.outcome.is_none())
+    }
+
+    // How the instance fares by all callbacks.
+    fn course(&self) -> Course
+        ensures { IsCourseOf self.now result }
+    {
+        match &self.last {
+            Some(called) => self.course.after(called),
+            None => self.course,
+        }
     }
 
     /// How far the instance is: it is in the making until an Activate has ended. It is active from the end of one that
@@ -96,23 +136,48 @@ impl InstanceCallbacks {
     pub fn phase(&self) -> Phase
         ensures { result ≡ phase_of self.now }
     {
-        self.phase
+        self.course().phase
     }
 
-    /// Whether the last callback has begun and not ended.
-    pub fn is_outstanding(&self) -> bool
-        ensures { result ≡ is_outstanding self.now }
+    /// Whether an Activate ended other than Done.
+    pub fn has_failed(&self) -> bool
+        ensures { result ≡ list_any (λ (c : Called). is_activate c.callback && is_failed c.outcome) self.now }
     {
-        self.outstanding
+        self.course().has_failed
+    }
+
+    /// Whether an Activate is outstanding or ended Done.
+    pub fn is_activated(&self) -> bool
+        ensures { result ≡ list_any (λ (c : Called). is_activate c.callback && not (is_failed c.outcome)) self.now }
+    {
+        self.course().is_activated
+    }
+
+    /// Whether the instance goes on: no Destroy of it has ended, and no Create of it failed.
+    pub fn is_living(&self) -> bool
+        ensures { result ≡ is_living self.now }
+    {
+        self.course().is_living
     }
 
     /// The services that are held for the reference of a name, in the order of their Binds, none where there was no
-    /// Bind. A service is held from the beginning of its Bind to the end of its Unbind. Its reference is found by halving
-    /// among those that were bound, and no callback is looked at.
+    /// Bind. A service is held from the beginning of its Bind to the end of its Unbind. Its reference is found by
+    /// halving among those that were bound, and no callback is looked at.
     pub fn held(&self, name: &Str) -> &[u64]
         ensures { result.now ≡ held_for name.now self.now }
     {
-        services_of(self.held.as_slice(), name)
+        self.held.services(name)
+    }
+
+    /// Whether a service was bound, for whatever reference, and be it unbound by now. It goes over all callbacks.
+    pub fn was_bound(&self, service: u64) -> bool
+        ensures { result ≡ was_bound service self.now }
+    {
+        bound::was_bound(self.earlier.parts(), service)
+            || self
+                .last
+                .as_ref()
+                .is_some_and(|called| bound::binds(&called.callback, service))
     }
 
     /// A callback begins. It may be any, and stands behind all others.
@@ -123,31 +188,16 @@ impl InstanceCallbacks {
         ensures ok { OnOk result (self.new ≡ self.old ++ begun callback ∷ []) }
         ensures err { OnErr result (self.new ≡ self.old) }
     {
-        self.calls.push(Called {
+        let held = self.held.begun(alloc, &callback)?;
+        let course = self.course();
+        add_copy(alloc, &mut self.earlier, &self.last)?;
+        self.held = held;
+        self.course = course;
+        self.last = Some(Called {
             callback,
             outcome: None,
-        })?;
-        match hold_begun(alloc, &mut self.held, self.calls.as_slice()) {
-            Ok(()) => {
-                self.outstanding = true;
-                Ok(())
-            }
-            Err(refused) => {
-                drop_last(&mut self.calls);
-                Err(refused)
-            }
-        }
-    }
-
-    /// Takes back the last callback, which must not have ended yet: the others are then as they were before it
-    /// [began](InstanceCallbacks::begin). It takes no memory.
-    pub fn take_back(&mut self)
-        requires { IsTrue (is_outstanding self.old) }
-        ensures { self.new ≡ all_but_last self.old }
-    {
-        hold_taken_back(&mut self.held, self.calls.as_slice());
-        drop_last(&mut self.calls);
-        self.outstanding = is_outstanding(self.calls.as_slice());
+        });
+        Ok(())
     }
 
     /// Ends the last callback, which must not have ended yet. It takes no memory.
@@ -155,35 +205,29 @@ impl InstanceCallbacks {
         requires { IsTrue (is_outstanding self.old) }
         ensures { self.new ≡ ended outcome self.old }
     {
-        self.phase = phase_ended(self.calls.as_slice(), outcome, self.phase);
-        hold_ended(&mut self.held, self.calls.as_slice());
-        self.outstanding = false;
-        end_last(&mut self.calls, outcome);
+        end_last(&mut self.last, outcome);
+        self.held.end();
     }
 }
 
-// Equal callbacks beside them.
-fn copied_calls(alloc: Global, calls: &[Called]) -> Result<Vec<Called>, OutOfMemory>
-    ensures { IfOk result (λ v. v.items ≡ calls.now) }
+fn add_copy(
+    alloc: Global,
+    calls: &mut SharedLog<Called>,
+    last: &Option<Called>,
+) -> Result<(), OutOfMemory>
+    ensures ok { OnOk result (calls.new ≡ calls.old ++ option_to_list last.now) }
+    ensures err { OnErr result (calls.new ≡ calls.old) }
 {
-    let mut copies = Vec::new(alloc);
-    for called in calls {
-        copies.push(called.copy(alloc)?)?;
+    match last {
+        Some(called) => calls.push(alloc, called.copy(alloc)?),
+        None => Ok(()),
     }
-    Ok(copies)
 }
 
-fn drop_last(calls: &mut Vec<Called>)
-    ensures { calls.new.items ≡ all_but_last calls.old.items }
+fn end_last(last: &mut Option<Called>, outcome: Outcome)
+    ensures { last.new ≡ option_map (λ (c : Called). done_with c.callback outcome) last.old }
 {
-    calls.pop();
-}
-
-fn end_last(calls: &mut Vec<Called>, outcome: Outcome)
-    ensures { calls.new.items ≡ ended outcome calls.old.items }
-{
-    if !calls.is_empty() {
-        let last = calls.len() - 1;
-        calls[last].outcome = Some(outcome);
+    if let Some(called) = last {
+        called.outcome = Some(outcome);
     }
 }

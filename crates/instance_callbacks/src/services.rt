@@ -1,12 +1,13 @@
 //! The services that are held for one reference.
-ghost use Rattle.std.specs.Prelude.{◌≡◌, ◌==◌, ◌++◌, ◌∷◌, ◌-◌, [], filter, length, not, take, IfOk, OnErr, OnOk};
+ghost use Rattle.std.specs.Prelude.{◌≡◌, ◌==◌, ◌++◌, ◌∷◌, [], filter, not, IfOk};
 
-use prop_map::{Copies, OutOfMemory};
+use prop_map::{Copies, List, OutOfMemory, Shared};
 use std::alloc::Global;
 use std::marker::Model;
 use std::slice::from_ref;
 
-/// The services that are held for one reference, in the order of their Binds. One alone takes no memory.
+/// The services that are held for one reference, in the order of their Binds. A copy shares them; one alone takes no
+/// memory.
 #[derive(Drop)]
 pub(crate) struct Services {
     kept: Kept,
@@ -17,7 +18,7 @@ pub(crate) struct Services {
 enum Kept {
     Nothing,
     One(u64),
-    Several(Vec<u64>),
+    Several(Shared<List<u64>>),
 }
 
 impl Model for Services {
@@ -30,24 +31,27 @@ impl Model for Services {
 }
 
 impl Copies for Services {
-    fn copy(&self, alloc: Global) -> Result<Services, OutOfMemory> {
+    fn copy(&self, _: Global) -> Result<Services, OutOfMemory> {
         let kept = match &self.kept {
             Kept::Nothing => Kept::Nothing,
             Kept::One(service) => Kept::One(*service),
-            Kept::Several(services) => Kept::Several(copied(alloc, services.as_slice())?),
+            Kept::Several(services) => Kept::Several(services.share()?),
         };
         Ok(Services { kept })
     }
 }
 
 impl Services {
-    /// One service. It takes no memory.
-    pub(crate) fn one(service: u64) -> Services
-        ensures { result ≡ service ∷ [] }
+    // These services.
+    fn of(alloc: Global, services: Vec<u64>) -> Result<Services, OutOfMemory>
+        ensures { IfOk result (λ kept. kept ≡ services.items) }
     {
-        Services {
-            kept: Kept::One(service),
-        }
+        let kept = match services.as_slice() {
+            [] => Kept::Nothing,
+            [service] => Kept::One(*service),
+            _ => Kept::Several(Shared::of(alloc, List::of(services))?),
+        };
+        Ok(Services { kept })
     }
 
     pub(crate) fn as_slice(&self) -> &[u64]
@@ -56,75 +60,31 @@ impl Services {
         match &self.kept {
             Kept::Nothing => &[],
             Kept::One(service) => from_ref(service),
-            Kept::Several(services) => services.as_slice(),
-        }
-    }
-
-    /// One service more, the last one. The first takes no memory.
-    pub(crate) fn add(&mut self, alloc: Global, service: u64) -> Result<(), OutOfMemory>
-        ensures ok { OnOk result (self.new ≡ self.old ++ service ∷ []) }
-        ensures err { OnErr result (self.new ≡ self.old) }
-    {
-        match &mut self.kept {
-            Kept::Nothing => self.kept = Kept::One(service),
-            Kept::One(first) => {
-                let both = pair(alloc, *first, service)?;
-                self.kept = Kept::Several(both);
-            }
-            Kept::Several(services) => services.push(service)?,
-        }
-        Ok(())
-    }
-
-    /// A service is held no more.
-    pub(crate) fn let_go(&mut self, service: u64)
-        ensures { self.new ≡ filter (λ s. not (s == service)) self.old }
-    {
-        match &mut self.kept {
-            Kept::Nothing => {}
-            Kept::One(other) => {
-                if *other == service {
-                    self.kept = Kept::Nothing;
-                }
-            }
-            Kept::Several(services) => remove(services, service),
-        }
-    }
-
-    /// Takes the last service back.
-    pub(crate) fn take_back(&mut self)
-        ensures { self.new ≡ take (length self.old - 1) self.old }
-    {
-        match &mut self.kept {
-            Kept::Nothing => {}
-            Kept::One(_) => self.kept = Kept::Nothing,
-            Kept::Several(services) => {
-                services.pop();
-            }
+            Kept::Several(services) => services.get().as_slice(),
         }
     }
 }
 
-// Equal services beside them.
-fn copied(alloc: Global, services: &[u64]) -> Result<Vec<u64>, OutOfMemory>
-    ensures { IfOk result (λ v. v.items ≡ services.now) }
+/// These services and one more, the last one.
+///
+/// # Errors
+/// Only want of memory.
+pub(crate) fn with(alloc: Global, held: &[u64], service: u64) -> Result<Services, OutOfMemory>
+    ensures { IfOk result (λ more. more ≡ held.now ++ service ∷ []) }
 {
-    let mut copies = Vec::new(alloc);
-    copies.extend_from_slice(services)?;
-    Ok(copies)
+    let mut more = Vec::new(alloc);
+    more.extend_from_slice(held)?;
+    more.push(service)?;
+    Services::of(alloc, more)
 }
 
-fn pair(alloc: Global, first: u64, second: u64) -> Result<Vec<u64>, OutOfMemory>
-    ensures { IfOk result (λ v. v.items ≡ first ∷ second ∷ []) }
+/// These services without one.
+///
+/// # Errors
+/// Only want of memory.
+pub(crate) fn without(alloc: Global, held: &[u64], service: u64) -> Result<Services, OutOfMemory>
+    ensures { IfOk result (λ rest. rest ≡ filter (λ s. not (s == service)) held.now) }
 {
-    let mut both = Vec::new(alloc);
-    both.push(first)?;
-    both.push(second)?;
-    Ok(both)
-}
-
-fn remove(services: &mut Vec<u64>, service: u64)
-    ensures { services.new.items ≡ filter (λ s. not (s == service)) services.old.items }
-{
-    services.retain(|other| *other != service);
+    let others = held.iter().copied().filter(|other| *other != service);
+    Services::of(alloc, others.collect(alloc)?)
 }

@@ -19,3 +19,7 @@ mod listeners;
 mod samples;
 #[cfg(test)]
 mod services;
+#[cfg(test)]
+mod shared_values;
+#[cfg(test)]
+mod told;

@@ -4,7 +4,7 @@ use crate::samples::properties;
 use ldap_filter::Filter;
 use prop_map::List;
 use service_listeners::Listeners;
-use service_registry::ServiceRow;
+use service_registry::{Interfaces, ServiceRow};
 use std::alloc::{AllocError, Global};
 use std::test::Fail;
 
@@ -13,7 +13,7 @@ fn service(alloc: Global, v: i64) -> Result<ServiceRow, AllocError> {
     Ok(ServiceRow {
         id: 1,
         bundle: 1,
-        interfaces: List::of(Vec::new(alloc)),
+        interfaces: Interfaces::of(alloc, List::of(Vec::new(alloc)))?,
         properties: properties(alloc, v)?,
         revision: 0,
         direct: true,

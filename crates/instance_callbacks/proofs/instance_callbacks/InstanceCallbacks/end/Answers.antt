@@ -1,16 +1,19 @@
-use Rattle.std.proofs.Common.{◌≡◌, ◌∙◌, List, ap, subst, sym}
-use Rattle.callback_orders.specs.declared.word.Called.{Called}
-use Rattle.instance_callbacks.specs.Held.{AreHeld}
-use Rattle.callback_orders.specs.Lives.{phase_of}
+use Rattle.std.proofs.Common.{◌∙◌, ◌++◌, ap, subst, sym, List}
+use Rattle.std.specs.Prelude.{IsTrue, Option}
+use Rattle.std.specs.Option.{option_to_list}
 use Rattle.callback_orders.specs.Sequences.{ended, is_outstanding}
-use Rattle.instance_callbacks.proofs.LastLemmas.{outstanding_ended}
+use Rattle.callback_orders.specs.declared.word.Called.{Called}
+use Rattle.instance_callbacks.proofs.KeptLemmas.{kept_ended}
+use Rattle.instance_callbacks.proofs.LastLemmas.{ended-last}
 use Rattle.instance_callbacks.proofs.instance_callbacks.InstanceCallbacks.end.Goals as goal
 
 pub invariant_of-self : goal.invariant_of-self
 invariant_of-self c =
-    let as_ended : ended c.args.outcome c.as_slice.result.now ≡ c.end_last.new.calls.items = ap (ended c.args.outcome) c.as_slice.ensures.value ∙ sym c.end_last.ensures in
-    let as_ended_2 : ended c.args.outcome c.as_slice-2.result.now ≡ c.end_last.new.calls.items = ap (ended c.args.outcome) c.as_slice-2.ensures.value ∙ sym c.end_last.ensures in record {
-      phase = c.phase_ended-self-inside.ensures ∙ ap phase_of as_ended;
-      outstanding = sym (ap is_outstanding c.end_last.ensures ∙ outstanding_ended c.args.outcome c.self.inside.calls.items);
-      held = subst (λ (calls : List Called). AreHeld calls c.hold_ended.new.rows.items) as_ended_2 (c.hold_ended.ensures c.args.outcome);
-    }
+    kept_ended c.args.outcome c.self.inside.earlier c.self.inside.last _ c.self.inside.course c.self.inside.held _ c.self.invariant
+    (subst (λ (calls : List Called). IsTrue (is_outstanding calls)) (sym c.self.view_is) c.requires) c.end_last.ensures c.end.ensures.held c.end.ensures.left
+
+pub returns : goal.returns
+returns c =
+    ap (λ (last : Option Called). c.self.inside.earlier ++ option_to_list last) c.end_last.ensures
+    ∙ ended-last c.args.outcome c.self.inside.earlier c.self.inside.last c.self.invariant.first
+    ∙ ap (ended c.args.outcome) c.self.view_is
