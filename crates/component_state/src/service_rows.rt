@@ -10,7 +10,7 @@ use crate::Component;
 use crate::components::component_of;
 use component_dto::Scope;
 use prop_map::{Copies, List, OutOfMemory, Properties, Property};
-use service_registry::{ServiceRow, with_service_properties};
+use service_registry::{Interfaces, ServiceRow, with_service_properties};
 use std::alloc::Global;
 
 // The service of the component configuration of a number, as it is under a service's number at a revision. Where there
@@ -26,7 +26,7 @@ pub(crate) fn row_in(
 {
     match component_of(components, configuration) {
         Some(component) => row_by(alloc, component, service, revision),
-        None => Ok(no_row(alloc, service, revision)),
+        None => no_row(alloc, service, revision),
     }
 }
 
@@ -41,24 +41,32 @@ fn row_by(
     Ok(ServiceRow {
         id: service,
         bundle: component.bundle,
-        interfaces: component.description.get().service_interfaces.copy(alloc)?,
+        interfaces: interfaces_of(alloc, component)?,
         properties: published_by(alloc, component, service)?,
         revision,
         direct: false,
     })
 }
 
-fn no_row(alloc: Global, service: u64, revision: u64) -> ServiceRow
-    ensures { result ≡ no_row service revision }
+// The interfaces that a component provides.
+fn interfaces_of(alloc: Global, component: &Component) -> Result<Interfaces, OutOfMemory>
+    ensures { IfOk result (λ interfaces. interfaces ≡ component.now.description.service_interfaces) }
 {
-    ServiceRow {
+    let description = component.description.get();
+    Interfaces::of(alloc, description.service_interfaces.copy(alloc)?)
+}
+
+fn no_row(alloc: Global, service: u64, revision: u64) -> Result<ServiceRow, OutOfMemory>
+    ensures { IfOk result (λ row. row ≡ no_row service revision) }
+{
+    Ok(ServiceRow {
         id: service,
         bundle: 0,
-        interfaces: List::of(Vec::new(alloc)),
+        interfaces: Interfaces::of(alloc, List::of(Vec::new(alloc)))?,
         properties: Properties::new(alloc),
         revision,
         direct: false,
-    }
+    })
 }
 
 /// What a component configuration publishes under a service's number: its properties but for the private ones, and

@@ -11,7 +11,7 @@ use component_state::{
 };
 use level_order::levels;
 use prop_map::{Copies, List, Properties, Shared};
-use service_registry::ServiceRow;
+use service_registry::{Interfaces, ServiceRow};
 use std::alloc::{AllocError, Global};
 use std::test::Fail;
 
@@ -23,7 +23,7 @@ fn period(alloc: Global) -> Result<OpenPeriod, AllocError> {
         row: ServiceRow {
             id: 7,
             bundle: 1,
-            interfaces: texts(alloc, &["L"])?,
+            interfaces: Interfaces::of(alloc, texts(alloc, &["L"])?)?,
             properties: Properties::new(alloc),
             revision: 0,
             direct: false,

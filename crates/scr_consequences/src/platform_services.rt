@@ -6,7 +6,7 @@ ghost use Rattle.std.specs.Prelude.{◌≡◌, ◌++◌, ◌∷◌, [], IfOk, st
 
 use prop_map::{Copies, List, OutOfMemory, Properties, Str, Value};
 use scr_world::World;
-use service_registry::{ServiceRow, with_service_properties};
+use service_registry::{Interfaces, ServiceRow, with_service_properties};
 use std::alloc::Global;
 
 pub(crate) fn text(alloc: Global, text: &str) -> Result<Str, OutOfMemory>
@@ -48,7 +48,7 @@ pub fn condition(alloc: Global) -> Result<ServiceRow, OutOfMemory>
     Ok(ServiceRow {
         id: 0,
         bundle: 0,
-        interfaces,
+        interfaces: Interfaces::of(alloc, interfaces)?,
         properties,
         revision: 0,
         direct: true,

@@ -4,6 +4,7 @@
 
 mod best_first;
 mod fault;
+mod interfaces;
 mod new_rows;
 mod places;
 mod registry;
@@ -15,6 +16,7 @@ mod service_rank;
 
 pub use best_first::{Ranked, numbers_best_first, sort_best_first};
 pub use fault::RegistryFault;
+pub use interfaces::Interfaces;
 pub use registry::Registry;
 pub use row::{HasRow, ServiceRow};
 pub use saved::Saved;

@@ -2,8 +2,8 @@
 ghost use Rattle.service_registry.specs.Registries.{new_row, set_row};
 ghost use Rattle.std.specs.Prelude.{◌≡◌, IfOk};
 
-use crate::ServiceRow;
 use crate::service_properties::{copied, scope_of, with_service_properties};
+use crate::{Interfaces, ServiceRow};
 use prop_map::{Copies, OutOfMemory, Properties, Str};
 use std::alloc::{AllocError, Global};
 
@@ -23,7 +23,7 @@ pub(crate) fn new_row(
     Ok(ServiceRow {
         id: service,
         bundle,
-        interfaces: copied(alloc, interfaces)?,
+        interfaces: Interfaces::of(alloc, copied(alloc, interfaces)?)?,
         properties,
         revision: 0,
         direct,
@@ -45,7 +45,7 @@ pub(crate) fn set_row(
         alloc,
         row.id,
         row.bundle,
-        interfaces.as_slice(),
+        interfaces.names(),
         scope,
         given,
     )?;

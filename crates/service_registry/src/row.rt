@@ -3,7 +3,8 @@
 ghost use Rattle.service_registry.specs.declared.row.ServiceRow.{ServiceRow};
 ghost use Rattle.std.specs.Prelude.{◌≡◌};
 
-use prop_map::{Copies, List, OutOfMemory, Properties, Str};
+use crate::Interfaces;
+use prop_map::{Copies, OutOfMemory, Properties};
 use std::alloc::Global;
 
 /// A registered service.
@@ -14,7 +15,7 @@ pub struct ServiceRow {
     /// The bundle that registered it, 0 for the platform.
     pub bundle: u64,
     /// Its interfaces.
-    pub interfaces: List<Str>,
+    pub interfaces: Interfaces,
     /// Its properties, those that every service has among them.
     pub properties: Properties,
     /// How often its properties were set since it was registered.

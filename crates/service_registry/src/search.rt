@@ -8,15 +8,12 @@ use crate::{Ranked, ServiceRow, better, numbers_best_first, ranked};
 use prop_map::OutOfMemory;
 use std::alloc::Global;
 
-/// Whether a service has an interface. It takes no memory.
+/// Whether a service has an interface. It is compared with no more of them than the logarithm of their number, and takes no
+/// memory.
 pub fn has_interface(interface: &str, service: &ServiceRow) -> bool
     ensures { result ≡ has_interface interface.now service.now }
 {
-    service
-        .interfaces
-        .as_slice()
-        .iter()
-        .any(|own| own.as_str() == interface)
+    service.interfaces.has(interface)
 }
 
 /// The best of the services with an interface.

@@ -88,7 +88,7 @@ impl Row for ServiceRow {
     fn text(&self, alloc: Global) -> Result<String, OutOfMemory> {
         let service = self.id;
         let bundle = self.bundle;
-        let interfaces = joined(alloc, ",", self.interfaces.as_slice())?;
+        let interfaces = joined(alloc, ",", self.interfaces.names())?;
         let ranking = ranking(&self.properties);
         format!(in alloc; "{service} {bundle} {} {ranking}\n", interfaces.as_str())
     }

@@ -1,7 +1,7 @@
 //! Services of the whiteboard.
 
 use prop_map::{List, OutOfMemory, Properties, Str, Value};
-use service_registry::ServiceRow;
+use service_registry::{Interfaces, ServiceRow};
 use std::alloc::Global;
 
 fn text(alloc: Global, text: &str) -> Result<Value, OutOfMemory> {
@@ -21,7 +21,7 @@ pub(crate) fn service(
     Ok(ServiceRow {
         id,
         bundle: 1,
-        interfaces: List::of(Vec::new(alloc)),
+        interfaces: Interfaces::of(alloc, List::of(Vec::new(alloc)))?,
         properties,
         revision: 0,
         direct: false,
