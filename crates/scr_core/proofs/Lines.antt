@@ -25,7 +25,7 @@ use Rattle.scr_world.specs.declared.world.World.{World}
 pub history_append : (entries : List (Entry Step)) (entry : Entry Step) → history_of (entries ++ entry ∷ []) ≡ entry ∷ history_of entries
 history_append entries entry = reverse-append entries (entry ∷ [])
 
-world_of_more : (entry : Entry Step) (past : History) → world_of (entry ∷ past) ≡ world_after_entry entry (world_of past)
+pub world_of_more : (entry : Entry Step) (past : History) → world_of (entry ∷ past) ≡ world_after_entry entry (world_of past)
 unfolding world_of
 world_of_more entry past = refl
 
@@ -45,7 +45,7 @@ begun_lines limit old new step w line lines world is are grown =
     sym (is lines) ∙ ap (λ (v : World). lines_by step v lines) world ∙ ap (lines_by step (world_at old)) are ∙ sym (grown_lines limit old new step grown)
 
 -- they stay as they are by a command, a drain, and by a get by token and its release
-same_lines : (old new : List (Entry Step)) → new ≡ old → turn_lines (history_of new) ≡ turn_lines (history_of old)
+pub same_lines : (old new : List (Entry Step)) → new ≡ old → turn_lines (history_of new) ≡ turn_lines (history_of old)
 same_lines old new same = ap (λ (j : List (Entry Step)). turn_lines (history_of j)) same
 
 pub drained_lines : (limit : ℕ) (old new : List (Entry Step)) (key : GateKey) → Drains limit old key new → turn_lines (history_of new) ≡ turn_lines (history_of old)
@@ -83,7 +83,7 @@ pub command_lines : (limit : ℕ) (old new : List (Entry Step)) (command : Comma
 command_lines limit old new command (Ok accepted) is = grown_if_lines (changes limit (world_at old) command) limit old new command is.2
 command_lines limit old new command (Err fault) is = same_lines old new (refused_lines limit old new command fault is)
 
-ungot_lines : (limit : ℕ) (old new : List (Entry Step)) (bundle service : ℕ) (fault : CoreFault) → Gets limit old bundle service (Err fault) new → new ≡ old
+pub ungot_lines : (limit : ℕ) (old new : List (Entry Step)) (bundle service : ℕ) (fault : CoreFault) → Gets limit old bundle service (Err fault) new → new ≡ old
 ungot_lines limit old new bundle service OutOfMemory is = is
 ungot_lines limit old new bundle service JournalFull is = is.2
 ungot_lines limit old new bundle service (NoBundle a) is = is.1

@@ -18,6 +18,7 @@ use Rattle.prop_map.proofs.list.List.TheSendSync as list
 use Rattle.prop_map.proofs.properties.Properties.TheSendSync as properties
 use Rattle.prop_map.proofs.text.Str.TheSendSync as text
 use Rattle.scr_core.specs.contracts.platform_core.Core as Core
+use Rattle.scr_dues.proofs.making.Making.TheSendSync as making
 use Rattle.scr_dues.proofs.own_rows.OwnRows.TheSendSync as own
 use Rattle.scr_state.specs.contracts.state.State as State
 use Rattle.scr_world.proofs.command.Limits.TheSendSync as limits
@@ -84,4 +85,4 @@ step_send = search (command_send, callback.the_field_send, outcome.the_field_sen
 -- ---- the core
 
 pub core_send : IsSend Core.the_row
-core_send = search (limits.the_field_send, journal.the_send, step_send, state_send, own.the_send, turn_line.the_send, Vec-send, sendable) depth 60 fits 20000
+core_send = search (limits.the_field_send, journal.the_send, step_send, state_send, own.the_send, turn_line.the_send, making.the_field_send, Vec-send, sendable) depth 60 fits 20000

@@ -13,6 +13,7 @@ use crate::{Core, Taken, Turn, UseNote};
 use callback_orders::Outcome;
 use journal_core::GateKey;
 use prop_map::OutOfMemory;
+use scr_dues::Making;
 use scr_world::{Accepted, Command, CoreFault, Ended};
 use std::alloc::Global;
 
@@ -28,6 +29,7 @@ impl Core {
         ensures answer { Commands self.old.limits.journal self.old.journal command result self.new.journal }
         ensures limits { self.new.limits ≡ self.old.limits }
     {
+        self.making = Making::none();
         take_command(alloc, &mut self.journal, &mut self.state, command)
     }
 
@@ -48,6 +50,7 @@ impl Core {
             &mut self.journal,
             &mut self.state,
             &mut self.lines,
+            &mut self.making,
         )
     }
 
@@ -74,6 +77,7 @@ impl Core {
             &mut self.journal,
             &mut self.state,
             &mut self.lines,
+            &mut self.making,
             number,
             outcome,
         ) {

@@ -9,19 +9,30 @@ use bundle_life::Bundles;
 use component_state::Origin;
 use config_admin::Configurations;
 use instance_callbacks::InstanceCallbacks;
-use prop_map::{Copies, List, OutOfMemory};
+use prop_map::{Copies, List, OutOfMemory, Shared};
 use scr_dues::OwnRows;
 use scr_state::State;
 use scr_world::{Instance, World};
 use service_listeners::Listeners;
 use service_registry::Registry;
 use std::alloc::Global;
+use told_revisions::ToldRevisions;
 use use_counts::UseCounts;
 
 fn none<T>(alloc: Global) -> List<T>
     ensures { result ≡ [] }
 {
     List::of(Vec::new(alloc))
+}
+
+fn no_origin(alloc: Global) -> Origin
+    ensures { result ≡ record { configuration = 0; created = 0; chosen = [] } }
+{
+    Origin {
+        configuration: 0,
+        created: 0,
+        chosen: none(alloc),
+    }
 }
 
 // The whiteboard's instance of an empty journal.
@@ -36,15 +47,11 @@ fn new_whiteboard(alloc: Global, own: &OwnRows) -> Result<Instance, OutOfMemory>
         generation: 0,
         drained: false,
         turn: 0,
-        origin: Origin {
-            configuration: 0,
-            created: 0,
-            chosen: none(alloc),
-        },
+        origin: Shared::of(alloc, no_origin(alloc))?,
         callbacks: InstanceCallbacks::new(alloc),
-        properties: own.whiteboard().properties.copy(alloc)?,
+        properties: Shared::of(alloc, own.whiteboard().properties.copy(alloc)?)?,
         properties_taken_at: 0,
-        told_revisions: none(alloc),
+        told_revisions: ToldRevisions::new(alloc),
     })
 }
 

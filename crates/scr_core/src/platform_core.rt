@@ -7,7 +7,7 @@ ghost use Rattle.std.specs.Prelude.{◌≡◌, [], IfErr, IfOk};
 
 use crate::empty::empty_state;
 use journal_core::Journal;
-use scr_dues::OwnRows;
+use scr_dues::{Making, OwnRows};
 use scr_state::State;
 use scr_world::{CoreFault, Limits, Step, TurnLine};
 use std::alloc::Global;
@@ -15,9 +15,9 @@ use std::marker::Model;
 
 /// The core of a platform. Contracts see its limits and the entries of its journal, the oldest first.
 ///
-/// Beside the journal it keeps the world that the journal says, what follows from it, and the turns so far. So no command, no
-/// turn and no question reads the journal again. It waits for nobody, calls no component code, and appends at most one entry in
-/// a call.
+/// Beside the journal it keeps the world that the journal says, what follows from it, the turns so far, and how far an instance
+/// in the making is. So no command, no turn and no question reads the journal again. It waits for nobody, calls no component code,
+/// and appends at most one entry in a call.
 #[derive(Drop)]
 pub struct Core {
     pub(crate) limits: Limits,
@@ -25,11 +25,13 @@ pub struct Core {
     pub(crate) state: State,
     pub(crate) own: OwnRows,
     pub(crate) lines: Vec<TurnLine>,
+    pub(crate) making: Making,
 }
 
 impl Model for Core {
     ghost use Rattle.scr_core.specs.Cores.{AreWithinGreatest, CoreView};
     ghost use Rattle.scr_core.specs.Keeping.{KeepsAll};
+    ghost use Rattle.scr_dues.specs.Makings.{IsThatFar};
 
     ghost Value = { CoreView };
 
@@ -40,7 +42,7 @@ impl Model for Core {
 
     ghost view = { λ c. record { limits = c.limits; journal = c.journal.entries } };
 
-    ghost invariant = { λ c. KeepsAll c.limits.journal c.journal c.state c.lines.items × AreWithinGreatest c.limits };
+    ghost invariant = { λ c. KeepsAll c.limits.journal c.journal c.state c.lines.items × AreWithinGreatest c.limits × IsThatFar c.state.world c.making };
 }
 
 impl Core {
@@ -57,12 +59,14 @@ impl Core {
         let state = empty_state(alloc, &own)?;
         let journal = Journal::new(alloc, limits.journal);
         let lines = Vec::new(alloc);
+        let making = Making::none();
         Ok(Core {
             limits,
             journal,
             state,
             own,
             lines,
+            making,
         })
     }
 

@@ -4,6 +4,7 @@ ghost use Rattle.scr_core.specs.Keeping.{KeepsAll};
 ghost use Rattle.scr_core.specs.Steps.{is_beginning, turn_of};
 ghost use Rattle.scr_core.specs.Drafting.{IsAlike};
 ghost use Rattle.scr_core.specs.Turns.{TakesTurn};
+ghost use Rattle.scr_dues.specs.Makings.{IsThatFar};
 ghost use Rattle.scr_state.specs.Drafts.{HasRoom, with_draft};
 ghost use Rattle.scr_state.specs.Keeps.{IsDraft, IsKept, Keeps};
 ghost use Rattle.scr_world.specs.Calls.{EndsTurn, Grown, world_at};
@@ -22,7 +23,7 @@ use callback_orders::Outcome;
 use journal_core::{GateKey, Journal};
 use prop_map::{Copies, List, OutOfMemory, Str};
 use scr_consequences::reopened_by;
-use scr_dues::{OwnRows, component_in, needed_by, next_begin, work_under_way};
+use scr_dues::{Making, OwnRows, component_in, needed_by, next_begin_from, work_under_way};
 use scr_growth::grow;
 use scr_readers::end_turn;
 use scr_state::{Draft, State, swap_in};
@@ -48,12 +49,15 @@ pub(crate) fn take(
     journal: &mut Journal<Step>,
     state: &mut State,
     lines: &mut Vec<TurnLine>,
+    making: &mut Making,
 ) -> Result<Taken, CoreFault>
     requires keeps { KeepsAll limit journal.old state.old lines.old.items }
+    requires far { IsThatFar state.old.world making.old }
     ensures keeps { KeepsAll limit journal.new state.new lines.new.items }
+    ensures far { IsThatFar state.new.world making.new }
     ensures answer { TakesTurn limit journal.old.entries result journal.new.entries }
 {
-    match next_begin(alloc, own, &state.world)? {
+    match next_begin_from(alloc, own, &state.world, making)? {
         Some(step) => begin(alloc, limit, own, journal, state, lines, step),
         None => Ok(Taken::Idle),
     }
@@ -207,22 +211,27 @@ pub(crate) fn end(
     journal: &mut Journal<Step>,
     state: &mut State,
     lines: &mut [TurnLine],
+    making: &mut Making,
     turn: u64,
     outcome: Outcome,
 ) -> Result<Ended, OutOfMemory>
     requires keeps { KeepsAll limit journal.old state.old lines.old }
+    requires far { IsThatFar state.old.world making.old }
     requires turn { is_under_way (world_at journal.old.entries) turn ≡ true }
     ensures keeps { KeepsAll limit journal.new state.new lines.new }
+    ensures far { IsThatFar state.new.world making.new }
     ensures ok { IfOk result (λ ended. EndsTurn limit journal.old.entries turn outcome ended journal.new.entries) }
     ensures err { OnErr result (journal.new ≡ journal.old) }
 {
     let reopened = reopened_by(&state.world, turn, outcome)?;
+    let known = making.after_end(&state.world, turn);
     // This lets the proof know that what is reserved has room.
     let _room = journal.room();
     let step = boxed(alloc, Step::End { turn, outcome })?;
     let draft = turn_draft(alloc, state, &step)?;
     let shut = grow_by_end(alloc, journal, state, step, turn, outcome, draft)?;
     end_turn(lines, turn, outcome);
+    *making = known;
     Ok(Ended { shut, reopened })
 }
 

@@ -72,7 +72,7 @@ module _ (r : ReferenceView) where
   unfolding lean
   desires_same = all_same (lean_held r) (λ (h : HeldService). is_desired (lean r) h.service) (λ (h : HeldService). is_desired r h.service) (λ h. desired_same h.service) r.held
 
-  differs_same : differs (lean r) ≡ differs r
+  pub differs_same : differs (lean r) ≡ differs r
   differs_same = (λ j. not (holds_same j) || not (desires_same j))
 
   bind_same : to_bind (lean r) ≡ to_bind r
@@ -113,7 +113,7 @@ module _ {Y : Type 0} (f : (ℕ × ReferenceView) → Option Y) (same : (k : ℕ
   some_same k (r ∷ rs) = (λ j. cons_option (same k r j) (some_same (k + 1) rs j))
 
 module _ (n : ℕ) where
-  either_same : (k : ℕ) (r : ReferenceView) → bind_or_unbind n (k, lean r) ≡ bind_or_unbind n (k, r)
+  pub either_same : (k : ℕ) (r : ReferenceView) → bind_or_unbind n (k, lean r) ≡ bind_or_unbind n (k, r)
   either_same k r = (λ j. option_or (option_map (λ s. Bind n k s) (bind_same r j)) (option_map (λ s. Unbind n k s) (unbind_same r j)))
 
   first_by : (k : ℕ) (r : ReferenceView) (rs : List ReferenceView) (b : Bool)

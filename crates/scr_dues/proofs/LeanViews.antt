@@ -44,7 +44,7 @@ module _ (w : World) (i : Instance) (ending : Bool) where
     changes_are = both (λ s. record { service = s; changed = is_some r.1.updated && is_changed w i r.1.name s }) (lean_held (reference_view ending w i r))
         (λ s. record { service = s; changed = is_changed w i r.1.name s }) (λ s. refl) (best_held w i r.1.name)
 
-    reference_is : lean_reference ending w i r ≡ lean (reference_view ending w i r)
+    pub reference_is : lean_reference ending w i r ≡ lean (reference_view ending w i r)
     unfolding lean
     reference_is = (λ j. record { told = is_some r.1.updated; desired = wishes_are j; held = changes_are j })
 

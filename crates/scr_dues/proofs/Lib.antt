@@ -13,3 +13,8 @@ pub mod ChosenFrom
 pub mod Settled
 pub mod Wants
 pub mod Staying
+pub mod InMaking
+pub mod KnownPlaces
+pub mod OwnNames
+pub mod DueBinds
+pub mod KnownSteps

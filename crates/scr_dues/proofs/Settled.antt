@@ -7,7 +7,7 @@ use Rattle.callback_orders.specs.declared.instance_view.HeldService.{HeldService
 use Rattle.callback_orders.specs.declared.instance_view.ReferenceView.{ReferenceView}
 use Rattle.callback_orders.specs.declared.instance_view.Wish.{Wish}
 use Rattle.callback_orders.specs.References.{differs, holds_all, is_desired, is_held, to_bind, to_tell, to_unbind}
-use Rattle.prop_map.specs.Words.{has, in_order, insert_by, is_empty}
+use Rattle.prop_map.specs.Words.{has}
 
 -- a reference of an instance that goes on wants nothing
 pub record WantsNothing (r : ReferenceView) : Type 0 where
@@ -28,7 +28,7 @@ itself : (xs : List ℕ) → list_all (has xs) xs ≡ true
 itself [] = refl
 itself (x ∷ xs) = (λ j. (eq-eqb x x refl j || has xs x) && more x xs xs (itself xs) j)
 
-module _ (all : List ℕ) (ready changed : ℕ → Bool) where
+module _ (told : Bool) (all : List ℕ) (ready changed : ℕ → Bool) where
   abbrev wish : ℕ → Wish
   wish s = record { service = s; ready = ready s }
 
@@ -37,7 +37,7 @@ module _ (all : List ℕ) (ready changed : ℕ → Bool) where
 
   -- it desires these services and holds them
   abbrev pub settled : ReferenceView
-  settled = record { told = false; desired = map wish all; held = map hold all }
+  settled = record { told = told; desired = map wish all; held = map hold all }
 
   held_among : (xs : List ℕ) (s : ℕ) → list_any (λ (h : HeldService). h.service == s) (map hold xs) ≡ has xs s
   held_among [] s = refl
@@ -84,32 +84,16 @@ module _ (all : List ℕ) (ready changed : ℕ → Bool) where
   unbind_by true left e = ap (λ (l : List HeldService). last_or None (map (λ (h : HeldService). h.service) l)) e
   unbind_by false left e = refl
 
-  pub nothing : WantsNothing settled
-  nothing = record {
-    bind = ap (option_map (λ (x : Wish). x.service)) (binds_none all (itself all));
+  pub binds_nothing : to_bind settled ≡ None
+  binds_nothing = ap (option_map (λ (x : Wish). x.service)) (binds_none all (itself all))
+
+  pub differs_not : differs settled ≡ false
+  differs_not = (λ j. not (holds_these all (itself all) j) || not (desires_these all (itself all) j))
+
+  pub nothing : told ≡ false → WantsNothing settled
+  nothing untold = record {
+    bind = binds_nothing;
     unbind = unbind_by (holds_all settled) (filter (λ (h : HeldService). not (is_desired settled h.service)) (map hold all)) (unbinds_none all (itself all));
-    tell = refl;
-    same = (λ j. not (holds_these all (itself all) j) || not (desires_these all (itself all) j));
+    tell = ap (λ b. cond b (option_map (λ (h : HeldService). h.service) (find (λ (h : HeldService). h.changed) (map hold all))) None) untold;
+    same = differs_not;
   }
-
--- ---- a reference that holds nothing and desires something differs
-
-module _ (told : Bool) (ready changed : ℕ → Bool) where
-  abbrev pub unbound : List ℕ → ReferenceView
-  unbound services = record { told = told; desired = map (λ s. let made : Wish = record { service = s; ready = ready s } in made) services; held = [] }
-
-  pub unbound_differs : (services : List ℕ) → is_empty services ≡ false → differs (unbound services) ≡ true
-  unbound_differs [] e = cc
-  unbound_differs (s ∷ services) e = refl
-
-put_by : (b : Bool) (x y : ℕ) (ys zs : List ℕ) → is_empty (cond b (x ∷ y ∷ ys) (y ∷ zs)) ≡ false
-put_by true x y ys zs = refl
-put_by false x y ys zs = refl
-
-put_not_empty : (before : ℕ → ℕ → Bool) (x : ℕ) (xs : List ℕ) → is_empty (insert_by before x xs) ≡ false
-put_not_empty before x [] = refl
-put_not_empty before x (y ∷ ys) = put_by (before x y) x y ys (insert_by before x ys)
-
-pub ordered_not_empty : (before : ℕ → ℕ → Bool) (xs : List ℕ) → is_empty xs ≡ false → is_empty (in_order before xs) ≡ false
-ordered_not_empty before [] e = e
-ordered_not_empty before (x ∷ xs) e = put_not_empty before x (in_order before xs)

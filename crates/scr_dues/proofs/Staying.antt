@@ -1,8 +1,8 @@
 -- Of an instance that goes on the same is due without the references for which nothing is due.
-use Rattle.std.proofs.Common.{◌≡◌, ◌∙◌, ap, sym, subst, refl, ℕ, List, [], ◌∷◌, Bool, true, false, ◌&&◌, Option, Some, None, map}
+use Rattle.std.proofs.Common.{◌≡◌, ◌∙◌, ap, sym, subst, refl, ℕ, List, Bool, true, false, ◌&&◌, Option, Some, None, map}
 use Rattle.std.specs.Prelude.{not, is_none, is_some, if◌then◌else◌}
 use Rattle.std.specs.Str.{bytes_eq}
-use Rattle.std.proofs.lemmas.Bool.{and_parts, not-true}
+use Rattle.std.proofs.lemmas.Bool.{and_parts}
 use Rattle.std.proofs.lemmas.Slice.Eq.{bytes_eq-Decides}
 use Rattle.callback_orders.specs.declared.due.DueRef.{DueRef}
 use Rattle.callback_orders.specs.declared.instance_view.HeldService.{HeldService}
@@ -12,10 +12,9 @@ use Rattle.callback_orders.specs.declared.instance_view.Phase.TheVariants.{Makin
 use Rattle.callback_orders.specs.declared.instance_view.Wish.{Wish}
 use Rattle.callback_orders.specs.Due.{due_in_phase, due_of}
 use Rattle.callback_orders.specs.Lives.{held_for}
-use Rattle.callback_orders.specs.References.{differs}
 use Rattle.component_dto.specs.declared.description.Reference.{Reference}
 use Rattle.component_state.specs.Reasons.{choice_at}
-use Rattle.prop_map.specs.Words.{has, is_empty, with_places}
+use Rattle.prop_map.specs.Words.{has, with_places}
 use Rattle.prop_map.specs.declared.reference_words.Policy.{Policy}
 use Rattle.prop_map.specs.declared.reference_words.Policy.TheVariants.{Static, Dynamic}
 use Rattle.reference_match.specs.Needs.{need_of}
@@ -23,16 +22,15 @@ use Rattle.reference_match.specs.Targets.{is_static}
 use Rattle.scr_world.specs.declared.instance.Instance.{Instance}
 use Rattle.scr_world.specs.declared.world.World.{World}
 use Rattle.scr_world.specs.Views.{bundle_of_instance, desired_unless_ending, is_changed, is_ready, properties_in, references_in, targets_for}
-use Rattle.scr_world.specs.Worlds.{ranking_of, sorted}
-use Rattle.service_registry.specs.Services.{ranks_before}
-use Rattle.scr_dues.specs.LeanViews.{best_held, due_view, is_making, is_settled, is_unbound, lean_reference, lean_view_as, references_looked_at, staying_reference, staying_references, wants_nothing}
+use Rattle.scr_world.specs.Worlds.{sorted}
+use Rattle.scr_dues.specs.LeanViews.{best_held, due_view, is_settled, lean_reference, lean_view_as, references_looked_at, staying_reference, wants_nothing}
 use Rattle.scr_dues.proofs.Meeting.{static_desires}
-use Rattle.scr_dues.proofs.Settled.{WantsNothing, nothing, ordered_not_empty, settled, unbound, unbound_differs}
-use Rattle.scr_dues.proofs.Wants.{WantsAs, in_making, up_to, while_active}
+use Rattle.scr_dues.proofs.Settled.{WantsNothing, nothing, settled}
+use Rattle.scr_dues.proofs.Wants.{WantsAs, in_making, while_active}
 
 -- ---- what was chosen is looked at where the reference is static
 
-static_is : (p : Policy) → is_static p ≡ true → p ≡ Static
+pub static_is : (p : Policy) → is_static p ≡ true → p ≡ Static
 static_is Static e = refl
 static_is Dynamic e = cc
 
@@ -45,18 +43,9 @@ pub where_static : (p : Policy) (held choice a b : List ℕ) (untold : Bool) →
 where_static p held choice a b untold is same =
     ap (λ l. is_static p && (untold && bytes_eq l choice)) is ∙ where_static_by p (λ l. untold && bytes_eq a l) choice b same
 
-pub where_unbound : (p : Policy) (held choice a b : List ℕ) → held ≡ a → (p ≡ Static → choice ≡ b)
-    → (is_static p && (is_empty held && not (is_empty choice))) ≡ (is_static p && (is_empty a && not (is_empty b)))
-where_unbound p held choice a b is same =
-    ap (λ l. is_static p && (is_empty l && not (is_empty choice))) is ∙ where_static_by p (λ l. is_empty a && not (is_empty l)) choice b same
-
 none_is : {X : Type 0} (o : Option X) → is_none o ≡ true → is_some o ≡ false
 none_is None e = refl
 none_is (Some x) e = cc
-
-empty_is : (xs : List ℕ) → is_empty xs ≡ true → xs ≡ []
-empty_is [] e = refl
-empty_is (x ∷ xs) e = cc
 
 -- ---- one reference
 
@@ -71,7 +60,7 @@ module _ (w : World) (i : Instance) where
     chosen_is : r.1.policy ≡ Static → desired_unless_ending false w i r.0 r.1 ≡ sorted w (choice_at i.origin.chosen r.0)
     chosen_is e = static_desires (need_of (properties_in w i) r.1) (sorted w (choice_at i.origin.chosen r.0)) (held_for r.1.name i.callbacks) (targets_for w i r.1) e
 
-    settled_view : is_settled i r ≡ true → lean_reference false w i r ≡ settled (best_held w i r.1.name) is_ready_anew is_told
+    settled_view : is_settled i r ≡ true → lean_reference false w i r ≡ settled false (best_held w i r.1.name) is_ready_anew is_told
     settled_view e =
         let parts : (is_static r.1.policy ≡ true) × ((is_none r.1.updated && bytes_eq (held_for r.1.name i.callbacks) (choice_at i.origin.chosen r.0)) ≡ true)
         = and_parts (is_static r.1.policy) (is_none r.1.updated && bytes_eq (held_for r.1.name i.callbacks) (choice_at i.origin.chosen r.0)) e in
@@ -88,7 +77,7 @@ module _ (w : World) (i : Instance) where
 
     settled_wants : is_settled i r ≡ true → WantsAs wants_nothing (lean_reference false w i r)
     settled_wants e =
-        let none : WantsNothing (lean_reference false w i r) = subst WantsNothing (sym (settled_view e)) (nothing (best_held w i r.1.name) is_ready_anew is_told) in
+        let none : WantsNothing (lean_reference false w i r) = subst WantsNothing (sym (settled_view e)) (nothing false (best_held w i r.1.name) is_ready_anew is_told refl) in
         record { bind = sym none.bind; unbind = sym none.unbind; tell = sym none.tell; same = sym none.same }
 
     wants_by : (b : Bool) → is_settled i r ≡ b → WantsAs (if b then wants_nothing else lean_reference false w i r) (lean_reference false w i r)
@@ -99,49 +88,16 @@ module _ (w : World) (i : Instance) where
     unfolding staying_reference
     staying_wants = wants_by (is_settled i r) refl
 
-    unbound_view : is_unbound i r ≡ true → lean_reference false w i r ≡ unbound (is_some r.1.updated) is_ready_anew is_told (sorted w (choice_at i.origin.chosen r.0))
-    unbound_view e =
-        let parts : (is_static r.1.policy ≡ true) × ((is_empty (held_for r.1.name i.callbacks) && not (is_empty (choice_at i.origin.chosen r.0))) ≡ true)
-        = and_parts (is_static r.1.policy) (is_empty (held_for r.1.name i.callbacks) && not (is_empty (choice_at i.origin.chosen r.0))) e in
-        let others : (is_empty (held_for r.1.name i.callbacks) ≡ true) × (not (is_empty (choice_at i.origin.chosen r.0)) ≡ true)
-        = and_parts (is_empty (held_for r.1.name i.callbacks)) (not (is_empty (choice_at i.origin.chosen r.0))) parts.1 in
-        let desired : desired_unless_ending false w i r.0 r.1 ≡ sorted w (choice_at i.origin.chosen r.0) = chosen_is (static_is r.1.policy parts.0) in
-        let held : best_held w i r.1.name ≡ [] = ap (sorted w) (empty_is (held_for r.1.name i.callbacks) others.0) in
-        (λ j. record {
-          told = is_some r.1.updated;
-          desired = map (λ s. let made : Wish = record { service = s; ready = is_ready_anew s } in made) (desired j);
-          held = map (λ s. let made : HeldService = record { service = s; changed = is_told s } in made) (held j);
-        })
-
-    chosen_not_empty : is_unbound i r ≡ true → is_empty (sorted w (choice_at i.origin.chosen r.0)) ≡ false
-    chosen_not_empty e =
-        let parts : (is_static r.1.policy ≡ true) × ((is_empty (held_for r.1.name i.callbacks) && not (is_empty (choice_at i.origin.chosen r.0))) ≡ true)
-        = and_parts (is_static r.1.policy) (is_empty (held_for r.1.name i.callbacks) && not (is_empty (choice_at i.origin.chosen r.0))) e in
-        let others : (is_empty (held_for r.1.name i.callbacks) ≡ true) × (not (is_empty (choice_at i.origin.chosen r.0)) ≡ true)
-        = and_parts (is_empty (held_for r.1.name i.callbacks)) (not (is_empty (choice_at i.origin.chosen r.0))) parts.1 in
-        ordered_not_empty (λ a b. ranks_before (ranking_of w a) a (ranking_of w b) b) (choice_at i.origin.chosen r.0) (not-true (is_empty (choice_at i.origin.chosen r.0)) others.1)
-
-    unbound_is : is_unbound i r ≡ true → differs (lean_reference false w i r) ≡ true
-    unbound_is e = ap differs (unbound_view e) ∙ unbound_differs (is_some r.1.updated) is_ready_anew is_told (sorted w (choice_at i.origin.chosen r.0)) (chosen_not_empty e)
-
   -- ---- all of them
 
-  staying_are : (making : Bool) (rs : List (ℕ × Reference)) → staying_references making w i rs ≡ up_to (λ r. making && is_unbound i r) (staying_reference w i) rs
-  staying_are making [] = refl
-  staying_are making (r ∷ rs) = ap (λ l. staying_reference w i r ∷ (if making && is_unbound i r then [] else l)) (staying_are making rs)
-
   phase_by : (phase : Phase) (v : InstanceView) (rs : List (ℕ × Reference))
-      → due_in_phase (record v { references = staying_references (is_making phase) w i rs }) phase ≡ due_in_phase (record v { references = map (lean_reference false w i) rs }) phase
-  phase_by Making v rs =
-      ap (λ l. due_in_phase (record v { references = l }) Making) (staying_are true rs)
-      ∙ in_making (staying_reference w i) (lean_reference false w i) staying_wants (λ r. is_unbound i r) unbound_is v rs
-  phase_by Active v rs =
-      ap (λ l. due_in_phase (record v { references = l }) Active) (staying_are false rs)
-      ∙ while_active (staying_reference w i) (lean_reference false w i) staying_wants v rs
+      → due_in_phase (record v { references = map (staying_reference w i) rs }) phase ≡ due_in_phase (record v { references = map (lean_reference false w i) rs }) phase
+  phase_by Making v rs = in_making (staying_reference w i) (lean_reference false w i) staying_wants v rs
+  phase_by Active v rs = while_active (staying_reference w i) (lean_reference false w i) staying_wants v rs
   phase_by Left v rs = refl
 
   goes_on_by : (phase : Phase) (ending : Bool) (v : InstanceView) (rs : List (ℕ × Reference))
-      → due_of (record v { phase = phase; ending = ending; references = references_looked_at phase ending w i rs }) ≡ due_of (record v { phase = phase; ending = ending; references = map (lean_reference ending w i) rs })
+      → due_of (record v { phase = phase; ending = ending; references = references_looked_at ending w i rs }) ≡ due_of (record v { phase = phase; ending = ending; references = map (lean_reference ending w i) rs })
   unfolding references_looked_at
   goes_on_by phase true v rs = refl
   goes_on_by phase false v rs = ap (λ (o : Option DueRef). if v.outstanding then None else o) (phase_by phase (record v { phase = phase; ending = false }) rs)

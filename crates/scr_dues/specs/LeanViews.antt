@@ -1,5 +1,5 @@
 -- Views without what due callbacks do not look at: whether a held service is ready, and, where nobody is told of it, whether one changed. Our own.
-use Rattle.std.specs.Prelude.{ℕ, ◌&&◌, List, [], ◌∷◌, map, Bool, true, false, is_none, is_some, not, if◌then◌else◌}
+use Rattle.std.specs.Prelude.{ℕ, ◌&&◌, List, [], map, Bool, true, false, is_none, is_some, not, if◌then◌else◌}
 use Rattle.std.specs.Str.{bytes_eq}
 use Rattle.callback_orders.specs.declared.instance_view.HeldService.{HeldService}
 use Rattle.callback_orders.specs.declared.instance_view.InstanceView.{InstanceView}
@@ -12,7 +12,7 @@ use Rattle.callback_orders.specs.References.{is_held}
 use Rattle.callback_orders.specs.Sequences.{is_outstanding}
 use Rattle.component_dto.specs.declared.description.Reference.{Reference}
 use Rattle.component_state.specs.Reasons.{choice_at}
-use Rattle.prop_map.specs.Words.{has, is_empty, with_places}
+use Rattle.prop_map.specs.Words.{has, with_places}
 use Rattle.reference_match.specs.Targets.{is_static}
 use Rattle.scr_world.specs.declared.instance.Instance.{Instance}
 use Rattle.scr_world.specs.declared.world.World.{World}
@@ -62,10 +62,6 @@ lean_view_as phase ending w i = record {
 abbrev pub is_settled : Instance → (ℕ × Reference) → Bool
 is_settled i r = is_static r.1.policy && (is_none r.1.updated && bytes_eq (held_for r.1.name i.callbacks) (choice_at i.origin.chosen r.0))
 
--- a static reference holds nothing, and something was chosen for it: it differs from what is desired
-abbrev pub is_unbound : Instance → (ℕ × Reference) → Bool
-is_unbound i r = is_static r.1.policy && (is_empty (held_for r.1.name i.callbacks) && not (is_empty (choice_at i.origin.chosen r.0)))
-
 -- a reference for which nothing is due
 abbrev pub wants_nothing : ReferenceView
 wants_nothing = record { told = false; desired = []; held = [] }
@@ -73,20 +69,15 @@ wants_nothing = record { told = false; desired = []; held = [] }
 unfoldable pub staying_reference : World → Instance → (ℕ × Reference) → ReferenceView
 staying_reference w i r = if is_settled i r then wants_nothing else lean_reference false w i r
 
--- the references of an instance, in the making up to the first that is known to differ
-abbrev pub staying_references : Bool → World → Instance → List (ℕ × Reference) → List ReferenceView
-staying_references making w i [] = []
-staying_references making w i (r ∷ rs) = staying_reference w i r ∷ (if making && is_unbound i r then [] else staying_references making w i rs)
-
 abbrev pub is_making : Phase → Bool
 is_making Making = true
 is_making Active = false
 is_making Left = false
 
 -- what is looked at of the references of an instance that ends or doesn't
-unfoldable pub references_looked_at : Phase → Bool → World → Instance → List (ℕ × Reference) → List ReferenceView
-references_looked_at phase ending w i rs = if ending then map (lean_reference true w i) rs else staying_references (is_making phase) w i rs
+unfoldable pub references_looked_at : Bool → World → Instance → List (ℕ × Reference) → List ReferenceView
+references_looked_at ending w i rs = if ending then map (lean_reference true w i) rs else map (staying_reference w i) rs
 
 -- the view with just these
 unfoldable pub due_view : Phase → Bool → World → Instance → InstanceView
-due_view phase ending w i = record (lean_view_as phase ending w i) { references = references_looked_at phase ending w i (with_places 0 (references_in w i)) }
+due_view phase ending w i = record (lean_view_as phase ending w i) { references = references_looked_at ending w i (with_places 0 (references_in w i)) }

@@ -1,6 +1,6 @@
 pub mod Beginnings
-pub mod Bound
 pub mod Desires
 pub mod FirstDues
 pub mod LeanViews
+pub mod Makings
 pub mod Wanting

@@ -6,7 +6,8 @@ ghost use Rattle.prop_map.specs.Words.{with_places};
 ghost use Rattle.reference_match.specs.Needs.{need_of};
 ghost use Rattle.reference_match.specs.Targets.{chosen, targets};
 ghost use Rattle.scr_dues.specs.Beginnings.{step_of};
-ghost use Rattle.scr_dues.specs.FirstDues.{next_step};
+ghost use Rattle.scr_dues.specs.FirstDues.{first_due_in, next_step};
+ghost use Rattle.scr_dues.specs.Makings.{AreNumbered, IsThatFar};
 ghost use Rattle.scr_world.specs.Dues.{begin_for, begin_of, choice_for, choices, choices_of, instance_in, next_begin};
 ghost use Rattle.scr_world.specs.Worlds.{all_instances, registered_services};
 ghost use Rattle.scr_world.specs.declared.instance.Instance.{Instance};
@@ -19,6 +20,8 @@ use crate::beginnings::{Beginning, boxed};
 use crate::components::references_in;
 use crate::desires::{is_static, targets};
 use crate::dues::first_due_in;
+use crate::following::{followed, known_now};
+use crate::making::Making;
 use crate::own_rows::OwnRows;
 use callback_orders::{Callback, DueRef, Key};
 use component_dto::Reference;
@@ -171,7 +174,8 @@ fn instance_in(due: DueRef) -> u64
     }
 }
 
-fn instance_among(instances: &[Instance], number: u64) -> Option<&Instance>
+/// The first of these instances that has a number. It takes no memory.
+pub(crate) fn instance_among(instances: &[Instance], number: u64) -> Option<&Instance>
     ensures { option_copied result ≡ find (λ (i : Instance). i.number == number) instances.now }
 {
     instances.iter().find(|instance| instance.number == number)
@@ -210,7 +214,7 @@ fn begin_for(
     Ok(Beginning {
         turn,
         instance: instance.number,
-        configuration: instance.origin.configuration,
+        configuration: instance.origin.get().configuration,
         consumer: instance.consumer,
         callback,
         chosen: List::of(Vec::new(alloc)),
@@ -273,11 +277,29 @@ fn next_beginning(
     alloc: Global,
     own: &OwnRows,
     world: &World,
+    due: Option<DueRef>,
 ) -> Result<Option<Beginning>, OutOfMemory>
+    requires { due ≡ first_due_in world.now }
     ensures { IfOk result (λ o. option_map step_of o ≡ next_step world.now) }
 {
-    match first_due_in(alloc, own, world)? {
+    match due {
         Some(due) => begin_of(alloc, own, world, due),
+        None => Ok(None),
+    }
+}
+
+// The step that begins the first due callback, if one is due.
+fn step_for(
+    alloc: Global,
+    own: &OwnRows,
+    world: &World,
+    due: Option<DueRef>,
+) -> Result<Option<Box<Step>>, OutOfMemory>
+    requires { due ≡ first_due_in world.now }
+    ensures { IfOk result (λ o. option_map (λ step. step.value) o ≡ next_begin world.now) }
+{
+    match next_beginning(alloc, own, world, due)? {
+        Some(beginning) => Ok(Some(boxed(alloc, beginning)?)),
         None => Ok(None),
     }
 }
@@ -293,8 +315,28 @@ pub fn next_begin(
 ) -> Result<Option<Box<Step>>, OutOfMemory>
     ensures { IfOk result (λ o. option_map (λ step. step.value) o ≡ next_begin world.now) }
 {
-    match next_beginning(alloc, own, world)? {
-        Some(beginning) => Ok(Some(boxed(alloc, beginning)?)),
-        None => Ok(None),
-    }
+    let due = first_due_in(alloc, own, world, Making::none())?;
+    step_for(alloc, own, world, due)
+}
+
+/// The same, where it's known how far an instance in the making is: then its references before that place aren't looked at. What is
+/// known then, in the same world, is put in its place.
+///
+/// # Errors
+/// Only want of memory. That a turn or an instance has no number of 64 bits left counts as such.
+pub fn next_begin_from(
+    alloc: Global,
+    own: &OwnRows,
+    world: &World,
+    making: &mut Making,
+) -> Result<Option<Box<Step>>, OutOfMemory>
+    requires numbered { AreNumbered world.now }
+    requires far { IsThatFar world.now making.old }
+    ensures next { IfOk result (λ o. option_map (λ step. step.value) o ≡ next_begin world.now) }
+    ensures far { IsThatFar world.now making.new }
+{
+    let known = known_now(alloc, own, world, *making)?;
+    let due = first_due_in(alloc, own, world, known)?;
+    *making = followed(own, world, known, due);
+    step_for(alloc, own, world, due)
 }

@@ -1,38 +1,14 @@
 //! What an instance isn't told of yet (OSGi Compendium 8, chapter 112, "Updated Callback", "Modification").
 ghost use Rattle.component_state.specs.declared.component.Component.{Component};
-ghost use Rattle.scr_world.specs.Instances.{is_told_of};
-ghost use Rattle.scr_world.specs.Views.{awaits_modified, awaits_modified_by, is_changed, revision_told};
-ghost use Rattle.scr_world.specs.declared.instance.ToldRevision.{ToldRevision};
+ghost use Rattle.scr_world.specs.Views.{awaits_modified, awaits_modified_by, is_changed};
 ghost use Rattle.std.specs.Option.{option_copied, option_map_or};
-ghost use Rattle.std.specs.Prelude.{◌≡◌, false, find};
+ghost use Rattle.std.specs.Prelude.{◌≡◌, false};
 
 use crate::own_rows::OwnRows;
 use crate::services::revision_of;
 use component_state::{Component, component_of};
 use prop_map::Str;
-use scr_world::{Instance, ToldRevision, World};
-
-fn told_of<'a>(told: &'a [ToldRevision], reference: &Str, service: u64) -> Option<&'a ToldRevision>
-    ensures { option_copied result ≡ find (is_told_of reference.now service) told.now }
-{
-    told.iter().find(|one| one.reference == *reference && one.service == service)
-}
-
-fn revision_in(told: Option<&ToldRevision>) -> u64
-    ensures { result ≡ option_map_or (λ (t : ToldRevision). t.revision) (option_copied told.entry) 0 }
-{
-    match told {
-        Some(told) => told.revision,
-        None => 0,
-    }
-}
-
-// The revision of a service that was told for a reference, 0 where none was.
-fn revision_told(told: &[ToldRevision], reference: &Str, service: u64) -> u64
-    ensures { result ≡ revision_told told.now reference.now service }
-{
-    revision_in(told_of(told, reference, service))
-}
+use scr_world::{Instance, World};
 
 /// Whether the properties of a service changed since an instance was told of it for a reference.
 pub fn is_changed(
@@ -46,8 +22,7 @@ pub fn is_changed(
 {
     let revision = revision_of(own, world, service);
     // What was told is looked for only where something could have changed.
-    revision != 0
-        && revision_told(instance.told_revisions.as_slice(), reference, service) < revision
+    revision != 0 && instance.told_revisions.revision(reference, service) < revision
 }
 
 fn awaits_modified_by(instance: &Instance, component: Option<&Component>) -> bool
@@ -69,6 +44,6 @@ pub fn awaits_modified(world: &World, instance: &Instance) -> bool
     let components = world.components.as_slice();
     awaits_modified_by(
         instance,
-        component_of(components, instance.origin.configuration),
+        component_of(components, instance.origin.get().configuration),
     )
 }

@@ -10,7 +10,7 @@ use scr_world::{Instance, World};
 fn has_active(instances: &[Instance], configuration: u64) -> bool
     ensures { result ≡ has_active instances.now configuration }
 {
-    instances.iter().any(|instance| instance.origin.configuration == configuration
+    instances.iter().any(|instance| instance.origin.get().configuration == configuration
         && instance.is_active())
 }
 

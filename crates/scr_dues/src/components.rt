@@ -43,5 +43,5 @@ pub fn references_in<'a>(own: &'a OwnRows, world: &'a World, instance: &Instance
     ensures { result.now ≡ references_in world.now instance.now }
 {
     let components = world.components.as_slice();
-    references_by(component_in(own, components, instance.origin.configuration))
+    references_by(component_in(own, components, instance.origin.get().configuration))
 }

@@ -127,7 +127,7 @@ fn need_in(
     let components = world.components.as_slice();
     need_by(
         alloc,
-        component_in(own, components, instance.origin.configuration),
+        component_in(own, components, instance.origin.get().configuration),
         reference,
     )
 }
@@ -218,7 +218,7 @@ pub fn desired_for(
         return Ok(Vec::new(alloc));
     }
     let held = instance.callbacks.held(&reference.name);
-    let choice = choice_where_static(instance.origin.chosen.as_slice(), place, reference);
+    let choice = choice_where_static(instance.origin.get().chosen.as_slice(), place, reference);
     desired_services(alloc, own, world, instance, held, choice, place, reference)
 }
 

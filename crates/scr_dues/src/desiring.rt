@@ -33,7 +33,7 @@ fn desired_for_all(
     ensures { IfOk result (λ v. v.items ≡ desired_for_all ending world.now instance.now (with_places 0 references.now)) }
 {
     let mut found = Vec::new(alloc);
-    let mut choices = instance.origin.chosen.as_slice();
+    let mut choices = instance.origin.get().chosen.as_slice();
     for (at, reference) in references.iter().enumerate() {
         let place = at as u64;
         choices = choices_from(choices, place);

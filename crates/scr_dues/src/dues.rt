@@ -3,15 +3,19 @@
 ghost use Rattle.callback_orders.specs.Due.{due_of};
 ghost use Rattle.callback_orders.specs.declared.due.DueRef.TheVariants.{Create, Deactivate};
 ghost use Rattle.scr_dues.specs.FirstDues.{due_among, due_as, due_for, due_of_all, first_due_in, missing_keys};
+ghost use Rattle.scr_dues.specs.Makings.{HoldsUpTo, IsThatFar, nothing_known};
 ghost use Rattle.scr_world.specs.Dues.{due_in};
 ghost use Rattle.scr_world.specs.Instances.{is_active_phase};
-ghost use Rattle.scr_world.specs.Views.{has_holder, view_of, whiteboard_view};
-ghost use Rattle.std.specs.Prelude.{◌≡◌, ◌&&◌, IfOk, None, Some, false, if◌then◌else◌, is_none, not, option_map};
-ghost use Rattle.std.specs.List.{slice_get};
+ghost use Rattle.scr_world.specs.Views.{has_holder, references_in, view_of, whiteboard_view};
+ghost use Rattle.scr_world.specs.declared.instance.Instance.{Instance};
+ghost use Rattle.std.specs.Prelude.{◌≡◌, ◌==◌, ◌&&◌, IfOk, None, Some, false, if◌then◌else◌, is_none, not, option_map};
+ghost use Rattle.std.specs.List.{Contains, slice_get};
 
+use crate::due_in_making::due_in_making;
 use crate::lean_views::due_view;
+use crate::making::Making;
 use crate::own_rows::OwnRows;
-use crate::readiness::{has_holder, is_active_phase};
+use crate::readiness::{has_holder, is_active_phase, is_making};
 use crate::wanted::missing_keys;
 use callback_orders::{DueRef, Key, Phase, due_of};
 use prop_map::OutOfMemory;
@@ -69,17 +73,34 @@ fn due_as(
     due_by_view(alloc, own, world, phase, ending, instance)
 }
 
+// What is known of an instance.
+fn known_of(making: Making, instance: &Instance) -> Making
+    ensures { result ≡ (if instance.now.number == making.instance then making else nothing_known) }
+{
+    if instance.number == making.instance {
+        making
+    } else {
+        Making::none()
+    }
+}
+
+// In the making it's looked for from where the instance is known to be.
 #[tactic(auto, using(crate::proofs::DueLemmas::as_for))]
 fn due_for(
     alloc: Global,
     own: &OwnRows,
     world: &World,
+    making: Making,
     instance: &Instance,
 ) -> Result<Option<DueRef>, OutOfMemory>
+    requires { instance.now.number ≡ making.instance → HoldsUpTo instance.now (references_in world.now instance.now) making }
     ensures { IfOk result (λ due. due ≡ due_for world.now instance.now) }
 {
     let phase = instance.callbacks.phase();
     let ending = ends(world, instance);
+    if is_making(phase) && !ending {
+        return due_in_making(alloc, own, world, instance, known_of(making, instance));
+    }
     due_as(alloc, own, world, phase, ending, instance)
 }
 
@@ -95,7 +116,7 @@ pub fn due_of_instance(
 ) -> Result<Option<DueRef>, OutOfMemory>
     ensures { IfOk result (λ due. due ≡ due_of (view_of world.now instance.now)) }
 {
-    due_for(alloc, own, world, instance)
+    due_for(alloc, own, world, Making::none(), instance)
 }
 
 /// The callback of the whiteboard's instance that is due, if one is.
@@ -117,12 +138,14 @@ fn due_among(
     alloc: Global,
     own: &OwnRows,
     world: &World,
+    making: Making,
     instances: &[Instance],
 ) -> Result<Option<DueRef>, OutOfMemory>
+    requires { (i : Instance) → Contains instances.now i → i.number ≡ making.instance → HoldsUpTo i (references_in world.now i) making }
     ensures { IfOk result (λ due. due ≡ due_among world.now instances.now) }
 {
     for instance in instances {
-        if let Some(due) = due_for(alloc, own, world, instance)? {
+        if let Some(due) = due_for(alloc, own, world, making, instance)? {
             return Ok(Some(due));
         }
     }
@@ -130,12 +153,18 @@ fn due_among(
 }
 
 // What is due for the first instance that has something due, the whiteboard's before the others.
-fn due_of_all(alloc: Global, own: &OwnRows, world: &World) -> Result<Option<DueRef>, OutOfMemory>
+fn due_of_all(
+    alloc: Global,
+    own: &OwnRows,
+    world: &World,
+    making: Making,
+) -> Result<Option<DueRef>, OutOfMemory>
+    requires { IsThatFar world.now making }
     ensures { IfOk result (λ due. due ≡ due_of_all world.now) }
 {
     match due_as(alloc, own, world, Phase::Active, false, &world.whiteboard)? {
         Some(first) => Ok(Some(first)),
-        None => due_among(alloc, own, world, world.instances.as_slice()),
+        None => due_among(alloc, own, world, making, world.instances.as_slice()),
     }
 }
 
@@ -161,10 +190,12 @@ pub(crate) fn first_due_in(
     alloc: Global,
     own: &OwnRows,
     world: &World,
+    making: Making,
 ) -> Result<Option<DueRef>, OutOfMemory>
+    requires { IsThatFar world.now making }
     ensures { IfOk result (λ due. due ≡ first_due_in world.now) }
 {
-    match due_of_all(alloc, own, world)? {
+    match due_of_all(alloc, own, world, making)? {
         Some(due) => Ok(Some(due)),
         None => first_create(alloc, own, world),
     }
@@ -178,7 +209,7 @@ pub(crate) fn first_due_in(
 pub fn due_in(alloc: Global, own: &OwnRows, world: &World) -> Result<Option<DueRef>, OutOfMemory>
     ensures { IfOk result (λ due. due ≡ due_in world.now) }
 {
-    first_due_in(alloc, own, world)
+    first_due_in(alloc, own, world, Making::none())
 }
 
 /// Whether nothing is due.
@@ -188,6 +219,6 @@ pub fn due_in(alloc: Global, own: &OwnRows, world: &World) -> Result<Option<DueR
 pub fn is_idle(alloc: Global, own: &OwnRows, world: &World) -> Result<bool, OutOfMemory>
     ensures { IfOk result (λ idle. idle ≡ is_none (due_in world.now)) }
 {
-    let due = first_due_in(alloc, own, world)?;
+    let due = first_due_in(alloc, own, world, Making::none())?;
     Ok(due.is_none())
 }

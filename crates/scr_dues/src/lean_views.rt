@@ -4,7 +4,7 @@ ghost use Rattle.callback_orders.specs.Lives.{held_for};
 ghost use Rattle.component_state.specs.Reasons.{choice_at};
 ghost use Rattle.prop_map.specs.Words.{has, with_places};
 ghost use Rattle.prop_map.specs.declared.reference_words.Policy.TheVariants.{Static};
-ghost use Rattle.scr_dues.specs.LeanViews.{due_view, is_making, is_settled, is_unbound, lean_reference, references_looked_at, staying_reference, staying_references, wants_nothing};
+ghost use Rattle.scr_dues.specs.LeanViews.{due_view, is_settled, lean_reference, references_looked_at, staying_reference, wants_nothing};
 ghost use Rattle.scr_world.specs.Views.{is_changed, is_ready, references_in};
 ghost use Rattle.std.specs.Prelude.{◌≡◌, ◌&&◌, IfOk, map, not};
 
@@ -82,8 +82,11 @@ fn changes(
         .collect(alloc)
 }
 
-// It holds these services for the reference, and chose these where it is static.
-fn lean_reference(
+/// It holds these services for the reference, and chose these where it is static.
+///
+/// # Errors
+/// Only want of memory.
+pub(crate) fn lean_reference(
     alloc: Global,
     own: &OwnRows,
     world: &World,
@@ -125,7 +128,7 @@ fn lean_references(
     ensures { IfOk result (λ v. v.items ≡ map (lean_reference ending world.now instance.now) (with_places 0 references.now)) }
 {
     let mut found = Vec::new(alloc);
-    let mut choices = instance.origin.chosen.as_slice();
+    let mut choices = instance.origin.get().chosen.as_slice();
     for (at, reference) in references.iter().enumerate() {
         let place = at as u64;
         choices = choices_from(choices, place);
@@ -152,21 +155,6 @@ fn is_settled(
     ensures { result ≡ is_settled instance.now (place, reference.now) }
 {
     is_static(reference.policy) && reference.updated.is_none() && services == choice
-}
-
-// Whether a static reference holds nothing, where something was chosen for it.
-fn is_unbound(
-    instance: &Instance,
-    services: &[u64],
-    choice: &[u64],
-    place: u64,
-    reference: &Reference,
-) -> bool
-    requires held { services.now ≡ held_for reference.now.name instance.now.callbacks }
-    requires choice { reference.now.policy ≡ Static → choice.now ≡ choice_at instance.now.origin.chosen place }
-    ensures { result ≡ is_unbound instance.now (place, reference.now) }
-{
-    is_static(reference.policy) && services.is_empty() && !choice.is_empty()
 }
 
 // A reference for which nothing is due. It takes no memory.
@@ -204,20 +192,18 @@ fn staying_reference(
     )
 }
 
-// The references of an instance that goes on, in the making up to the first that is known to differ: what is due for it is due
-// first.
+// The references of an instance that goes on.
 fn staying_references(
     alloc: Global,
     own: &OwnRows,
     world: &World,
-    making: bool,
     instance: &Instance,
     references: &[Reference],
 ) -> Result<Vec<ReferenceView>, OutOfMemory>
-    ensures { IfOk result (λ v. v.items ≡ staying_references making world.now instance.now (with_places 0 references.now)) }
+    ensures { IfOk result (λ v. v.items ≡ map (staying_reference world.now instance.now) (with_places 0 references.now)) }
 {
     let mut found = Vec::new(alloc);
-    let mut choices = instance.origin.chosen.as_slice();
+    let mut choices = instance.origin.get().chosen.as_slice();
     for (at, reference) in references.iter().enumerate() {
         let place = at as u64;
         choices = choices_from(choices, place);
@@ -226,17 +212,8 @@ fn staying_references(
         found.push(staying_reference(
             alloc, own, world, instance, services, choice, place, reference,
         )?)?;
-        if making && is_unbound(instance, services, choice, place, reference) {
-            return Ok(found);
-        }
     }
     Ok(found)
-}
-
-fn is_making(phase: Phase) -> bool
-    ensures { result ≡ is_making phase }
-{
-    matches!(phase, Phase::Making)
 }
 
 // What is looked at of the references of an instance.
@@ -245,18 +222,16 @@ fn references_looked_at(
     alloc: Global,
     own: &OwnRows,
     world: &World,
-    phase: Phase,
     ending: bool,
     instance: &Instance,
 ) -> Result<Vec<ReferenceView>, OutOfMemory>
-    ensures { IfOk result (λ v. v.items ≡ references_looked_at phase ending world.now instance.now (with_places 0 (references_in world.now instance.now))) }
+    ensures { IfOk result (λ v. v.items ≡ references_looked_at ending world.now instance.now (with_places 0 (references_in world.now instance.now))) }
 {
     let references = references_in(own, world, instance);
     if ending {
         return lean_references(alloc, own, world, true, instance, references);
     }
-    let making = is_making(phase);
-    staying_references(alloc, own, world, making, instance, references)
+    staying_references(alloc, own, world, instance, references)
 }
 
 /// What decides it, where the instance is in this phase, and ends or doesn't, as if nobody held it.
@@ -271,7 +246,7 @@ pub(crate) fn due_view(
 ) -> Result<InstanceView, OutOfMemory>
     ensures { IfOk result (λ v. v ≡ due_view phase ending world.now instance.now) }
 {
-    let views = references_looked_at(alloc, own, world, phase, ending, instance)?;
+    let views = references_looked_at(alloc, own, world, ending, instance)?;
     Ok(InstanceView {
         instance: instance.number,
         phase,

@@ -10,7 +10,7 @@ use component_state::Component;
 use prop_map::{
     Cardinality, List, OutOfMemory, Policy, PolicyOption, Properties, Shared, Str, Value,
 };
-use service_registry::{ServiceRow, with_service_properties};
+use service_registry::{Interfaces, ServiceRow, with_service_properties};
 use std::alloc::Global;
 use std::marker::Model;
 
@@ -80,7 +80,7 @@ fn condition(alloc: Global) -> Result<ServiceRow, OutOfMemory>
     Ok(ServiceRow {
         id: 0,
         bundle: 0,
-        interfaces: List::of(interfaces),
+        interfaces: Interfaces::of(alloc, List::of(interfaces))?,
         properties,
         revision: 0,
         direct: true,

@@ -5,7 +5,7 @@ ghost use Rattle.component_dto.specs.declared.description.Reference.{Reference};
 ghost use Rattle.component_state.specs.Components.{consumer_for, declaring_bundle};
 ghost use Rattle.component_state.specs.declared.component.Component.{Component};
 ghost use Rattle.prop_map.specs.Words.{has};
-ghost use Rattle.scr_dues.specs.Bound.{binds, was_bound};
+ghost use Rattle.scr_dues.specs.LeanViews.{is_making};
 ghost use Rattle.scr_world.specs.Instances.{is_active_instance, is_active_phase};
 ghost use Rattle.scr_world.specs.Lists.{holds};
 ghost use Rattle.scr_world.specs.Views.{bundle_of_instance, has_holder, is_holder, is_ready, serves};
@@ -17,7 +17,7 @@ ghost use Rattle.std.specs.Prelude.{◌≡◌, ◌==◌, ◌&&◌, false};
 
 use crate::components::references_in;
 use crate::own_rows::OwnRows;
-use callback_orders::{Callback, Called, Phase};
+use callback_orders::Phase;
 use component_dto::{Reference, Scope};
 use component_state::{Component, component_of};
 use instance_callbacks::InstanceCallbacks;
@@ -29,6 +29,12 @@ pub(crate) fn is_active_phase(phase: Phase) -> bool
     ensures { result ≡ is_active_phase phase }
 {
     matches!(phase, Phase::Active)
+}
+
+pub(crate) fn is_making(phase: Phase) -> bool
+    ensures { result ≡ is_making phase }
+{
+    matches!(phase, Phase::Making)
 }
 
 // For whom the instance is that a bundle uses: for all, or for this bundle.
@@ -63,7 +69,10 @@ fn bundle_in(component: Option<&Component>) -> u64
 pub fn bundle_of_instance(world: &World, instance: &Instance) -> u64
     ensures { result ≡ bundle_of_instance world.now instance.now }
 {
-    bundle_in(component_of(world.components.as_slice(), instance.origin.configuration))
+    bundle_in(component_of(
+        world.components.as_slice(),
+        instance.origin.get().configuration,
+    ))
 }
 
 /// Whether an instance is the one that a bundle uses of a service: it was made with it, for this bundle or for all.
@@ -73,7 +82,7 @@ pub fn serves(world: &World, bundle: u64, service: u64, instance: &Instance) -> 
     let components = world.components.as_slice();
     instance.service == service
         && is_for(
-            component_of(components, instance.origin.configuration),
+            component_of(components, instance.origin.get().configuration),
             bundle,
             instance.consumer,
         )
@@ -113,24 +122,8 @@ pub fn holds(own: &OwnRows, world: &World, service: u64, instance: &Instance) ->
     ensures { result ≡ holds world.now.components service instance.now }
 {
     let callbacks = &instance.callbacks;
-    was_bound(callbacks.calls(), service)
+    callbacks.was_bound(service)
         && holds_for_last_or_any(references_in(own, world, instance), callbacks, service)
-}
-
-fn binds(callback: &Callback, sought: u64) -> bool
-    ensures { result ≡ binds sought callback.now }
-{
-    match callback {
-        Callback::Bind { service, .. } => *service == sought,
-        _ => false,
-    }
-}
-
-// Whether a service was bound, for whatever reference.
-fn was_bound(calls: &[Called], service: u64) -> bool
-    ensures { result ≡ was_bound service calls.now }
-{
-    calls.iter().any(|called| binds(&called.callback, service))
 }
 
 // Whether a service is held for the reference of a name.

@@ -1,29 +1,16 @@
 //! Room in the journal: the entries that are reserved for what has begun (our own).
-ghost use Rattle.scr_world.specs.Instances.{is_activated};
 ghost use Rattle.scr_world.specs.Room.{has_room, needed_by, reserved, reserved_for};
 ghost use Rattle.std.specs.Prelude.{◌≡◌, ◌≤◌, ◌<◌, ◌+◌, ◌^◌, map, sum};
 
-use callback_orders::{Callback, Called, Outcome};
 use scr_world::{Instance, Step, World};
-
-// Whether an Activate is outstanding or ended Done.
-fn is_activated(calls: &[Called]) -> bool
-    ensures { result ≡ is_activated calls.now }
-{
-    calls.iter().any(|called| {
-        called.callback.is_activate()
-            && !matches!(called.outcome, Some(Outcome::Refused | Outcome::NoMemory))
-    })
-}
 
 // The entries that are reserved for an instance.
 fn reserved_for(instance: &Instance) -> u64
     ensures value { result ≡ reserved_for instance.now }
     ensures small { result ≤ 2 }
 {
-    let calls = instance.callbacks.calls();
     u64::from(instance.callbacks.is_outstanding())
-        + u64::from(is_activated(calls) && !instance.drained)
+        + u64::from(instance.callbacks.is_activated() && !instance.drained)
 }
 
 fn reserved_for_all(instances: &[Instance]) -> u128

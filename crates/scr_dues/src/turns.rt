@@ -12,8 +12,9 @@ ghost use Rattle.std.specs.Prelude.{◌≡◌, [], IfOk, find, option_map};
 
 use crate::components::component_in;
 use crate::own_rows::OwnRows;
-use callback_orders::{Callback, Called};
+use callback_orders::Callback;
 use component_state::Component;
+use instance_callbacks::InstanceCallbacks;
 use journal_core::GateKey;
 use kind_trait::Site;
 use prop_map::{Copies, OutOfMemory, Str};
@@ -53,10 +54,13 @@ pub fn is_under_way(world: &World, turn: u64) -> bool
 }
 
 // A copy of the last callback that an instance was told of.
-fn last_copied(alloc: Global, calls: &[Called]) -> Result<Option<Callback>, OutOfMemory>
-    ensures { IfOk result (λ callback. callback ≡ last_callback calls.now) }
+fn last_copied(
+    alloc: Global,
+    callbacks: &InstanceCallbacks,
+) -> Result<Option<Callback>, OutOfMemory>
+    ensures { IfOk result (λ callback. callback ≡ last_callback callbacks.now) }
 {
-    match last_callback(calls) {
+    match last_callback(callbacks) {
         Some(callback) => Ok(Some(callback.copy(alloc)?)),
         None => Ok(None),
     }
@@ -122,7 +126,7 @@ fn work_for(
 ) -> Result<TurnWork, OutOfMemory>
     ensures { IfOk result (λ work. work ≡ work_for world.now turn instance.now callback) }
 {
-    let configuration = instance.origin.configuration;
+    let configuration = instance.origin.get().configuration;
     Ok(TurnWork {
         number: turn,
         callback,
@@ -130,7 +134,7 @@ fn work_for(
         name: name_in(alloc, own, world, configuration)?,
         site: Site {
             class: class_in(alloc, own, world, configuration)?,
-            properties: instance.properties.copy(alloc)?,
+            properties: instance.properties.get().copy(alloc)?,
         },
     })
 }
@@ -144,7 +148,7 @@ fn work_told(
 ) -> Result<Option<TurnWork>, OutOfMemory>
     ensures { IfOk result (λ work. work ≡ option_map (work_for world.now turn instance.now) (last_callback instance.now.callbacks)) }
 {
-    match last_copied(alloc, instance.callbacks.calls())? {
+    match last_copied(alloc, &instance.callbacks)? {
         Some(callback) => Ok(Some(work_for(alloc, own, world, turn, instance, callback)?)),
         None => Ok(None),
     }

@@ -76,7 +76,8 @@ fn has_instance(instances: &[Instance], key: Key) -> bool
     ensures { result ≡ has_instance instances.now key }
 {
     instances.iter().any(|instance| {
-        instance.origin.configuration == key.configuration && instance.consumer == key.consumer
+        instance.origin.get().configuration == key.configuration
+            && instance.consumer == key.consumer
     })
 }
 

@@ -1,5 +1,8 @@
 use Rattle.std.proofs.Common.{◌∙◌, ap, subst, sym}
 use Rattle.journal_core.specs.Rooms.{JournalRows}
+use Rattle.scr_dues.specs.declared.making.Making.{Making}
+use Rattle.scr_dues.specs.Makings.{IsThatFar}
+use Rattle.scr_dues.proofs.KnownPlaces.{nothing_far}
 use Rattle.scr_state.specs.Keeps.{Keeps}
 use Rattle.scr_world.specs.Steps.{history_of}
 use Rattle.scr_world.specs.TurnLines.{turn_lines}
@@ -14,4 +17,5 @@ invariant_of-result c = (
     told = c.new-lines.ensures.items ∙ sym (ap (λ (j : JournalRows Step). turn_lines (history_of j.entries)) c.new-journal.ensures);
   },
   c.requires.within,
+  subst (λ (m : Making). IsThatFar c.in_ok-state.state.world m) (sym c.none-making.ensures) (nothing_far c.in_ok-state.state.world),
 )

@@ -3,7 +3,7 @@ use Rattle.std.specs.Prelude.{option_map}
 use Rattle.scr_world.specs.declared.step.Step.{Step}
 use Rattle.scr_dues.specs.Beginnings.{step_of}
 use Rattle.scr_dues.proofs.DueLemmas.{next_is}
-use Rattle.scr_dues.proofs.begins.next_begin.Goals as goal
+use Rattle.scr_dues.proofs.begins.step_for.Goals as goal
 
 pub returns-in_ok-boxed-in-Some : goal.returns-in_ok-boxed-in-Some
 returns-in_ok-boxed-in-Some c =

@@ -1,0 +1,8 @@
+use Rattle.scr_core.proofs.FarCalls.{got_all}
+use Rattle.scr_core.proofs.platform_core.Core.get_use.Goals as goal
+
+pub invariant_of-self : goal.invariant_of-self
+invariant_of-self c =
+    let core = c.self.inside in
+    let all = got_all core.limits.journal core.journal c.get.new.journal core.state c.get.new.state core.lines.items core.making c.self.invariant.0 c.self.invariant.2 c.get.ensures.limit c.get.ensures.keeps c.args.bundle c.args.service c.get.result c.get.ensures.answer in
+    (all.0, c.self.invariant.1, all.1)
