@@ -1,8 +1,5 @@
 -- Services that have left, and those of them that an instance holds. OSGi Core 8, chapter 5, "Unregistering Services"; OSGi Compendium 8, chapter 112, "Unbinding".
-use Rattle.std.specs.Prelude.{ℕ, ◌==◌, ◌&&◌, List, Bool, false, filter, not}
-use Rattle.callback_orders.specs.declared.callback.Callback.{Callback}
-use Rattle.callback_orders.specs.declared.callback.Callback.TheVariants.{Bind}
-use Rattle.callback_orders.specs.declared.word.Called.{Called}
+use Rattle.std.specs.Prelude.{◌&&◌, List, Bool, filter, not}
 use Rattle.service_registry.specs.declared.row.ServiceRow.{ServiceRow}
 use Rattle.scr_world.specs.declared.world.World.{World}
 use Rattle.scr_world.specs.Lists.{is_service_held}
@@ -19,11 +16,3 @@ left_between was now = filter (has_left now) (registered_services was)
 -- a service isn't registered, and an instance holds it
 abbrev pub is_left_held : World → ServiceRow → Bool
 is_left_held w r = has_left w r && is_service_held w r.id
-
--- a callback binds a service
-abbrev pub is_bind_of : ℕ → Callback → Bool
-is_bind_of service (Bind reference bound) = bound == service
-is_bind_of service _ = false
-
-abbrev pub binds : ℕ → Called → Bool
-binds service c = is_bind_of service c.callback

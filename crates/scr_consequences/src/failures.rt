@@ -15,9 +15,8 @@ fn ends_making(open_now: &[OpenPeriod], turn: u64, instance: &Instance) -> bool
     ensures { result ≡ ends_making open_now.now turn instance.now }
 {
     instance.has_turn(turn)
-        && ((last_is_create(instance.callbacks.calls())
-            || last_is_activate(instance.callbacks.calls()))
-            && is_current(open_now, &instance.origin))
+        && ((last_is_create(&instance.callbacks) || last_is_activate(&instance.callbacks))
+            && is_current(open_now, instance.origin.get()))
 }
 
 /// The instances whose creation or activation ends by a turn, while the period is open in which they were made.
@@ -46,7 +45,7 @@ fn configurations_ending(
     let mut found = Vec::new(alloc);
     for instance in instances {
         if ends_making(open_now, turn, instance) {
-            found.push(instance.origin.configuration)?;
+            found.push(instance.origin.get().configuration)?;
         }
     }
     Ok(List::of(found))
@@ -89,7 +88,7 @@ fn failure_of(outcome: Outcome, instance: &Instance) -> Failure
     ensures { result ≡ failure_of outcome instance.now }
 {
     Failure {
-        configuration: instance.origin.configuration,
+        configuration: instance.origin.get().configuration,
         service: instance.service,
         instance: instance.number,
         outcome,

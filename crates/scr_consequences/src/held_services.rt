@@ -2,7 +2,6 @@
 ghost use Rattle.callback_orders.specs.Lives.{held_for};
 ghost use Rattle.component_dto.specs.declared.description.Reference.{Reference};
 ghost use Rattle.prop_map.specs.Words.{has};
-ghost use Rattle.scr_consequences.specs.Lefts.{binds};
 ghost use Rattle.scr_world.specs.Lists.{holds, is_service_held};
 ghost use Rattle.scr_world.specs.Whiteboard.{whiteboard_references};
 ghost use Rattle.scr_world.specs.declared.instance.Instance.{Instance};
@@ -10,23 +9,12 @@ ghost use Rattle.std.specs.List.{list_any};
 ghost use Rattle.std.specs.Prelude.{◌≡◌, ◌||◌, IfOk};
 
 use crate::platform_services::text;
-use callback_orders::{Callback, Called};
 use component_dto::Reference;
 use component_state::{Component, component_of};
 use instance_callbacks::InstanceCallbacks;
 use prop_map::{OutOfMemory, Str};
 use scr_world::{Instance, World};
 use std::alloc::Global;
-
-// Whether a service was bound by one of these callbacks.
-fn was_bound(calls: &[Called], service: u64) -> bool
-    ensures { result ≡ list_any (binds service) calls.now }
-{
-    calls.iter().any(|called| match &called.callback {
-        Callback::Bind { service: bound, .. } => *bound == service,
-        _ => false,
-    })
-}
 
 // Whether a service is held for the reference of a name.
 fn has_service(callbacks: &InstanceCallbacks, name: &Str, service: u64) -> bool
@@ -71,10 +59,10 @@ fn holds_bound(
 ) -> Result<bool, OutOfMemory>
     ensures { IfOk result (λ b. b ≡ holds components.now service instance.now) }
 {
-    if instance.origin.configuration == 0 {
+    if instance.origin.get().configuration == 0 {
         return whiteboard_holds(alloc, &instance.callbacks, service);
     }
-    match component_of(components, instance.origin.configuration) {
+    match component_of(components, instance.origin.get().configuration) {
         Some(component) => {
             let references = component.description.get().references.as_slice();
             Ok(holds_for(references, &instance.callbacks, service))
@@ -95,7 +83,7 @@ pub fn holds(
 ) -> Result<bool, OutOfMemory>
     ensures { IfOk result (λ b. b ≡ holds components.now service instance.now) }
 {
-    if was_bound(instance.callbacks.calls(), service) {
+    if instance.callbacks.was_bound(service) {
         return holds_bound(alloc, components, service, instance);
     }
     Ok(false)

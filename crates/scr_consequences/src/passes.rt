@@ -20,7 +20,7 @@ fn origins_of(alloc: Global, instances: &[Instance]) -> Result<Vec<&Origin>, Out
 {
     let mut found = Vec::new(alloc);
     for instance in instances {
-        found.push(&instance.origin)?;
+        found.push(instance.origin.get())?;
     }
     Ok(found)
 }

@@ -26,7 +26,7 @@ fn declaring_bundle(components: &[Component], configuration: u64) -> u64
 pub fn keeps_bundle(components: &[Component], bundle: u64, instance: &Instance) -> bool
     ensures { result ≡ keeps_bundle components.now bundle instance.now }
 {
-    declaring_bundle(components, instance.origin.configuration) == bundle
+    declaring_bundle(components, instance.origin.get().configuration) == bundle
         || instance.consumer == bundle
 }
 

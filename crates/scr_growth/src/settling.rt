@@ -6,7 +6,6 @@ ghost use Rattle.scr_consequences.specs.Gets.{HaveStood, tokens_left, uses_left}
 ghost use Rattle.scr_growth.specs.Growths.{AreCached, HasBefore, HasEntered, HasSettled, IsBefore};
 ghost use Rattle.scr_growth.specs.Growths.{IsRest, IsSettling, reserved_with_tokens, services_among, settled_world, with_listeners_told};
 ghost use Rattle.bundle_life.specs.Lives.{is_stopping, state_is};
-ghost use Rattle.scr_world.specs.Instances.{is_activated};
 ghost use Rattle.scr_world.specs.Room.{reserved_for};
 ghost use Rattle.scr_world.specs.declared.world.World.{World};
 ghost use Rattle.service_listeners.specs.Numbers.{AreNumbered};
@@ -16,7 +15,6 @@ ghost use Rattle.std.specs.Prelude.{◌≡◌, ◌+◌, ◌<◌, ◌≤◌, ℕ,
 use crate::entering::{add_entry, take_entry};
 use crate::listening::tell_last;
 use crate::undone::{periods_before, rows_with};
-use callback_orders::{Callback, Called, Outcome, is_outstanding};
 use component_state::OpenPeriod;
 use journal_core::{GateKey, Journal, Opened};
 use prop_map::{List, OutOfMemory};
@@ -225,8 +223,8 @@ fn reserved_for_all(instances: &[Instance]) -> Result<u64, OutOfMemory>
 fn reserved_for(instance: &Instance) -> u64
     ensures { result ≡ reserved_for instance.now }
 {
-    let calls = instance.callbacks.calls();
-    one_if(is_outstanding(calls)) + one_if(is_activated(calls) && !instance.drained)
+    one_if(instance.callbacks.is_outstanding())
+        + one_if(instance.callbacks.is_activated() && !instance.drained)
 }
 
 fn one_if(so: bool) -> u64
@@ -234,14 +232,4 @@ fn one_if(so: bool) -> u64
     ensures small { result ≤ 1 }
 {
     if so { 1 } else { 0 }
-}
-
-// Whether an Activate is outstanding or ended Done.
-fn is_activated(calls: &[Called]) -> bool
-    ensures { result ≡ is_activated calls.now }
-{
-    calls.iter().any(|called| {
-        called.callback.is_activate()
-            && !matches!(called.outcome, Some(Outcome::Refused | Outcome::NoMemory))
-    })
 }

@@ -54,5 +54,5 @@ fn has_instance(instances: &[Instance], number: u64) -> bool
 {
     instances
         .iter()
-        .any(|instance| instance.origin.configuration == number)
+        .any(|instance| instance.origin.get().configuration == number)
 }

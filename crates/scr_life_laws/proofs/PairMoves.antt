@@ -53,7 +53,8 @@ use Rattle.scr_world.specs.Legal.{IsLegal}
 use Rattle.scr_world.specs.Lists.{world_of}
 use Rattle.scr_world.specs.Steps.{History}
 use Rattle.scr_world.specs.Stepping.{before_turn}
-use Rattle.scr_world.specs.Views.{desired_services, desired_unless_ending, is_changed, properties_in, reference_view, references_in, revision_told, targets_for, view_as}
+use Rattle.scr_world.specs.Views.{desired_services, desired_unless_ending, is_changed, properties_in, reference_view, references_in, targets_for, view_as}
+use Rattle.told_revisions.specs.Told.{revision_told}
 use Rattle.scr_world.specs.Whiteboard.{component_in}
 use Rattle.scr_world.specs.Worlds.{registered_services, revision_of, sorted}
 use Rattle.scr_world.specs.declared.instance.Instance.{Instance}

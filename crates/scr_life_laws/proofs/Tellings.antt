@@ -15,10 +15,10 @@ use Rattle.callback_orders.proofs.HeldLemmas.{text_is, text_same}
 use Rattle.component_state.proofs.Apart.{has_both, has_kept}
 use Rattle.prop_map.specs.Words.{has}
 use Rattle.scr_life_laws.proofs.CallbackSteps.{firm}
-use Rattle.scr_world.specs.Instances.{BeforeTurn, is_told_of, with_effect_of_begin, with_told, without_told}
-use Rattle.scr_world.specs.Views.{revision_told}
+use Rattle.scr_world.specs.Instances.{BeforeTurn, with_effect_of_begin}
 use Rattle.scr_world.specs.declared.instance.Instance.{Instance}
-use Rattle.scr_world.specs.declared.instance.ToldRevision.{ToldRevision}
+use Rattle.told_revisions.specs.Told.{is_told_of, revision_told, with_told, without_told}
+use Rattle.told_revisions.specs.declared.tellings.ToldRevision.{ToldRevision}
 
 -- a callback names a service and a reference
 abbrev pub touches : Callback → List ℕ → ℕ → Bool

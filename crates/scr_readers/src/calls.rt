@@ -167,8 +167,8 @@ fn live_of(
         key: instance.gate(),
         instance: instance.number,
         site: Site {
-            class: class_in(alloc, own, world, instance.origin.configuration)?,
-            properties: instance.properties.copy(alloc)?,
+            class: class_in(alloc, own, world, instance.origin.get().configuration)?,
+            properties: instance.properties.get().copy(alloc)?,
         },
     })
 }

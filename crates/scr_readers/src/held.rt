@@ -102,7 +102,7 @@ fn lines_of(
 {
     let mut lines = Vec::new(alloc);
     for instance in world.instances.as_slice() {
-        if instance.origin.configuration == configuration {
+        if instance.origin.get().configuration == configuration {
             lines.append(&mut lines_of_instance(alloc, own, world, instance)?)?;
         }
     }

@@ -98,7 +98,7 @@ fn unbound_among(instances: &[Instance], turn: u64) -> Option<u64>
     ensures { result ≡ option_and_then (λ (i : Instance). option_and_then service_unbound (last_callback i.callbacks)) (find (has_turn turn) instances.now) }
 {
     match told_among(instances, turn) {
-        Some(instance) => last_unbound(instance.callbacks.calls()),
+        Some(instance) => last_unbound(&instance.callbacks),
         None => None,
     }
 }
@@ -108,7 +108,7 @@ fn unbound_by(world: &World, turn: u64) -> Option<u64>
     ensures { result ≡ unbound_by turn world.now }
 {
     if world.whiteboard.has_turn(turn) {
-        return last_unbound(world.whiteboard.callbacks.calls());
+        return last_unbound(&world.whiteboard.callbacks);
     }
     unbound_among(world.instances.as_slice(), turn)
 }
@@ -116,7 +116,7 @@ fn unbound_by(world: &World, turn: u64) -> Option<u64>
 fn activates_by(turn: u64, instance: &Instance) -> bool
     ensures { result ≡ activates_by turn instance.now }
 {
-    instance.has_turn(turn) && last_is_activate(instance.callbacks.calls())
+    instance.has_turn(turn) && last_is_activate(&instance.callbacks)
 }
 
 fn some_activate(instances: &[Instance], turn: u64) -> bool

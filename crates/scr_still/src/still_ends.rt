@@ -42,24 +42,24 @@ fn ends_still(
 {
     !fails_open(world, outcome, instance)
         && (!ends_life(outcome, instance)
-            || (!satisfied.contains(&instance.origin.configuration)
+            || (!satisfied.contains(&instance.origin.get().configuration)
                 && !is_waited_for(world, world.bundles.rows(), turn, instance)))
 }
 
 fn fails_open(world: &World, outcome: Outcome, instance: &Instance) -> bool
     ensures { result ≡ fails_open outcome world.now instance.now }
 {
-    let calls = instance.callbacks.calls();
+    let callbacks = &instance.callbacks;
     is_failed(Some(outcome))
-        && ((last_is_create(calls) || last_is_activate(calls))
-            && is_current(world.open_periods.as_slice(), &instance.origin))
+        && ((last_is_create(callbacks) || last_is_activate(callbacks))
+            && is_current(world.open_periods.as_slice(), instance.origin.get()))
 }
 
 fn ends_life(outcome: Outcome, instance: &Instance) -> bool
     ensures { result ≡ ends_life outcome instance.now }
 {
-    let calls = instance.callbacks.calls();
-    last_is_destroy(calls) || (last_is_create(calls) && is_failed(Some(outcome)))
+    let callbacks = &instance.callbacks;
+    last_is_destroy(callbacks) || (last_is_create(callbacks) && is_failed(Some(outcome)))
 }
 
 fn is_waited_for(world: &World, bundles: &[BundleLife], turn: u64, instance: &Instance) -> bool

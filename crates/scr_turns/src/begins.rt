@@ -1,16 +1,17 @@
 //! An instance that is told of a callback (OSGi Compendium 8, chapter 112, "Activation", "Modification").
 ghost use Rattle.component_state.specs.Components.{properties_of};
 ghost use Rattle.scr_turns.specs.TurnDrafts.{told_in};
-ghost use Rattle.scr_world.specs.Instances.{is_told_of, with_effect_of_begin, with_told, without_told};
+ghost use Rattle.scr_world.specs.Instances.{with_effect_of_begin};
 ghost use Rattle.scr_world.specs.Stepping.{before_turn};
 ghost use Rattle.scr_world.specs.Worlds.{revision_of};
 ghost use Rattle.std.specs.Prelude.{◌≡◌, IfOk};
+ghost use Rattle.told_revisions.specs.Told.{with_told, without_told};
 
 use crate::revisions::revision_of;
 use callback_orders::Callback;
 use component_state::{Component, component_of};
-use prop_map::{Copies, List, OutOfMemory, Properties, Str};
-use scr_world::{Instance, ToldRevision, World};
+use prop_map::{Copies, OutOfMemory, Properties, Shared, Str};
+use scr_world::{Instance, World};
 use std::alloc::Global;
 
 /// An instance as it is where a turn begins that tells it of a callback.
@@ -43,9 +44,7 @@ fn with_effect(
             with_revision(alloc, world, reference, *service, instance)
         }
         Callback::Unbind { reference, service } => {
-            let mut told = instance;
-            told.told_revisions = without_told(reference, *service, told.told_revisions);
-            Ok(told)
+            without_revision(alloc, reference, *service, instance)
         }
         Callback::Modified => with_properties(alloc, world, instance),
         Callback::Create | Callback::Activate | Callback::Deactivate | Callback::Destroy => {
@@ -65,7 +64,22 @@ fn with_revision(
 {
     let mut told = instance;
     let revision = revision_of(world, service);
-    told.told_revisions = with_told(alloc, reference, service, revision, told.told_revisions)?;
+    told.told_revisions
+        .tell(alloc, reference.copy(alloc)?, service, revision)?;
+    Ok(told)
+}
+
+fn without_revision(
+    alloc: Global,
+    reference: &Str,
+    service: u64,
+    instance: Instance,
+) -> Result<Instance, OutOfMemory>
+    ensures { IfOk result (λ i. i ≡ record instance { told_revisions = without_told reference.now service instance.told_revisions }) }
+{
+    let mut told = instance;
+    told.told_revisions
+        .forget(alloc, reference.copy(alloc)?, service)?;
     Ok(told)
 }
 
@@ -78,41 +92,10 @@ fn with_properties(
 {
     let mut told = instance;
     let components = world.components.as_slice();
-    told.properties = properties_of(alloc, components, told.origin.configuration)?;
+    let configuration = told.origin.get().configuration;
+    told.properties = Shared::of(alloc, properties_of(alloc, components, configuration)?)?;
     told.properties_taken_at = world.entries;
     Ok(told)
-}
-
-fn is_told_of(reference: &Str, service: u64, told: &ToldRevision) -> bool
-    ensures { result ≡ is_told_of reference.now service told.now }
-{
-    told.reference == *reference && told.service == service
-}
-
-fn without_told(reference: &Str, service: u64, told: List<ToldRevision>) -> List<ToldRevision>
-    ensures { result ≡ without_told reference.now service told }
-{
-    let mut left = told.items();
-    left.retain(|one| !is_told_of(reference, service, one));
-    List::of(left)
-}
-
-fn with_told(
-    alloc: Global,
-    reference: &Str,
-    service: u64,
-    revision: u64,
-    told: List<ToldRevision>,
-) -> Result<List<ToldRevision>, OutOfMemory>
-    ensures { IfOk result (λ v. v ≡ with_told reference.now service revision told) }
-{
-    let mut found = without_told(reference, service, told).items();
-    found.push(ToldRevision {
-        reference: reference.copy(alloc)?,
-        service,
-        revision,
-    })?;
-    Ok(List::of(found))
 }
 
 // The properties of a component configuration, none where it isn't known.

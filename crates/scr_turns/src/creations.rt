@@ -1,6 +1,7 @@
 //! An instance that the beginning of a Create makes (OSGi Compendium 8, chapter 112, "Activation").
 ghost use Rattle.callback_orders.specs.Sequences.{begun};
 ghost use Rattle.callback_orders.specs.declared.callback.Callback.TheVariants.{Create};
+ghost use Rattle.component_state.specs.Components.{properties_of};
 ghost use Rattle.component_state.specs.Rows.{service_in};
 ghost use Rattle.component_state.specs.declared.open_period.OpenPeriod.{OpenPeriod};
 ghost use Rattle.scr_world.specs.Instances.{created_at};
@@ -13,9 +14,10 @@ use crate::slots::first_free_slot;
 use callback_orders::Callback;
 use component_state::{Choice, OpenPeriod, Origin};
 use instance_callbacks::InstanceCallbacks;
-use prop_map::{Copies, List, OutOfMemory};
+use prop_map::{Copies, List, OutOfMemory, Properties, Shared};
 use scr_world::{Instance, World};
 use std::alloc::{AllocError, Global};
+use told_revisions::ToldRevisions;
 
 /// The instance that the beginning of a Create makes. That its slot is no number of 32 bits counts as want of memory.
 pub(crate) fn created(
@@ -37,16 +39,40 @@ pub(crate) fn created(
         generation: 0,
         drained: false,
         turn,
-        origin: Origin {
-            configuration,
-            created: world.entries,
-            chosen: chosen.copy(alloc)?,
-        },
+        origin: origin_of(alloc, world, configuration, chosen)?,
         callbacks: create_begun(alloc)?,
-        properties: properties_of(alloc, world.components.as_slice(), configuration)?,
+        properties: taken(alloc, world, configuration)?,
         properties_taken_at: world.entries,
-        told_revisions: List::of(Vec::new(alloc)),
+        told_revisions: ToldRevisions::new(alloc),
     })
+}
+
+fn origin_of(
+    alloc: Global,
+    world: &World,
+    configuration: u64,
+    chosen: &List<Choice>,
+) -> Result<Shared<Origin>, OutOfMemory>
+    ensures { IfOk result (λ o. o ≡ record { configuration = configuration; created = world.now.entries; chosen = chosen.now }) }
+{
+    let origin = Origin {
+        configuration,
+        created: world.entries,
+        chosen: chosen.copy(alloc)?,
+    };
+    Shared::of(alloc, origin)
+}
+
+// The properties that an instance takes at its Create.
+fn taken(
+    alloc: Global,
+    world: &World,
+    configuration: u64,
+) -> Result<Shared<Properties>, OutOfMemory>
+    ensures { IfOk result (λ p. p ≡ properties_of world.now.components configuration) }
+{
+    let properties = properties_of(alloc, world.components.as_slice(), configuration)?;
+    Shared::of(alloc, properties)
 }
 
 // The callbacks of an instance whose Create begins.

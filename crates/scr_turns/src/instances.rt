@@ -12,7 +12,7 @@ ghost use Rattle.std.specs.Prelude.{◌≡◌, ◌==◌, ◌++◌, ◌∷◌, []
 use crate::begins::told_in;
 use crate::creations::created;
 use crate::ends::with_outcome;
-use callback_orders::{Callback, Outcome, is_living};
+use callback_orders::{Callback, Outcome};
 use component_state::Choice;
 use prop_map::{Copies, List, OutOfMemory};
 use scr_state::RowChange;
@@ -161,7 +161,7 @@ fn ended(
 fn lives_on(instance: &Instance) -> bool
     ensures { result ≡ lives_on instance.now }
 {
-    is_living(instance.callbacks.calls())
+    instance.callbacks.is_living()
 }
 
 // The drain of one is posted.

@@ -31,8 +31,8 @@ fn present_among<'w>(
 ) -> Option<&'w Instance>
     ensures { option_copied result ≡ find (λ (i : Instance). (i.origin.configuration == configuration) && is_current periods.now i.origin) instances.now }
 {
-    instances.iter().find(|instance| instance.origin.configuration == configuration
-        && is_current(periods, &instance.origin))
+    instances.iter().find(|instance| instance.origin.get().configuration == configuration
+        && is_current(periods, instance.origin.get()))
 }
 
 /// What an instance, if there is one, holds for the reference of a name, best first.

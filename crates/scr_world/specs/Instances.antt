@@ -2,7 +2,6 @@
 use Rattle.std.specs.Prelude.{ℕ, zero, suc, ◌+◌, ◌==◌, ◌&&◌, List, [], ◌∷◌, ◌++◌, map, Bool, true, false, not, Option, Some, None, filter, length, slice_index, if◌then◌else◌}
 use Rattle.std.specs.List.{list_any}
 use Rattle.std.specs.Option.{option_map_or}
-use Rattle.std.specs.Str.{bytes_eq}
 use Rattle.callback_orders.specs.declared.callback.Callback.{Callback}
 use Rattle.callback_orders.specs.declared.callback.Callback.TheVariants.{Create, Bind, Updated, Unbind, Activate, Modified, Deactivate, Destroy}
 use Rattle.callback_orders.specs.declared.callback.Outcome.{Outcome}
@@ -18,7 +17,7 @@ use Rattle.component_state.specs.declared.origin.Choice.{Choice}
 use Rattle.component_state.specs.declared.open_period.OpenPeriod.{OpenPeriod}
 use Rattle.component_state.specs.Rows.{service_in}
 use Rattle.scr_world.specs.declared.instance.Instance.{Instance}
-use Rattle.scr_world.specs.declared.instance.ToldRevision.{ToldRevision}
+use Rattle.told_revisions.specs.Told.{with_told, without_told}
 
 -- ---- how far an instance is ("Activation", "Deactivation")
 
@@ -67,17 +66,6 @@ first_free_from taken (suc more) slot = if has taken slot then first_free_from t
 -- the lowest slot that no living instance has: among as many slots as there are instances, and one, some slot is free
 abbrev pub first_free_slot : List Instance → ℕ
 first_free_slot is = first_free_from (map (λ (i : Instance). i.slot) is) (length is) 0
-
--- ---- what an instance was told last of a service ("Updated Callback"; revisions are our own)
-
-abbrev pub is_told_of : List ℕ → ℕ → ToldRevision → Bool
-is_told_of reference service t = bytes_eq t.reference reference && (t.service == service)
-
-abbrev pub without_told : List ℕ → ℕ → List ToldRevision → List ToldRevision
-without_told reference service ts = filter (λ (t : ToldRevision). not (is_told_of reference service t)) ts
-
-abbrev pub with_told : List ℕ → ℕ → ℕ → List ToldRevision → List ToldRevision
-with_told reference service revision ts = without_told reference service ts ++ record { reference = reference; service = service; revision = revision } ∷ []
 
 -- ---- the beginning of a turn ("Activation", "Modification")
 

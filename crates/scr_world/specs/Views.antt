@@ -1,5 +1,5 @@
 -- What decides the due callback of an instance. OSGi Compendium 8, chapter 112; the section stands at each group of words.
-use Rattle.std.specs.Prelude.{ℕ, ◌==◌, ◌&&◌, ◌||◌, List, [], ◌∷◌, map, Bool, false, not, find, is_some, nat_lt, if◌then◌else◌}
+use Rattle.std.specs.Prelude.{ℕ, ◌==◌, ◌&&◌, ◌||◌, List, [], ◌∷◌, map, Bool, false, not, is_some, nat_lt, if◌then◌else◌}
 use Rattle.std.specs.List.{list_any}
 use Rattle.std.specs.Option.{option_map_or}
 use Rattle.bundle_life.specs.declared.bundle.BundleLife.{BundleLife}
@@ -22,12 +22,12 @@ use Rattle.reference_match.specs.Needs.{need_of}
 use Rattle.reference_match.specs.Targets.{targets, desired}
 use Rattle.service_registry.specs.declared.row.ServiceRow.{ServiceRow}
 use Rattle.scr_world.specs.declared.instance.Instance.{Instance}
-use Rattle.scr_world.specs.declared.instance.ToldRevision.{ToldRevision}
-use Rattle.scr_world.specs.Instances.{is_told_of, is_active_instance, has_failed}
+use Rattle.scr_world.specs.Instances.{is_active_instance, has_failed}
 use Rattle.scr_world.specs.Lists.{holds}
 use Rattle.scr_world.specs.Whiteboard.{component_in}
 use Rattle.scr_world.specs.declared.world.World.{World}
 use Rattle.scr_world.specs.Worlds.{all_instances, direct_services, revision_of, sorted, registered_services}
+use Rattle.told_revisions.specs.Told.{revision_told}
 
 -- ---- what is so of an instance ("Deactivation")
 
@@ -82,9 +82,6 @@ has_holder w i = not (i.service == 0) && list_any (is_holder w i) (all_instances
 -- ---- changed properties ("Updated Callback", "Modification")
 
 -- the properties of a service changed since an instance was told of it last
-abbrev pub revision_told : List ToldRevision → List ℕ → ℕ → ℕ
-revision_told ts reference service = option_map_or (λ (t : ToldRevision). t.revision) (find (is_told_of reference service) ts) 0
-
 abbrev pub is_changed : World → Instance → List ℕ → ℕ → Bool
 is_changed w i reference service = nat_lt (revision_told i.told_revisions reference service) (revision_of w service)
 

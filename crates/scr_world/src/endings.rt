@@ -22,7 +22,7 @@ pub fn is_active_bundle(bundles: &Bundles, bundle: u64) -> bool
 pub fn is_ending(bundles: &Bundles, open_now: &[OpenPeriod], instance: &Instance) -> bool
     ensures { result ≡ is_ending bundles.now.rows open_now.now instance.now }
 {
-    !is_current(open_now, &instance.origin)
+    !is_current(open_now, instance.origin.get())
         || (instance.consumer != 0 && !is_active_bundle(bundles, instance.consumer))
         || instance.has_failed()
 }

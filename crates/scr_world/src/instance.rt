@@ -9,32 +9,12 @@ use callback_orders::{Outcome, Phase};
 use component_state::Origin;
 use instance_callbacks::InstanceCallbacks;
 use journal_core::GateKey;
-use prop_map::{Copies, List, OutOfMemory, Properties, Str};
+use prop_map::{Copies, OutOfMemory, Properties, Shared};
 use std::alloc::Global;
-
-/// The revision of a service that an instance was told of last.
-#[derive(Debug, PartialEq, Eq, Drop)]
-pub struct ToldRevision {
-    /// The name of the reference.
-    pub reference: Str,
-    /// The number of the service.
-    pub service: u64,
-    /// The service's revision when its Bind or its last Updated began.
-    pub revision: u64,
-}
-
-impl Copies for ToldRevision {
-    fn copy(&self, alloc: Global) -> Result<ToldRevision, OutOfMemory> {
-        Ok(ToldRevision {
-            reference: self.reference.copy(alloc)?,
-            service: self.service,
-            revision: self.revision,
-        })
-    }
-}
+use told_revisions::ToldRevisions;
 
 /// A living instance.
-#[derive(Debug, PartialEq, Eq, Drop)]
+#[derive(Drop)]
 pub struct Instance {
     /// Its number, from 1 on, in the order in which they are made. The whiteboard's has the number 0.
     pub number: u64,
@@ -51,15 +31,15 @@ pub struct Instance {
     /// The number of the last turn that told it of a callback.
     pub turn: u64,
     /// Its component configuration, its Create and its choices.
-    pub origin: Origin,
+    pub origin: Shared<Origin>,
     /// Its callbacks so far.
     pub callbacks: InstanceCallbacks,
     /// The properties that it took when its Create or its last Modified began.
-    pub properties: Properties,
+    pub properties: Shared<Properties>,
     /// The place of the entry in which that callback began.
     pub properties_taken_at: u64,
     /// What it was told last of each service that is bound and not being unbound.
-    pub told_revisions: List<ToldRevision>,
+    pub told_revisions: ToldRevisions,
 }
 
 /// Whether a callback ended other than Done. It takes no memory.
@@ -81,8 +61,7 @@ impl Instance {
     pub fn has_failed(&self) -> bool
         ensures { result ≡ has_failed self.now.callbacks }
     {
-        let calls = self.callbacks.calls();
-        calls.iter().any(|called| called.callback.is_activate() && is_failed(called.outcome))
+        self.callbacks.has_failed()
     }
 
     /// Whether a turn is under way and tells it of a callback. It takes no memory.
@@ -96,7 +75,7 @@ impl Instance {
     pub fn becomes_active(&self, outcome: Outcome) -> bool
         ensures { result ≡ becomes_active outcome self.now }
     {
-        outcome == Outcome::Done && last_is_activate(self.callbacks.calls())
+        outcome == Outcome::Done && last_is_activate(&self.callbacks)
     }
 
     /// Its gate, by the generation under which it was opened. It takes no memory.

@@ -17,7 +17,7 @@ mod world;
 pub use command::{Command, Limits};
 pub use contents::Contents;
 pub use endings::{ends, is_active_bundle, is_ending};
-pub use instance::{Instance, ToldRevision, is_failed};
+pub use instance::{Instance, is_failed};
 pub use last_callbacks::{last_callback, last_is_activate, last_is_create, last_is_destroy};
 pub use lines::{BundleLine, ComponentLine, HeldLine, TurnLine};
 pub use marks::{Failure, Token};
