@@ -1,4 +1,5 @@
-//! Tests of the edges of the platform: the lock, the gates, messages, and the ends of a program with their counts.
+//! Tests of the edges of the platform: the lock, the gates, messages, the ends of a program with their counts, and the
+//! wiring of bundles: what manifests need and offer, filters over versions, and which bundles resolve together.
 #![tactic(auto)]
 
 #[cfg(test)]
@@ -9,3 +10,11 @@ mod gates;
 mod locks;
 #[cfg(test)]
 mod messages;
+#[cfg(test)]
+mod wiring_filters;
+#[cfg(test)]
+mod wiring_manifests;
+#[cfg(test)]
+mod wiring_resolution;
+#[cfg(test)]
+mod wiring_samples;

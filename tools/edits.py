@@ -1,0 +1,62 @@
+"""What tools/try-edits and tools/look-at-edits share: the wrong bodies of the repository, in the gate and beside it.
+
+An edit is a file with lines `file: PATH`, `old: TEXT`, `new: TEXT`, as `rt ci` reads it. Those that the gate tries stand in
+crates/CRATE/must-fail/, the others in edits/CRATE/.
+"""
+
+from pathlib import Path
+
+TOP = Path(__file__).resolve().parent.parent
+
+
+def edits_of(top, crate):
+    """The edits of a crate, those of the gate first, each by name."""
+    gate, beside = top / "crates" / crate / "must-fail", top / "edits" / crate
+    return [*sorted(gate.glob("*.edit")), *sorted(beside.glob("*.edit"))]
+
+
+def crates_with_edits(top):
+    """The names of the crates that have an edit, in the order of crates.txt, lowest layers first."""
+    lines = (top / "crates.txt").read_text().splitlines()
+    names = [line.split(":")[0].split()[0] for line in lines if line.strip() and not line.startswith("#")]
+    return [it for it in names if edits_of(top, it)]
+
+
+def strangers(top):
+    """The folders of edits/ that are no crate's, and files that are no edits."""
+    known = {it.name for it in (top / "crates").iterdir()}
+    folders = [it for it in sorted((top / "edits").iterdir()) if it.name != "out"]
+    lost = [it for it in folders if it.name not in known]
+    return lost + [it for folder in folders for it in sorted(folder.glob("*")) if it.suffix != ".edit"]
+
+
+def pairs_of(edit):
+    """The changes of an edit in their order: the file, the text that is replaced, the text in its place."""
+    path, old, pairs = None, None, []
+    for line in edit.read_text().splitlines():
+        if line.startswith("file: "):
+            path = line[len("file: ") :].strip()
+        elif line.startswith("old: "):
+            old = line[len("old: ") :]
+        elif line.startswith("new:"):
+            pairs.append((path, old, line[len("new:") :].removeprefix(" ")))
+    return pairs
+
+
+def why_not_applicable(top, crate, edit):
+    """Why the edit can't be applied to the crate as it stands, or None: each text that it replaces stands once in its file."""
+    texts = {}
+    pairs = pairs_of(edit)
+    if not pairs:
+        return "it has no pair of lines 'old:' and 'new:'"
+    for path, old, new in pairs:
+        if not path or not old:
+            return "a 'new:' line stands before any 'file:' or 'old:' line"
+        file = top / "crates" / crate / path
+        if path not in texts and not file.is_file():
+            return f"there is no {path}"
+        text = texts.setdefault(path, file.read_text())
+        if text.count(old) != 1:
+            return f"its text stands {text.count(old)} times in {path}: {old.strip()}"
+        texts[path] = text.replace(old, new)
+    return None
