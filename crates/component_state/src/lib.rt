@@ -39,7 +39,7 @@ pub use component_states::ComponentStates;
 pub use components::{component_of, existing_of, exists, lacks_configuration, needs_of};
 pub use living_instance::LivingInstance;
 pub use marks::failed_after;
-pub use one_pass::note_one_pass;
+pub use one_pass::{note_one_pass, note_some_pass};
 pub use open_period::OpenPeriod;
 pub use origin::{Choice, Origin};
 pub use pass::{Passed, pass_over};

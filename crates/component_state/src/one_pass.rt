@@ -17,3 +17,8 @@ pub fn note_one_pass()
     ensures scratch { (s : Stage) (p : Passed) → HasPassed s p → (number : ℕ) →
         is_open p.open_now number ≡ has (open_from_scratch s.descriptions s.levels s.direct p.open_now s.components (held_back_in s p.open_now)) number }
 {}
+
+/// For contracts alone: where what must be so when a pass begins is so, there is a pass.
+pub fn note_some_pass()
+    ensures { (s : Stage) → IsReady s → (p : Passed) × HasPassed s p }
+{}

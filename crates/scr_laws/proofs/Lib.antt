@@ -70,3 +70,4 @@ pub mod Sums
 pub mod TokenOrder
 pub mod TurnOrder
 pub mod Viewing
+pub mod SomeEntries

@@ -31,3 +31,8 @@ pub fn note_satisfied()
 pub fn note_one_entry()
     ensures { (limit more : ℕ) → (past : History) → IsLegal limit past → (x y : Entry Step) → Follows limit x past → Follows more y past → x.step ≡ y.step → x ≡ y }
 {}
+
+/// For contracts alone: where a step may come after a legal journal and has room, an entry of it follows.
+pub fn note_some_entry()
+    ensures { (limit : ℕ) → (past : History) → IsLegal limit past → (step : Step) → MayCome (world_of past) step → has_room limit (world_of past) (needed_by step) ≡ true → (entry : Entry Step) × (entry.step ≡ step) × Follows limit entry past }
+{}

@@ -31,7 +31,7 @@ pub use entries::{
     note_follows_passes, note_legal_is_behind, note_legal_is_calm, note_legal_still,
     note_opens_first, note_waiting,
 };
-pub use following::{note_follows, note_one_entry, note_satisfied};
+pub use following::{note_follows, note_one_entry, note_satisfied, note_some_entry};
 pub use gate_keys::note_gate_keys;
 pub use gates::{note_generations, note_nothing_shut};
 pub use journals::{note_failed, note_ready, note_same_steps, note_sound};
