@@ -10,7 +10,7 @@ use Rattle.scr_world.specs.TurnSteps.{work_for, work_under_way}
 use Rattle.scr_world.specs.Worlds.{all_instances}
 use Rattle.scr_world.specs.declared.instance.Instance.{Instance}
 use Rattle.scr_world.specs.declared.world.World.{World}
-use Rattle.turn_runner.specs.declared.turn_work.TurnWork.{TurnWork}
+use Rattle.turn_work.specs.declared.work.TurnWork.{TurnWork}
 
 pub work_is_under_way : (w : World) (turn : ℕ) (work : TurnWork) → work_under_way w turn ≡ Some work → is_under_way w turn ≡ true
 work_is_under_way w turn work is = go (find (has_turn turn) (all_instances w)) refl is

@@ -8,7 +8,7 @@ use Rattle.prop_map.specs.Maps.{get}
 use Rattle.kind_trait.specs.Meanings.{Told, Create, Bind, Updated, Unbind, Activate, Modified, Deactivate, Destroy, Move, Refuses, Answers, Calls, Asking}
 use Rattle.kind_trait.specs.declared.nested_reply.NestedReply.{NestedReply}
 use Rattle.kind_trait.specs.declared.nested_reply.NestedReply.TheVariants.{Text as Said, NoService, NoObject, Gone, Refused}
-use Rattle.kind_trait.specs.declared.site.Site.{Site}
+use Rattle.turn_work.specs.declared.site.Site.{Site}
 
 -- a property's text, empty where it has none
 abbrev pub text_in : Option Value → List ℕ

@@ -4,7 +4,7 @@ use Rattle.std.specs.Prelude.{◌≡◌, refl, ℕ, List, [], ◌∷◌, codes, 
 use Rattle.callback_orders.specs.declared.callback.Callback.{Callback}
 use Rattle.callback_orders.specs.declared.callback.Callback.TheVariants.{Create, Bind, Unbind, Activate, Deactivate, Destroy}
 use Rattle.callback_orders.specs.declared.callback.Outcome.TheVariants.{Done}
-use Rattle.turn_runner.specs.declared.turn_work.TurnWork.{TurnWork}
+use Rattle.turn_work.specs.declared.work.TurnWork.{TurnWork}
 use Rattle.scr_world.specs.Calls.{awaits_drain_at, next_drain}
 use Rattle.scr_world.specs.Consequences.{shut_between, stage_in, stage_of, stopped_by, stopped_in}
 use Rattle.scr_world.specs.Lists.{world_after_entry, world_of}

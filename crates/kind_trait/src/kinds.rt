@@ -2,7 +2,7 @@
 ghost use Rattle.kind_trait.specs.Meanings.{Told, Create, Bind, Updated, Unbind, Activate, Modified, Deactivate, Destroy, Asking, Move, Moves, RefusedWhere};
 ghost use Rattle.kind_trait.specs.declared.kind_fault.KindFault.{KindFault};
 ghost use Rattle.kind_trait.specs.declared.nested_reply.NestedReply.{NestedReply};
-ghost use Rattle.kind_trait.specs.declared.site.Site.{Site};
+ghost use Rattle.turn_work.specs.declared.site.Site.{Site};
 ghost use Rattle.prop_map.specs.declared.properties.Property.{Property};
 ghost use Rattle.std.specs.Prelude.{ℕ, List, [], ◌∷◌, ◌++◌, ◌≡◌, Bool, Result, false};
 

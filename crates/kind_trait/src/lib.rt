@@ -6,11 +6,10 @@ mod kind_fault;
 mod kinds;
 mod nested_reply;
 mod next;
-mod site;
 
 pub use call_stack::{CallStack, CallTooLong, Waiting};
 pub use kind_fault::KindFault;
 pub use kinds::Kinds;
 pub use nested_reply::NestedReply;
 pub use next::Next;
-pub use site::Site;
+pub use turn_work::Site;

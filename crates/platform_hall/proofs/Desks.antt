@@ -7,7 +7,7 @@ use Rattle.std.proofs.lemmas.List.Sums.{sum_by-append}
 use Rattle.callback_orders.specs.declared.callback.Outcome.{Outcome}
 use Rattle.callback_orders.specs.Grammar.{is_destroy}
 use Rattle.journal_core.specs.declared.entry.Entry.{Entry}
-use Rattle.turn_runner.specs.declared.turn_work.TurnWork.{TurnWork}
+use Rattle.turn_work.specs.declared.work.TurnWork.{TurnWork}
 use Rattle.platform_hall.specs.declared.held.Held.{Held}
 use Rattle.platform_hall.specs.Desks.{is_holder}
 use Rattle.turn_runner.specs.Outcomes.{has_object_after, is_destroy_of, makes_object, needs_object}

@@ -5,7 +5,7 @@ use Rattle.std.specs.Prelude.{◌==◌, ◌||◌, filter, is_some, not, option_m
 use Rattle.std.specs.List.{find}
 use Rattle.std.specs.Option.{option_copied}
 use Rattle.std.proofs.lemmas.Bool.{eqb-true}
-use Rattle.turn_runner.specs.declared.turn_work.TurnWork.{TurnWork}
+use Rattle.turn_work.specs.declared.work.TurnWork.{TurnWork}
 use Rattle.turn_runner.specs.Outcomes.{IsMadeFor}
 use Rattle.platform_hall.specs.declared.held.Held.{Held}
 use Rattle.platform_hall.specs.Desks.{is_holder, object_of}

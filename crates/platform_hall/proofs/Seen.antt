@@ -1,7 +1,7 @@
 -- A settling of the desk, as its core tells it.
 use Rattle.std.proofs.Common.{◌≡◌, ℕ, List, Bool, ap, refl, Result, Option}
 use Rattle.kind_trait.specs.declared.kind_fault.KindFault.{KindFault}
-use Rattle.kind_trait.specs.declared.site.Site.{Site}
+use Rattle.turn_work.specs.declared.site.Site.{Site}
 use Rattle.kind_trait.specs.Meanings.{Told}
 use Rattle.prop_map.specs.declared.properties.Property.{Property}
 use Rattle.turn_runner.specs.declared.settle_fault.SettleFault.{SettleFault}

@@ -8,7 +8,7 @@ use Rattle.callback_orders.specs.Sequences.{is_outstanding}
 use Rattle.journal_core.specs.declared.entry.Entry.{Entry}
 use Rattle.kind_trait.specs.Meanings.{Told}
 use Rattle.prop_map.specs.declared.properties.Property.{Property}
-use Rattle.turn_runner.specs.declared.turn_work.TurnWork.{TurnWork}
+use Rattle.turn_work.specs.declared.work.TurnWork.{TurnWork}
 use Rattle.turn_runner.specs.Turns.{Turn, Turns}
 use Rattle.scr_world.specs.declared.command.Limits.{Limits}
 use Rattle.scr_world.specs.declared.step.Step.{Step}

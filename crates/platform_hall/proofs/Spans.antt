@@ -5,7 +5,7 @@ use Rattle.callback_orders.specs.declared.callback.Outcome.{Outcome}
 use Rattle.journal_core.specs.declared.entry.Entry.{Entry}
 use Rattle.kind_trait.specs.Meanings.{Told}
 use Rattle.prop_map.specs.declared.properties.Property.{Property}
-use Rattle.turn_runner.specs.declared.turn_work.TurnWork.{TurnWork}
+use Rattle.turn_work.specs.declared.work.TurnWork.{TurnWork}
 use Rattle.turn_runner.specs.Turns.{Ends as EndsTurn, IsCutOff, Settles, Turns}
 use Rattle.scr_core.specs.Cores.{CoreView}
 use Rattle.scr_life_laws.specs.Bounds.{turns_begun_in}

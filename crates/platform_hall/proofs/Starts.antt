@@ -11,7 +11,7 @@ use Rattle.callback_orders.specs.Sequences.{is_outstanding}
 use Rattle.component_state.specs.declared.origin.Choice.{Choice}
 use Rattle.component_state.proofs.Apart.{any_found, any_from, either_way, in_cases, in_rest}
 use Rattle.journal_core.specs.declared.entry.Entry.{Entry}
-use Rattle.turn_runner.specs.declared.turn_work.TurnWork.{TurnWork}
+use Rattle.turn_work.specs.declared.work.TurnWork.{TurnWork}
 use Rattle.turn_runner.specs.Outcomes.{needs_object}
 use Rattle.scr_laws.proofs.Activated.{outstanding_begun}
 use Rattle.scr_laws.proofs.Begins.{Makes}

@@ -10,7 +10,7 @@ use Rattle.callback_orders.specs.declared.callback.Outcome.TheVariants.{Done, Re
 use Rattle.callback_orders.specs.Grammar.{is_create, is_destroy}
 use Rattle.callback_orders.specs.Sequences.{is_outstanding}
 use Rattle.component_state.proofs.Apart.{any_found, any_from, either_way, in_cases, in_first, in_rest, kept_from, kept_was}
-use Rattle.turn_runner.specs.declared.turn_work.TurnWork.{TurnWork}
+use Rattle.turn_work.specs.declared.work.TurnWork.{TurnWork}
 use Rattle.turn_runner.specs.Outcomes.{is_done as is_done_told, makes_object}
 use Rattle.scr_laws.proofs.Activated.{none_outstanding}
 use Rattle.scr_laws.proofs.InstanceLemmas.{ended_same, mapped_in, mapped_was}

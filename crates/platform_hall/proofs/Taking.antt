@@ -9,7 +9,7 @@ use Rattle.scr_world.specs.Dues.{begin_of, due_in, next_begin}
 use Rattle.scr_world.specs.Room.{has_room as has_room_for, needed_by}
 use Rattle.scr_world.specs.declared.step.Step.{Step}
 use Rattle.scr_world.specs.declared.world.World.{World}
-use Rattle.turn_runner.specs.declared.turn_work.TurnWork.{TurnWork}
+use Rattle.turn_work.specs.declared.work.TurnWork.{TurnWork}
 use Rattle.platform_hall.specs.Platforms.{Begins, has_due, has_room, world}
 use Rattle.platform_hall.proofs.Desks.{same_view}
 use Rattle.platform_hall.proofs.Steps.{grown_room}

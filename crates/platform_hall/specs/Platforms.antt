@@ -28,7 +28,7 @@ use Rattle.scr_world.specs.TurnSteps.{work_under_way}
 use Rattle.scr_world.specs.declared.world.World.{World}
 use Rattle.scr_world.specs.Worlds.{all_instances}
 use Rattle.turn_runner.specs.declared.settle_fault.SettleFault.{SettleFault}
-use Rattle.turn_runner.specs.declared.turn_work.TurnWork.{TurnWork}
+use Rattle.turn_work.specs.declared.work.TurnWork.{TurnWork}
 use Rattle.turn_runner.specs.Outcomes.{IsOutcome, is_refused}
 use Rattle.turn_runner.specs.Turns.{IsSettled}
 use Rattle.platform_hall.specs.declared.finish_fault.FinishFault.{FinishFault}

@@ -26,7 +26,7 @@ use Rattle.scr_world.specs.Steps.{history_of}
 use Rattle.scr_world.specs.declared.world.World.{World}
 use Rattle.turn_runner.specs.declared.settle_fault.SettleFault.{SettleFault}
 use Rattle.turn_runner.specs.declared.settle_fault.SettleFault.TheVariants.{Unsettled, JournalFull, OutOfMemory}
-use Rattle.turn_runner.specs.declared.turn_work.TurnWork.{TurnWork}
+use Rattle.turn_work.specs.declared.work.TurnWork.{TurnWork}
 use Rattle.turn_runner.specs.Turns.{Ends as EndsTurn, IsCutOff, Settles, Turns}
 use Rattle.platform_hall.specs.Platforms.{Accepts, Begins, Drained, Ends, Posts, SettlesAs, TakesCommand, has_drain, world}
 use Rattle.platform_hall.proofs.Turns.{begins_next, is_begin}

@@ -22,7 +22,7 @@ use Rattle.scr_world.specs.Replies.{changes}
 use Rattle.scr_world.specs.Steps.{history_of}
 use Rattle.scr_world.specs.TurnLines.{turns_above}
 use Rattle.serde_json.specs.Written.{compact_text}
-use Rattle.turn_runner.specs.declared.turn_work.TurnWork.{TurnWork}
+use Rattle.turn_work.specs.declared.work.TurnWork.{TurnWork}
 use Rattle.platform_hall.specs.declared.finish_fault.FinishFault.{FinishFault}
 use Rattle.platform_hall.specs.declared.finish_fault.FinishFault.TheVariants.{NoTurn as NoSuchTurn, OutOfMemory as NoMemoryLeft}
 use Rattle.platform_hall.specs.Platforms.{BeginsTurn, FinishesTurn, TakesCommand, running, world}

@@ -3,7 +3,7 @@ use Rattle.std.specs.Arc.{arc_value}
 use Rattle.std.specs.Prelude.{ℕ, ◌==◌, ◌-◌, List, [], ◌∷◌, ◌++◌, Bool, true, false, not, ◌&&◌, ◌≡◌, Option, Some, None, is_none, if◌then◌else◌, option_map}
 use Rattle.std.specs.List.{find, list_any}
 use Rattle.callback_orders.specs.declared.callback.Outcome.{Outcome}
-use Rattle.turn_runner.specs.declared.turn_work.TurnWork.{TurnWork}
+use Rattle.turn_work.specs.declared.work.TurnWork.{TurnWork}
 use Rattle.rule_tests.specs.declared.memory_desk.Ended.{Ended}
 use Rattle.rule_tests.specs.declared.memory_desk.Held.{Held}
 use Rattle.turn_runner.specs.Outcomes.{needs_object}

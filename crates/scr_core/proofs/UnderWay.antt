@@ -24,7 +24,7 @@ use Rattle.scr_world.specs.declared.instance.Instance.{Instance}
 use Rattle.scr_world.specs.declared.step.Step.{Step}
 use Rattle.scr_world.specs.declared.step.Step.TheVariants.{Begin}
 use Rattle.scr_world.specs.declared.world.World.{World}
-use Rattle.turn_runner.specs.declared.turn_work.TurnWork.{TurnWork}
+use Rattle.turn_work.specs.declared.work.TurnWork.{TurnWork}
 
 -- ---- an instance that is told
 

@@ -22,7 +22,7 @@ use scr_world::{BundleLine, ComponentLine, CoreFault, HeldLine, TurnLine};
 use service_listeners::ServiceEvent;
 use service_registry::ServiceRow;
 use std::alloc::Global;
-use turn_runner::TurnWork;
+use turn_work::TurnWork;
 
 impl Core {
     /// The installed bundles with their states, by number.

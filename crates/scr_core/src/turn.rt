@@ -1,7 +1,7 @@
 //! Turns that are taken.
 
 use std::marker::Model;
-use turn_runner::TurnWork;
+use turn_work::TurnWork;
 
 /// Stands for a turn that was taken and not ended yet. Contracts see its number. It is made by [`crate::Core::take_turn`] alone.
 #[derive(Debug, Drop)]

@@ -31,7 +31,7 @@ use scr_still::{grow_still, grow_still_end, is_still_end};
 use scr_turns::turn_draft;
 use scr_world::{CoreFault, Ended, Step, TurnLine, World};
 use std::alloc::Global;
-use turn_runner::TurnWork;
+use turn_work::TurnWork;
 
 // What is ready before a turn begins.
 #[derive(Drop)]

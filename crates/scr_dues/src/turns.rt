@@ -16,11 +16,10 @@ use callback_orders::Callback;
 use component_state::Component;
 use instance_callbacks::InstanceCallbacks;
 use journal_core::GateKey;
-use kind_trait::Site;
 use prop_map::{Copies, OutOfMemory, Str};
 use scr_world::{Instance, World, ends, last_callback};
 use std::alloc::Global;
-use turn_runner::TurnWork;
+use turn_work::{Site, TurnWork};
 
 fn told_among(instances: &[Instance], turn: u64) -> Option<&Instance>
     ensures { option_copied result ≡ find (has_turn turn) instances.now }

@@ -11,12 +11,12 @@ ghost use Rattle.std.specs.Prelude.{◌≡◌, ◌==◌, ℕ, List, false, IfOk,
 use crate::best_held::best_held;
 use crate::instances::{active_server, server_of};
 use crate::{Inward, Live, Outer};
-use kind_trait::Site;
 use prop_map::{Copies, OutOfMemory, Str};
 use scr_dues::{OwnRows, bundle_of_instance, class_in, instance_of, row_known};
 use scr_world::{Instance, Token, World, ends};
 use service_registry::ServiceRow;
 use std::alloc::Global;
+use turn_work::Site;
 
 /// The active instance that a bundle uses of a service, and `None` exactly where there is none. Each slot has to be a number
 /// of 32 bits, as it is in each legal journal.

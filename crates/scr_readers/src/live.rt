@@ -1,6 +1,6 @@
 //! Whom a call reaches.
 use journal_core::GateKey;
-use kind_trait::Site;
+use turn_work::Site;
 
 /// An instance that can be called.
 #[derive(Debug, PartialEq, Eq, Drop)]

@@ -14,7 +14,7 @@ use Rattle.scr_world.specs.declared.command.Command.TheVariants.{Get}
 use Rattle.scr_world.specs.declared.instance.Instance.{Instance}
 use Rattle.scr_world.specs.declared.marks.Token.{Token}
 use Rattle.scr_world.specs.declared.turn.Ended.{Ended}
-use Rattle.turn_runner.specs.declared.turn_work.TurnWork.{TurnWork}
+use Rattle.turn_work.specs.declared.work.TurnWork.{TurnWork}
 use Rattle.scr_world.specs.Dues.{due_in, next_begin}
 use Rattle.scr_world.specs.Refusals.{refusal}
 use Rattle.scr_world.specs.Room.{has_room, needed_by}

@@ -3,7 +3,7 @@ use Rattle.std.specs.Prelude.{ℕ, List, [], Bool, true, false, Option, find, op
 use Rattle.std.specs.Option.{option_map_or}
 use Rattle.callback_orders.specs.declared.callback.Callback.{Callback}
 use Rattle.component_state.specs.declared.component.Component.{Component}
-use Rattle.turn_runner.specs.declared.turn_work.TurnWork.{TurnWork}
+use Rattle.turn_work.specs.declared.work.TurnWork.{TurnWork}
 use Rattle.scr_world.specs.declared.step.Step.{Step}
 use Rattle.scr_world.specs.declared.step.Step.TheVariants.{Command as Commanded, Begin, End, Drained, Got, Released}
 use Rattle.scr_world.specs.declared.instance.Instance.{Instance}

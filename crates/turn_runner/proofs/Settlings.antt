@@ -4,7 +4,7 @@ use Rattle.prop_map.specs.declared.properties.Property.{Property}
 use Rattle.std.specs.Prelude.{List}
 use Rattle.callback_orders.specs.declared.callback.Outcome.{Outcome}
 use Rattle.kind_trait.specs.Meanings.{Told}
-use Rattle.turn_runner.specs.declared.turn_work.TurnWork.{TurnWork}
+use Rattle.turn_work.specs.declared.work.TurnWork.{TurnWork}
 use Rattle.turn_runner.specs.declared.settle_fault.SettleFault.{SettleFault}
 use Rattle.turn_runner.specs.declared.settle_fault.SettleFault.TheVariants.{Unsettled, JournalFull, OutOfMemory}
 use Rattle.turn_runner.specs.Turns.{Ends, IsCutOff, IsSettled, Settles, Turn, Turns}

@@ -3,9 +3,9 @@ use Rattle.std.specs.Prelude.{zero, suc, ℕ, ◌≤◌, ◌<◌, List, Bool, tr
 use Rattle.prop_map.specs.declared.properties.Property.{Property}
 use Rattle.callback_orders.specs.declared.callback.Outcome.{Outcome}
 use Rattle.kind_trait.specs.declared.kind_fault.KindFault.{KindFault}
-use Rattle.kind_trait.specs.declared.site.Site.{Site}
+use Rattle.turn_work.specs.declared.site.Site.{Site}
 use Rattle.kind_trait.specs.Meanings.{Told}
-use Rattle.turn_runner.specs.declared.turn_work.TurnWork.{TurnWork}
+use Rattle.turn_work.specs.declared.work.TurnWork.{TurnWork}
 use Rattle.turn_runner.specs.declared.desk_fault.DeskFault.{DeskFault}
 use Rattle.turn_runner.specs.declared.desk_fault.DeskFault.TheVariants.{JournalFull as NoRoom, OutOfMemory as NoMemoryLeft}
 use Rattle.turn_runner.specs.declared.settle_fault.SettleFault.{SettleFault}

@@ -4,7 +4,7 @@ ghost use Rattle.std.specs.Arc.{arc_value};
 ghost use Rattle.std.specs.Prelude.{◌≡◌, ◌⊎◌, ℕ, Bool, false, Option, Some, None, IfOk, IfErr, OnOk, OnErr, MatchOption, is_some};
 ghost use Rattle.turn_runner.specs.Outcomes.{IsMadeFor, IsRunOf, has_object_after, is_destroy_of, needs_object};
 ghost use Rattle.turn_runner.specs.Turns.{IsTaken};
-ghost use Rattle.turn_runner.specs.declared.turn_work.TurnWork.{TurnWork};
+ghost use Rattle.turn_work.specs.declared.work.TurnWork.{TurnWork};
 
 use crate::{DeskFault, Ran, TurnWork};
 use prop_map::OutOfMemory;

@@ -6,7 +6,6 @@ mod desk_fault;
 mod settle_fault;
 mod settling;
 mod turn;
-mod turn_work;
 
 pub use desk::Desk;
 pub use desk_fault::DeskFault;

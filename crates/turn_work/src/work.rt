@@ -1,9 +1,9 @@
 //! What a turn has to do.
 ghost use Rattle.std.specs.Prelude.{◌≡◌};
-ghost use Rattle.turn_runner.specs.Outcomes.{needs_object};
+ghost use Rattle.turn_work.specs.Objects.{needs_object};
 
+use crate::Site;
 use callback_orders::Callback;
-use kind_trait::Site;
 use prop_map::{Copies, OutOfMemory, Str};
 use std::alloc::Global;
 
