@@ -9,12 +9,12 @@ use Rattle.prop_map.specs.declared.properties.Property.{Property}
 use Rattle.turn_runner.specs.declared.settle_fault.SettleFault.{SettleFault}
 use Rattle.turn_runner.specs.declared.settle_fault.SettleFault.TheVariants.{Unsettled, JournalFull, OutOfMemory}
 use Rattle.scr_core.specs.Cores.{CoreView}
-use Rattle.scr_life_laws.specs.Bounds.{IsWithinBound}
-use Rattle.scr_life_laws.specs.Names.{HaveOwnNames}
-use Rattle.scr_life_laws.specs.Settlings.{OnlySettles, is_settling}
-use Rattle.scr_life_laws.proofs.NoneDue.{none_due_at_bound}
-use Rattle.scr_life_laws.proofs.NothingCloses.{nothing_closes}
-use Rattle.scr_life_laws.proofs.WithinBound.{settles_within_bound}
+use Rattle.scr_promises.specs.Bounds.{IsWithinBound}
+use Rattle.scr_promises.specs.Names.{HaveOwnNames}
+use Rattle.scr_promises.specs.Settlings.{OnlySettles, is_settling}
+use Rattle.scr_promises.proofs.NoneDue.{none_due_at_bound}
+use Rattle.scr_promises.proofs.NothingCloses.{nothing_closes}
+use Rattle.scr_promises.proofs.WithinBound.{settles_within_bound}
 use Rattle.scr_world.specs.Bounds.{is_calm, settle_bound}
 use Rattle.scr_world.specs.Dues.{due_in}
 use Rattle.scr_world.specs.Legal.{IsLegal}

@@ -19,7 +19,7 @@ use Rattle.scr_core.specs.Cores.{CoreView}
 use Rattle.scr_world.specs.Dues.{due_in}
 use Rattle.scr_world.specs.Instances.{has_turn}
 use Rattle.scr_world.specs.Legal.{IsLegal}
-use Rattle.scr_life_laws.proofs.RightLaws.{quiet_is_right}
+use Rattle.scr_promises.proofs.RightLaws.{quiet_is_right}
 use Rattle.scr_world.specs.Quiet.{IsQuiet, IsRight}
 use Rattle.scr_world.specs.Steps.{history_of}
 use Rattle.scr_world.specs.declared.world.World.{World}

@@ -4,9 +4,9 @@ use Rattle.std.specs.List.{list_all}
 use Rattle.kind_trait.specs.Meanings.{Told}
 use Rattle.prop_map.specs.declared.properties.Property.{Property}
 use Rattle.scr_core.specs.Cores.{CoreView}
-use Rattle.scr_life_laws.specs.Bounds.{IsWithinBound}
-use Rattle.scr_life_laws.specs.Names.{HaveOwnNames}
-use Rattle.scr_life_laws.specs.Settlings.{NothingCloses, ends_well}
+use Rattle.scr_promises.specs.Bounds.{IsWithinBound}
+use Rattle.scr_promises.specs.Names.{HaveOwnNames}
+use Rattle.scr_promises.specs.Settlings.{NothingCloses, ends_well}
 use Rattle.scr_world.specs.Bounds.{is_calm, settle_bound}
 use Rattle.scr_world.specs.Lists.{world_of}
 use Rattle.scr_world.specs.Steps.{History, history_of}

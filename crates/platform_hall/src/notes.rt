@@ -4,7 +4,7 @@ ghost use Rattle.platform_hall.specs.Platforms.{SettlesAs, none_under_way, world
 ghost use Rattle.platform_hall.specs.SettleBounds.{IsBounded};
 ghost use Rattle.prop_map.specs.declared.properties.Property.{Property};
 ghost use Rattle.scr_core.specs.Cores.{CoreView};
-ghost use Rattle.scr_life_laws.specs.Names.{HaveOwnNames};
+ghost use Rattle.scr_promises.specs.Names.{HaveOwnNames};
 ghost use Rattle.scr_world.specs.Legal.{IsLegal};
 ghost use Rattle.scr_world.specs.Quiet.{IsQuiet, IsRight};
 ghost use Rattle.scr_world.specs.Steps.{history_of};

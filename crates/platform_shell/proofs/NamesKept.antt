@@ -4,7 +4,7 @@ use Rattle.std.specs.List.{Contains}
 use Rattle.std.specs.declared.option.Option.{Option}
 use Rattle.component_state.proofs.Apart.{in_cases, in_either, in_none}
 use Rattle.platform_hall.specs.Cores.{CoreView}
-use Rattle.scr_life_laws.specs.Names.{HaveOwnNames}
+use Rattle.scr_promises.specs.Names.{HaveOwnNames}
 use Rattle.scr_world.specs.declared.command.Command.{Command}
 use Rattle.scr_world.specs.declared.command.Limits.{Limits}
 use Rattle.scr_world.specs.Lists.{world_of}

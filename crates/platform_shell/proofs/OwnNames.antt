@@ -10,7 +10,7 @@ use Rattle.journal_core.specs.declared.entry.Entry.{Entry}
 use Rattle.platform_hall.specs.Cores.{CoreView}
 use Rattle.scr_laws.proofs.Described.{flagged_keeps, into_flat}
 use Rattle.scr_laws.proofs.Documents.{in_flat, set_back_keeps}
-use Rattle.scr_life_laws.specs.Names.{HaveOwnNames}
+use Rattle.scr_promises.specs.Names.{HaveOwnNames}
 use Rattle.scr_world.specs.declared.command.Command.{Command}
 use Rattle.scr_world.specs.declared.command.Command.TheVariants.{Install, Update, Start, Stop, Uninstall, Enable, Disable, Register, Unregister, SetProperties, Get, Unget, Listen, Unlisten, Configure, ConfigureFactory, Unconfigure}
 use Rattle.scr_world.specs.declared.contents.Contents.{Contents}

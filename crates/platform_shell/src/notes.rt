@@ -3,7 +3,7 @@ ghost use Rattle.platform_hall.specs.Platforms.{world};
 ghost use Rattle.platform_shell.specs.Asks.{Asks, Setting};
 ghost use Rattle.platform_shell.specs.Runs.{Ran};
 ghost use Rattle.platform_hall.specs.Cores.{CoreView};
-ghost use Rattle.scr_life_laws.specs.Names.{HaveOwnNames};
+ghost use Rattle.scr_promises.specs.Names.{HaveOwnNames};
 ghost use Rattle.scr_world.specs.declared.command.Command.{Command};
 ghost use Rattle.scr_world.specs.declared.command.Limits.{Limits};
 ghost use Rattle.shell_lang.specs.ShellLines.{shell_line};

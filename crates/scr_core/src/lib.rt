@@ -22,8 +22,9 @@ mod use_note;
 mod uses;
 
 pub use platform_core::Core;
-pub use scr_readers::{Inward, InwardAt, Live, LiveAt, Outer, OuterAt};
-pub use scr_views::{ComponentView, ReferenceState};
+pub use scr_readers::{
+    ComponentView, Inward, InwardAt, Live, LiveAt, Outer, OuterAt, ReferenceState,
+};
 pub use scr_world::{
     Accepted, BundleLine, Command, ComponentLine, CoreFault, Ended, HeldLine, Limits, Reply, Step,
     TurnLine,

@@ -1,7 +1,7 @@
 //! What a core tells, by its journal.
 ghost use Rattle.ldap_filter.specs.declared.filter.Filter.{Filter};
 ghost use Rattle.scr_readers.specs.Events.{events_told, has_listener};
-ghost use Rattle.scr_views.specs.ComponentViews.{component_view};
+ghost use Rattle.scr_readers.specs.ComponentViews.{component_view};
 ghost use Rattle.scr_world.specs.Calls.{next_drain, world_at};
 ghost use Rattle.scr_world.specs.Dues.{due_in};
 ghost use Rattle.scr_world.specs.Readers.{TellsHeld, bundle_events_after, bundle_lines, component_lines, found, service_lines};
@@ -17,7 +17,7 @@ use bundle_life::BundleEvent;
 use journal_core::GateKey;
 use ldap_filter::Filter;
 use prop_map::{List, OutOfMemory};
-use scr_views::ComponentView;
+use scr_readers::ComponentView;
 use scr_world::{BundleLine, ComponentLine, CoreFault, HeldLine, TurnLine};
 use service_listeners::ServiceEvent;
 use service_registry::ServiceRow;
@@ -67,7 +67,7 @@ impl Core {
         ensures { IfOk result (λ view. view ≡ component_view (world_at self.now.journal) configuration) }
     {
         let satisfied = self.state.satisfied.as_slice();
-        scr_views::component(
+        scr_readers::component(
             alloc,
             &self.own,
             &self.state.world,

@@ -71,3 +71,5 @@ pub mod TokenOrder
 pub mod TurnOrder
 pub mod Viewing
 pub mod SomeEntries
+pub mod TokenCounts
+pub mod UseTables

@@ -19,3 +19,4 @@ pub mod Gates
 pub mod Services
 pub mod Following
 pub mod Reserving
+pub mod Tokens

@@ -1,5 +1,5 @@
-//! Laws of all legal journals and of their worlds, of the numbers, slots and gates that journals give, of the tables, and of
-//! the entries that may follow: each is a clause of a function that does nothing.
+//! Laws of all legal journals and of their worlds, of the numbers, slots and gates that journals give, of the tables, of
+//! gets by token, and of the entries that may follow: each is a clause of a function that does nothing.
 #![tactic(auto)]
 
 mod answers;
@@ -20,6 +20,7 @@ mod reserving;
 mod services;
 mod slots;
 mod stopping;
+mod tokens;
 
 pub use answers::note_answers;
 pub use asked::{
@@ -40,7 +41,8 @@ pub use limits::note_limits;
 pub use numbers::note_numbers;
 pub use open::{note_legal, note_open, note_opens, note_scratch};
 pub use owners::{note_owners, note_stop};
-pub use reserving::{note_gets, note_reserved};
+pub use reserving::{note_gets_stand, note_reserved_by_entries};
 pub use services::note_services;
 pub use slots::{note_created, note_slots};
 pub use stopping::note_stopping;
+pub use tokens::note_tokens;

@@ -6,3 +6,4 @@ pub mod BestHeld
 pub mod FirstReached
 pub mod TurnLemmas
 pub mod CountedTurns
+pub mod SameViews

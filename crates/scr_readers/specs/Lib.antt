@@ -3,3 +3,4 @@ pub mod Events
 pub mod Inside
 pub mod Reaching
 pub mod Turns
+pub mod ComponentViews

@@ -7,8 +7,8 @@ use Rattle.std.specs.Prelude.{filter, not}
 use Rattle.prop_map.specs.declared.properties.Property.{Property}
 use Rattle.prop_map.specs.declared.value.Value.{Value}
 use Rattle.prop_map.specs.declared.value.Value.TheVariants.{Text, Whole, Flag, Texts, Wholes, Flags}
-use Rattle.scr_views.specs.declared.view.ComponentView.{ComponentView}
-use Rattle.scr_views.specs.declared.view.ReferenceState.{ReferenceState}
+use Rattle.scr_readers.specs.declared.view.ComponentView.{ComponentView}
+use Rattle.scr_readers.specs.declared.view.ReferenceState.{ReferenceState}
 use Rattle.serde_json.specs.Data.{Data, boolean, number, string, Members, no_members, member, put}
 use Rattle.serde_json.specs.Find.{of_integer}
 use Rattle.serde_json.specs.View.{items_of}

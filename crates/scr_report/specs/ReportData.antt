@@ -7,8 +7,8 @@ use Rattle.serde_json.specs.View.{items_of}
 use Rattle.prop_map.specs.declared.properties.Property.{Property}
 use Rattle.prop_map.specs.declared.value.Value.{Value}
 use Rattle.prop_map.specs.declared.value.Value.TheVariants.{Text, Whole, Flag, Texts, Wholes, Flags}
-use Rattle.scr_views.specs.declared.view.ComponentView.{ComponentView}
-use Rattle.scr_views.specs.declared.view.ReferenceState.{ReferenceState}
+use Rattle.scr_readers.specs.declared.view.ComponentView.{ComponentView}
+use Rattle.scr_readers.specs.declared.view.ReferenceState.{ReferenceState}
 
 abbrev pub whole_number : ℕ → Data
 whole_number n = number (unsigned n)

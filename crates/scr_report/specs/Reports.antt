@@ -2,7 +2,7 @@
 use Rattle.std.specs.Prelude.{◌≡◌, ℕ, Option, None, option_map}
 use Rattle.serde_json.specs.Data.{Data}
 use Rattle.scr_world.specs.declared.world.World.{World}
-use Rattle.scr_views.specs.ComponentViews.{component_view}
+use Rattle.scr_readers.specs.ComponentViews.{component_view}
 use Rattle.scr_report.specs.ReportData.{report_data}
 use Rattle.scr_report.specs.declared.report_fault.ReportFault.{ReportFault}
 use Rattle.scr_report.specs.declared.report_fault.ReportFault.TheVariants.{NoComponent, OutOfMemory}

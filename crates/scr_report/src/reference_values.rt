@@ -5,7 +5,7 @@ ghost use Rattle.std.specs.Prelude.{◌≡◌, IfOk};
 
 use crate::lists::{list_of, numbers, text_or_null};
 use prop_map::OutOfMemory;
-use scr_views::ReferenceState;
+use scr_readers::ReferenceState;
 use serde_json::{Value, json};
 use std::alloc::Global;
 

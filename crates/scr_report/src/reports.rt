@@ -9,7 +9,7 @@ use crate::lists::number_or_null;
 use crate::property_values::properties_value;
 use crate::reference_values::{satisfied_ones, unsatisfied_ones};
 use prop_map::OutOfMemory;
-use scr_views::ComponentView;
+use scr_readers::ComponentView;
 use serde_json::{Value, json};
 use std::alloc::Global;
 

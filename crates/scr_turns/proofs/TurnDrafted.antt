@@ -19,7 +19,7 @@ use Rattle.scr_laws.proofs.TokenOrder.{tokens_spread}
 use Rattle.scr_state.specs.Drafts.{HasRoom, with_draft}
 use Rattle.scr_state.specs.Keeps.{IsDraft, IsKept, with_bundles_by}
 use Rattle.scr_state.specs.declared.state.State.{State}
-use Rattle.scr_tokens.proofs.TokenCounts.{token_counted}
+use Rattle.scr_laws.proofs.TokenCounts.{token_counted}
 use Rattle.scr_turns.specs.TurnDrafts.{AreKnown, IsTurnChange, draft_with}
 use Rattle.scr_turns.specs.declared.drafts.TurnChanges.{TurnChanges}
 use Rattle.scr_world.specs.Legal.{IsLegal}

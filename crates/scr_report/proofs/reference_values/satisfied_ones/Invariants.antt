@@ -1,6 +1,6 @@
 use Rattle.std.proofs.Common.{◌≡◌, filter, map, take}
 use Rattle.scr_report.specs.ReportData.{satisfied_reference}
-use Rattle.scr_views.specs.declared.view.ReferenceState.{ReferenceState}
+use Rattle.scr_readers.specs.declared.view.ReferenceState.{ReferenceState}
 use Rattle.serde_json.specs.View.{view}
 use Rattle.scr_report.proofs.reference_values.satisfied_ones.Given as goal
 

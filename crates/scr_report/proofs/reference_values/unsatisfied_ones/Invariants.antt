@@ -1,7 +1,7 @@
 use Rattle.std.proofs.Common.{◌≡◌, filter, map, take}
 use Rattle.std.specs.Prelude.{not}
 use Rattle.scr_report.specs.ReportData.{unsatisfied_reference}
-use Rattle.scr_views.specs.declared.view.ReferenceState.{ReferenceState}
+use Rattle.scr_readers.specs.declared.view.ReferenceState.{ReferenceState}
 use Rattle.serde_json.specs.View.{view}
 use Rattle.scr_report.proofs.reference_values.unsatisfied_ones.Given as goal
 

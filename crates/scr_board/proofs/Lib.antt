@@ -1,2 +1,0 @@
-pub mod SameRows
-pub mod StillBoards

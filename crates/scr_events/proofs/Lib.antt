@@ -1,6 +1,0 @@
-pub mod ChangeLaws
-pub mod EventLaws
-pub mod EventTruths
-pub mod ListenerSteps
-pub mod RowsAt
-pub mod Statuses

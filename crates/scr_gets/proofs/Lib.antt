@@ -1,2 +1,0 @@
-pub mod GetLaws
-pub mod GetNumbers

@@ -1,5 +1,0 @@
-use Rattle.scr_life_laws.proofs.ChoiceLaws.{choices_stand}
-use Rattle.scr_life_laws.proofs.choices.note_choices_stand.Goals as goal
-
-pub returns : goal.returns
-returns c = choices_stand

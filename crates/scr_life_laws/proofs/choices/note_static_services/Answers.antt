@@ -1,5 +1,0 @@
-use Rattle.scr_life_laws.proofs.StaticLaws.{keeps_static_services}
-use Rattle.scr_life_laws.proofs.choices.note_static_services.Goals as goal
-
-pub returns : goal.returns
-returns c = keeps_static_services

@@ -1,5 +1,0 @@
-use Rattle.scr_life_laws.proofs.EndingLaws.{go_on_ending}
-use Rattle.scr_life_laws.proofs.endings.note_goes_on_ending.Goals as goal
-
-pub returns : goal.returns
-returns c = go_on_ending

@@ -1,5 +1,0 @@
-use Rattle.scr_life_laws.proofs.NothingCloses.{nothing_closes}
-use Rattle.scr_life_laws.proofs.nothing_closes.note_nothing_closes.Goals as goal
-
-pub returns : goal.returns
-returns c = nothing_closes

@@ -1,5 +1,0 @@
-use Rattle.scr_life_laws.proofs.RightLaws.{quiet_is_right}
-use Rattle.scr_life_laws.proofs.rest.note_quiet_is_right.Goals as goal
-
-pub returns : goal.returns
-returns c = quiet_is_right

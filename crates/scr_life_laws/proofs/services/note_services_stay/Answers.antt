@@ -1,5 +1,0 @@
-use Rattle.scr_life_laws.proofs.ServiceLaws.{stay_services}
-use Rattle.scr_life_laws.proofs.services.note_services_stay.Goals as goal
-
-pub returns : goal.returns
-returns c = stay_services

@@ -1,0 +1,16 @@
+pub mod Endings
+pub mod Choices
+pub mod Statics
+pub mod Services
+pub mod Holdings
+pub mod Providers
+pub mod Minimums
+pub mod Settlings
+pub mod Names
+pub mod Bounds
+pub mod Events
+pub mod Gets
+pub mod Reserves
+pub mod GoingOn
+pub mod Levels
+pub mod Board

@@ -1,5 +1,0 @@
-pub mod DrainLaws
-pub mod DueTurns
-pub mod Going
-pub mod ReserveLaws
-pub mod TurnsUnderWay

@@ -1,5 +1,0 @@
-use Rattle.scr_reserved.proofs.Going.{is_not_stuck}
-use Rattle.scr_reserved.proofs.going_on.note_no_legal_journal_is_stuck.Goals as goal
-
-pub returns : goal.returns
-returns c = is_not_stuck

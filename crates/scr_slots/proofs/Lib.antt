@@ -1,4 +1,0 @@
-pub mod AtSlots
-pub mod GateMoves
-pub mod LevelCounts
-pub mod LevelLaws

@@ -1,2 +1,0 @@
-pub mod TokenCounts
-pub mod UseTables

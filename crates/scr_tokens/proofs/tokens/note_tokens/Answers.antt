@@ -1,5 +1,0 @@
-use Rattle.scr_tokens.proofs.TokenCounts.{are_counted}
-use Rattle.scr_tokens.proofs.tokens.note_tokens.Goals as goal
-
-pub returns : goal.returns
-returns c = are_counted
