@@ -74,15 +74,15 @@ world_drafted : (step : Step) (w : World) (c : TurnChanges) → is_turn_step ste
 unfolding with_draft draft_with world_after_step
 world_drafted (Commanded command) w c turn is = absurd cc
 world_drafted (Begin turn instance configuration consumer callback chosen) w c is changes =
-    rw (changes.failed, changes.failures, changes.instances, changes.whiteboard, changes.instances_numbered, changes.turns_begun, changes.generations, changes.uses, changes.tokens, plus_none w.components_numbered) refl
+    rw (changes.failing.failed, changes.failing.failures, changes.living.instances, changes.living.whiteboard, changes.numbers.instances_numbered, changes.numbers.turns_begun, changes.numbers.generations, changes.gets.uses, changes.gets.tokens, plus_none w.components_numbered) refl
 world_drafted (End turn outcome) w c is changes =
-    rw (changes.failed, changes.failures, changes.instances, changes.whiteboard, changes.instances_numbered, changes.turns_begun, changes.generations, changes.uses, changes.tokens, plus_none w.components_numbered) refl
+    rw (changes.failing.failed, changes.failing.failures, changes.living.instances, changes.living.whiteboard, changes.numbers.instances_numbered, changes.numbers.turns_begun, changes.numbers.generations, changes.gets.uses, changes.gets.tokens, plus_none w.components_numbered) refl
 world_drafted (Drained instance) w c is changes =
-    rw (changes.failed, changes.failures, changes.instances, changes.whiteboard, changes.instances_numbered, changes.turns_begun, changes.generations, changes.uses, changes.tokens, plus_none w.components_numbered) refl
+    rw (changes.failing.failed, changes.failing.failures, changes.living.instances, changes.living.whiteboard, changes.numbers.instances_numbered, changes.numbers.turns_begun, changes.numbers.generations, changes.gets.uses, changes.gets.tokens, plus_none w.components_numbered) refl
 world_drafted (Got bundle service) w c is changes =
-    rw (changes.failed, changes.failures, changes.instances, changes.whiteboard, changes.instances_numbered, changes.turns_begun, changes.generations, changes.uses, changes.tokens, plus_none w.components_numbered) refl
+    rw (changes.failing.failed, changes.failing.failures, changes.living.instances, changes.living.whiteboard, changes.numbers.instances_numbered, changes.numbers.turns_begun, changes.numbers.generations, changes.gets.uses, changes.gets.tokens, plus_none w.components_numbered) refl
 world_drafted (Released place) w c is changes =
-    rw (changes.failed, changes.failures, changes.instances, changes.whiteboard, changes.instances_numbered, changes.turns_begun, changes.generations, changes.uses, changes.tokens, plus_none w.components_numbered) refl
+    rw (changes.failing.failed, changes.failing.failures, changes.living.instances, changes.living.whiteboard, changes.numbers.instances_numbered, changes.numbers.turns_begun, changes.numbers.generations, changes.gets.uses, changes.gets.tokens, plus_none w.components_numbered) refl
 
 documents_stay : (step : Step) (w : World) → is_turn_step step ≡ true → (world_after_step step w).documents ≡ w.documents
 unfolding world_after_step
@@ -111,7 +111,7 @@ no_levels c w s = refl
 
 roomy : (step : Step) (w : World) (c : TurnChanges) → IsTurnChange step w c → HasRoom (draft_with c w) w
 unfolding draft_with
-roomy step w c changes = changes.room
+roomy step w c changes = (changes.failing.room, changes.living.room, changes.numbers.room, changes.gets.room)
 
 pub drafted : (s : State) (step : Step) (c : TurnChanges) → IsKept s → is_turn_step step ≡ true → IsTurnChange step s.world c → IsDraft s step (draft_with c s.world)
 drafted s step c kept turn changes = record {

@@ -1,7 +1,7 @@
 //! Gets by token (our own; OSGi Core 8, chapter 5, "Getting Services", "Releasing Services").
 ghost use Rattle.component_state.specs.Inside.Ready.{are_apart};
 ghost use Rattle.scr_state.specs.Rows.{HasRoomAmong, with_change};
-ghost use Rattle.scr_turns.specs.TurnDrafts.{AreKnown};
+ghost use Rattle.scr_turns.specs.TurnDrafts.{AreGetChanges, AreKnown};
 ghost use Rattle.scr_world.specs.Tables.{tokens_by, uses_by, without_token};
 ghost use Rattle.scr_world.specs.TurnSteps.{is_turn_step};
 ghost use Rattle.scr_world.specs.declared.marks.Token.{Token};
@@ -12,18 +12,41 @@ ghost use Rattle.std.specs.Prelude.{◌≡◌, ◌<◌, ◌==◌, IfOk, filter, 
 ghost use Rattle.use_counts.specs.Uses.{after_get, after_unget, holder_count};
 ghost use Rattle.use_counts.specs.declared.uses.Holder.TheVariants.{Token as ByToken};
 
+use crate::both::both;
 use prop_map::{Copies, OutOfMemory};
 use scr_state::RowChange;
 use scr_world::{Step, Token, World};
 use std::alloc::{AllocError, Global};
 use use_counts::{Holder, UseCounts};
 
-/// The use counts after a step of a turn, none where it leaves them.
-pub(crate) fn uses_after(
+/// What a step of a turn makes of the use counts, and of the gets by token.
+#[derive(Drop)]
+pub(crate) struct GetChanges {
+    pub(crate) uses: Option<UseCounts>,
+    pub(crate) tokens: RowChange<Token>,
+}
+
+/// What a step of a turn makes of the use counts, and of the gets by token.
+///
+/// # Errors
+/// Only want of memory.
+pub(crate) fn get_changes(
     alloc: Global,
     world: &World,
     step: &Step,
-) -> Result<Option<UseCounts>, OutOfMemory>
+) -> Result<GetChanges, OutOfMemory>
+    requires turn { is_turn_step step.now ≡ true }
+    requires known { AreKnown world.now }
+    ensures { IfOk result (λ changes. AreGetChanges step.now world.now changes) }
+{
+    let uses = uses_after(alloc, world, step);
+    let tokens = tokens_after(alloc, world, step);
+    let (uses, tokens) = both(uses, tokens)?;
+    Ok(GetChanges { uses, tokens })
+}
+
+// The use counts after a step of a turn, none where it leaves them.
+fn uses_after(alloc: Global, world: &World, step: &Step) -> Result<Option<UseCounts>, OutOfMemory>
     requires turn { is_turn_step step.now ≡ true }
     requires known { AreKnown world.now }
     ensures { IfOk result (λ r. unwrap_or r world.now.uses ≡ uses_by step.now world.now.tokens world.now.uses) }
@@ -83,12 +106,8 @@ fn without_token(alloc: Global, uses: &UseCounts, token: &Token) -> Result<UseCo
     }
 }
 
-/// What a step of a turn makes of the gets by token.
-pub(crate) fn tokens_after(
-    alloc: Global,
-    world: &World,
-    step: &Step,
-) -> Result<RowChange<Token>, OutOfMemory>
+// What a step of a turn makes of the gets by token.
+fn tokens_after(alloc: Global, world: &World, step: &Step) -> Result<RowChange<Token>, OutOfMemory>
     requires known { AreKnown world.now }
     ensures rows { IfOk result (λ r. with_change r world.now.tokens ≡ tokens_by step.now world.now.entries world.now.tokens) }
     ensures room { IfOk result (λ r. HasRoomAmong r world.now.tokens) }

@@ -1,6 +1,6 @@
 //! The living instances after a step of a turn (OSGi Compendium 8, chapter 112, "Component Life Cycle").
 ghost use Rattle.scr_state.specs.Rows.{HasRoomAmong, with_change};
-ghost use Rattle.scr_turns.specs.TurnDrafts.{AreKnown, HaveOwnNumbers};
+ghost use Rattle.scr_turns.specs.TurnDrafts.{AreInstanceChanges, AreKnown, HaveOwnNumbers};
 ghost use Rattle.scr_world.specs.Instances.{begun_by, created_at, drained_in, ended_in, has_turn, lives_on, with_callback_begun};
 ghost use Rattle.scr_world.specs.Stepping.{before_turn, instances_by, whiteboard_by};
 ghost use Rattle.scr_world.specs.TurnSteps.{is_turn_step};
@@ -10,6 +10,7 @@ ghost use Rattle.std.specs.Option.{unwrap_or};
 ghost use Rattle.std.specs.Prelude.{◌≡◌, ◌==◌, ◌++◌, ◌∷◌, [], IfOk, filter, map, true};
 
 use crate::begins::told_in;
+use crate::both::both;
 use crate::creations::created;
 use crate::ends::with_outcome;
 use callback_orders::{Callback, Outcome};
@@ -19,8 +20,37 @@ use scr_state::RowChange;
 use scr_world::{Instance, Step, World};
 use std::alloc::Global;
 
-/// What a step of a turn makes of the living instances.
-pub(crate) fn instances_after(
+/// What a step of a turn makes of the living instances, and of the whiteboard's.
+#[derive(Drop)]
+pub(crate) struct InstanceChanges {
+    pub(crate) instances: RowChange<Instance>,
+    pub(crate) whiteboard: Option<Instance>,
+}
+
+/// What a step of a turn makes of the living instances, and of the whiteboard's.
+///
+/// # Errors
+/// Only want of memory.
+pub(crate) fn instance_changes(
+    alloc: Global,
+    world: &World,
+    step: &Step,
+) -> Result<InstanceChanges, OutOfMemory>
+    requires turn { is_turn_step step.now ≡ true }
+    requires known { AreKnown world.now }
+    ensures { IfOk result (λ changes. AreInstanceChanges step.now world.now changes) }
+{
+    let instances = instances_after(alloc, world, step);
+    let whiteboard = whiteboard_after(alloc, world, step);
+    let (instances, whiteboard) = both(instances, whiteboard)?;
+    Ok(InstanceChanges {
+        instances,
+        whiteboard,
+    })
+}
+
+// What a step of a turn makes of the living instances.
+fn instances_after(
     alloc: Global,
     world: &World,
     step: &Step,
@@ -187,8 +217,8 @@ fn drained(
     }
 }
 
-/// The whiteboard's instance after a step of a turn, none where it stays as it is.
-pub(crate) fn whiteboard_after(
+// The whiteboard's instance after a step of a turn, none where it stays as it is.
+fn whiteboard_after(
     alloc: Global,
     world: &World,
     step: &Step,

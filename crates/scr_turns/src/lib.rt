@@ -2,11 +2,14 @@
 #![tactic(auto)]
 
 mod begins;
+mod both;
 mod creations;
 mod drafts;
 mod ends;
+mod failing;
 mod gets;
 mod instances;
+mod numbers;
 mod revisions;
 mod slots;
 

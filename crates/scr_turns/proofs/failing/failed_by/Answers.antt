@@ -2,7 +2,7 @@ use Rattle.std.proofs.Common.{◌∙◌, ap, ℕ, List}
 use Rattle.component_state.specs.declared.component.Component.{Component}
 use Rattle.component_state.specs.Marks.{failed_after}
 use Rattle.scr_turns.proofs.TurnDrafted.{failed_in}
-use Rattle.scr_turns.proofs.drafts.failed_by.Goals as goal
+use Rattle.scr_turns.proofs.failing.failed_by.Goals as goal
 
 pub returns : goal.returns
 returns c =

@@ -2,7 +2,7 @@ use Rattle.std.proofs.Common.{◌∙◌, sym}
 use Rattle.scr_turns.proofs.Places.{last_of_one}
 use Rattle.scr_turns.proofs.TurnDrafted.{one_failure}
 use Rattle.scr_world.specs.Stepping.{failures_by}
-use Rattle.scr_turns.proofs.drafts.failure_of.Goals as goal
+use Rattle.scr_turns.proofs.failing.failure_of.Goals as goal
 
 pub returns-in-Some : goal.returns-in-Some
 returns-in-Some c =

@@ -6,7 +6,7 @@ use Rattle.scr_world.specs.Instances.{becomes_active, has_turn}
 use Rattle.scr_world.specs.Stepping.{reopened_for}
 use Rattle.scr_world.specs.declared.instance.Instance.{Instance}
 use Rattle.scr_turns.proofs.InstanceRows.{reopened_first}
-use Rattle.scr_turns.proofs.drafts.generations_after.Goals as goal
+use Rattle.scr_turns.proofs.numbers.generations_after.Goals as goal
 
 pub returns-in-End-clause-rows : goal.returns-in-End-clause-rows
 returns-in-End-clause-rows c =
