@@ -1,8 +1,7 @@
 -- Where a callback is due, the turn that begins it is there.
-use Rattle.std.proofs.Common.{◌≡◌, ℕ, ap, sym, ◌∙◌, refl, subst, true, inl, inr, Option, Some, None}
+use Rattle.std.proofs.Common.{◌≡◌, ℕ, ◌+◌, List, ap, sym, ◌∙◌, refl, subst, Bool, true, inl, inr, Option, Some, None}
 use Rattle.std.specs.Prelude.{find, map, option_and_then, option_map, ◌==◌}
 use Rattle.std.specs.List.{Contains}
-use Rattle.std.specs.Prelude.{List, Bool}
 use Rattle.std.proofs.lemmas.Bool.{both_ways, eq-eqb}
 use Rattle.callback_orders.specs.declared.callback.Callback.TheVariants.{Create}
 use Rattle.callback_orders.specs.declared.due.DueRef.{DueRef}
@@ -24,12 +23,13 @@ use Rattle.scr_world.specs.declared.step.Step.TheVariants.{Begin}
 use Rattle.scr_world.specs.declared.world.World.{World}
 
 -- where one passes some is found
-some_found : {X : Type 0} (t : X → Bool) (xs : List X) (x : X) → Contains xs x → t x ≡ true → (y : X) × (find t xs ≡ Some y)
-some_found {X = X} t xs x h on = go (find t xs) refl
-  where
-    go : (o : Option X) → find t xs ≡ o → (y : X) × (find t xs ≡ Some y)
-    go None none = absurd (both_ways (t x) (none_found t xs x none h) on)
-    go (Some y) found = (y, found)
+module _ {X : Type 0} where
+  some_found : (t : X → Bool) (xs : List X) (x : X) → Contains xs x → t x ≡ true → (y : X) × (find t xs ≡ Some y)
+  some_found t xs x h on = go (find t xs) refl
+    where
+      go : (o : Option X) → find t xs ≡ o → (y : X) × (find t xs ≡ Some y)
+      go None none = absurd (both_ways (t x) (none_found t xs x none h) on)
+      go (Some y) found = (y, found)
 
 module _ (w : World) where
   -- the turn of a due callback, which may come where it is the next one

@@ -1,6 +1,6 @@
 -- No legal journal is stuck.
 use Rattle.std.proofs.Common.{◌≡◌, ℕ, subst, sym, refl, arith, true, false, inl, inr, Option, Some, None}
-use Rattle.std.specs.Prelude.{◌+◌, ◌==◌, ◌&&◌, length}
+use Rattle.std.specs.Prelude.{◌+◌, ◌==◌, ◌&&◌}
 use Rattle.std.specs.List.{Contains, list_any}
 use Rattle.std.proofs.lemmas.Bool.{and_from, cases_Bool, eq-eqb, le-leb}
 use Rattle.callback_orders.specs.declared.callback.Outcome.{Outcome}
@@ -10,9 +10,9 @@ use Rattle.component_state.proofs.Apart.{any_found, any_from}
 use Rattle.scr_laws.proofs.CreatedLaws.{entries_of}
 use Rattle.scr_laws.proofs.Reserved.{room_in}
 use Rattle.scr_laws.proofs.SomeEntries.{some_entry}
-use Rattle.scr_promises.specs.GoingOn.{FollowsWhereRoom, HasDueTurn, HasEntry, IsNotStuck, WaitsFor, callback, caller, nothing, platform, room}
+use Rattle.scr_promises.specs.GoingOn.{FollowsWhereRoom, HasDueTurn, HasEntry, IsNotStuck, WaitsFor, for_callback, for_caller, for_nothing, for_platform, for_room}
 use Rattle.scr_promises.proofs.DueTurns.{due_turn}
-use Rattle.scr_world.specs.Dues.{due_in, next_begin}
+use Rattle.scr_world.specs.Dues.{due_in}
 use Rattle.scr_world.specs.Instances.{has_turn}
 use Rattle.scr_world.specs.Legal.{IsLegal, MayCome, awaits_drain, is_under_way}
 use Rattle.scr_world.specs.Lists.{world_of}
@@ -59,24 +59,24 @@ module _ (limit : ℕ) (past : History) (legal : IsLegal limit past) where
 
   waits_due : HasDueTurn limit past → WaitsFor limit past
   waits_due turn = elim (cases_Bool (has_room limit w (needed_by turn.0))) [
-    | inl fits ↦ platform turn.0 turn.1 (turn.2.1 fits)
-    | inr full ↦ room turn.0 turn.1 full
+    | inl fits ↦ for_platform turn.0 turn.1 (turn.2.1 fits)
+    | inr full ↦ for_room turn.0 turn.1 full
   ]
 
   waits_callback : list_any (λ (i : Instance). is_outstanding i.callbacks) (all_instances w) ≡ true → WaitsFor limit past
   waits_callback on =
       let i = any_found (λ (j : Instance). is_outstanding j.callbacks) (all_instances w) on in
-      callback i.0.turn (any_from (has_turn i.0.turn) (all_instances w) i.0 i.1 (and_from (i.0.turn == i.0.turn) (is_outstanding i.0.callbacks) (eq-eqb i.0.turn i.0.turn refl) i.2))
+      for_callback i.0.turn (any_from (has_turn i.0.turn) (all_instances w) i.0 i.1 (and_from (i.0.turn == i.0.turn) (is_outstanding i.0.callbacks) (eq-eqb i.0.turn i.0.turn refl) i.2))
 
   waits_caller : list_any (awaits_drain w) w.instances ≡ true → WaitsFor limit past
-  waits_caller on = let i = any_found (awaits_drain w) w.instances on in caller i.0 i.1 i.2
+  waits_caller on = let i = any_found (awaits_drain w) w.instances on in for_caller i.0 i.1 i.2
 
   waits_undue : due_in w ≡ None → WaitsFor limit past
   waits_undue none = elim (cases_Bool (list_any (λ (i : Instance). is_outstanding i.callbacks) (all_instances w))) [
     | inl on ↦ waits_callback on
     | inr ended ↦ elim (cases_Bool (list_any (awaits_drain w) w.instances)) [
       | inl on ↦ waits_caller on
-      | inr drained ↦ nothing (record { nothing_due = none; ended = ended; drained = drained })
+      | inr drained ↦ for_nothing (record { nothing_due = none; ended = ended; drained = drained })
     ]
   ]
 

@@ -14,7 +14,6 @@ use Rattle.scr_world.specs.declared.instance.Instance.{Instance}
 use Rattle.scr_world.specs.declared.marks.Token.{Token}
 use Rattle.scr_world.specs.declared.step.Step.{Step}
 use Rattle.scr_world.specs.declared.step.Step.TheVariants.{End, Drained, Released}
-use Rattle.scr_world.specs.declared.world.World.{World}
 
 -- an entry of this step follows the journal
 abbrev pub HasEntry : ℕ → History → Step → Type 0
@@ -31,11 +30,11 @@ HasDueTurn limit past = (step : Step) × (next_begin (world_of past) ≡ Some st
 -- a journal waits for nothing any more; or for the platform, whose next turn may begin; or for a callback that is under way; or for a caller inside an
 -- instance that is ending, whose drain isn't posted; or for room, since it is too full for the turn that is due
 pub data WaitsFor (limit : ℕ) (past : History) : Type 0 where
-  nothing : IsQuiet (world_of past) → WaitsFor limit past
-  platform : (step : Step) → next_begin (world_of past) ≡ Some step → HasEntry limit past step → WaitsFor limit past
-  callback : (turn : ℕ) → is_under_way (world_of past) turn ≡ true → WaitsFor limit past
-  caller : (i : Instance) → Contains (world_of past).instances i → awaits_drain (world_of past) i ≡ true → WaitsFor limit past
-  room : (step : Step) → next_begin (world_of past) ≡ Some step → has_room limit (world_of past) (needed_by step) ≡ false → WaitsFor limit past
+  for_nothing : IsQuiet (world_of past) → WaitsFor limit past
+  for_platform : (step : Step) → next_begin (world_of past) ≡ Some step → HasEntry limit past step → WaitsFor limit past
+  for_callback : (turn : ℕ) → is_under_way (world_of past) turn ≡ true → WaitsFor limit past
+  for_caller : (i : Instance) → Contains (world_of past).instances i → awaits_drain (world_of past) i ≡ true → WaitsFor limit past
+  for_room : (step : Step) → next_begin (world_of past) ≡ Some step → has_room limit (world_of past) (needed_by step) ≡ false → WaitsFor limit past
 
 -- a journal isn't stuck: each turn that is under way may end with each outcome, each drain that is awaited may be posted and each get by token that stands
 -- may be released, however full the journal is, as their entries are reserved; where a turn is due it is there and follows where there is room; and what
