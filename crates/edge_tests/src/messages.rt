@@ -1,8 +1,8 @@
 //! Requests and answers of HTTP/1.1.
 
 use http_wire::{
-    Answered, BodyRead, ChunkReader, HeadRead, push_response, read_chunks, read_head,
-    write_response,
+    Answered, BodyRead, ChunkReader, HeadRead, push_response, read_chunks, read_head, read_method,
+    read_path, write_response,
 };
 use prop_map::List;
 use std::test::Fail;
@@ -17,6 +17,24 @@ fn a_head_is_read(rt: HostRuntime) -> Result<(), Fail> {
     };
     assert_eq!(rt; head.target.as_str(), "/a%20b?c");
     assert_eq!(rt; head.path.as_str(), "/a b");
+    Ok(())
+}
+
+#[test]
+fn a_method_is_read(rt: HostRuntime) -> Result<(), Fail> {
+    let Some(method) = read_method(rt.alloc(), b"M-SEARCH")? else {
+        return Err("no method".into());
+    };
+    assert_eq!(rt; method.as_str(), "M-SEARCH");
+    Ok(())
+}
+
+#[test]
+fn a_path_is_read(rt: HostRuntime) -> Result<(), Fail> {
+    let Some(path) = read_path(rt.alloc(), "http://h/a%20b?c")? else {
+        return Err("no path".into());
+    };
+    assert_eq!(rt; path.as_str(), "/a b");
     Ok(())
 }
 

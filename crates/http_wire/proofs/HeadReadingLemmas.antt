@@ -35,7 +35,7 @@ told_reads n bytes headers parts r small room within of tells =
       few = omega (arith, length-take parts.headers headers);
     } in
     let shows : Shows seen parts (take parts.headers headers) h =
-    record { method = at.method; target = at.path; text = at.reads.0.target_text; version = at.version; fields_are = at.fields } in
+    record { method = at.method; token = at.reads.0.method; target = at.path; text = at.reads.0.target_text; version = at.version; fields_are = at.fields } in
     inr (
       front,
       seen_front front bytes n (whole_front front (drop parts.len seen) seen h (sym split) whole),

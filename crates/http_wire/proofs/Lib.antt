@@ -12,4 +12,5 @@ pub mod ChunkedBodyLemmas
 pub mod ChunkLineCut
 pub mod ChunkNeedsLemmas
 pub mod BodyReadingLemmas
+pub mod MethodTokenLemmas
 pub mod ResponseTextLemmas

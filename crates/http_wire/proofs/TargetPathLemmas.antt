@@ -1,5 +1,5 @@
 -- The path of a target, from where its separators are.
-use Rattle.std.proofs.Common.{◌≡◌, ◌≢◌, ℕ, zero, suc, ◌<◌, cond, List, [], ◌∷◌, length, get_or, take, drop, refl, ap, ◌∙◌, arith}
+use Rattle.std.proofs.Common.{◌≡◌, ◌≢◌, ℕ, zero, suc, ◌<◌, Bool, true, false, not, cond, List, [], ◌∷◌, length, get_or, take, drop, refl, ap, ◌∙◌, arith}
 use Rattle.std.proofs.lemmas.Bool.{eq-eqb, ne_eqb}
 use Rattle.http_wire.specs.TargetPath.{before_query, from_slash}
 
@@ -28,3 +28,7 @@ from_slash_none [] none = refl
 from_slash_none (b ∷ bs) none =
     ap (λ t. cond t (b ∷ bs) (from_slash bs)) (ne_eqb b 47 (none 0 (omega arith)))
     ∙ from_slash_none bs (λ k below. none (suc k) (omega arith))
+
+pub not_both : (test : Bool) → not test ≡ true → test ≡ true → ⊥
+not_both true no yes = cc
+not_both false no yes = cc

@@ -1,6 +1,6 @@
 -- What a head asks for (RFC 9112, sections 3.2, 6 and 9.6), and what is answered to it (our own).
 use Rattle.std.specs.Prelude.{◌≡◌, ℕ, ◌⊎◌, Bool, true, false, not, ◌||◌, ◌&&◌, ◌==◌, if◌then◌else◌, List, [], ◌∷◌, length, codes, bytes_eq, Option, Some, None, map, IsUtf8}
-use Rattle.httparse.specs.Grammar.{RequestHead}
+use Rattle.httparse.specs.Grammar.{IsToken, RequestHead}
 use Rattle.httparse.specs.declared.spans.RequestSpans.{RequestSpans}
 use Rattle.httparse.specs.declared.spans.HeaderSpan.{HeaderSpan}
 use Rattle.httparse.specs.Spans.{span_bytes, header_bytes}
@@ -89,6 +89,7 @@ Answers front r = ((h : RequestHead) × IsHead front h × AnswersHead (length fr
 -- the spans are those of the head's parts
 pub record Shows (bytes : List ℕ) (parts : RequestSpans) (fields : List HeaderSpan) (h : RequestHead) : Type 0 where
   pub method : span_bytes bytes parts.method ≡ h.method
+  pub token : IsToken h.method
   pub target : span_bytes bytes parts.path ≡ h.target
   pub text : IsUtf8 h.target
   pub version : parts.version ≡ h.minor

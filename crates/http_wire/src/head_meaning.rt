@@ -7,13 +7,14 @@ ghost use Rattle.http_wire.specs.FieldValues.{values_named};
 
 use crate::field_values::{count_named, first_named, has_item_named, is_same_word};
 use crate::messages::{Framing, Head, HeadRead};
-use crate::target_path::path_of;
+use crate::method_token::read_method;
+use crate::target_path::read_path;
 use fault_count::decimal;
-use http::Method;
 use http_header::{CONNECTION, CONTENT_LENGTH, HOST, TRANSFER_ENCODING};
 use httparse::spans::{HeaderSpan, RequestSpans};
 use prop_map::{OutOfMemory, Str};
-use std::alloc::{AllocError, Global};
+use std::alloc::Global;
+use std::str;
 
 // What the fields say of the body.
 #[derive(Clone, Copy, Debug, PartialEq, Eq)]
@@ -87,8 +88,10 @@ pub(crate) fn head_answer(
     requires fields { All (IsHeaderWithin (length bytes.now)) fields.now }
     ensures { IfOk result (λ r. (h : RequestHead) → Shows bytes.now parts.now fields.now h → AnswersHead parts.now.len h r) }
 {
-    let target = parts.path.of(bytes);
-    let path = path_of(alloc, target)?;
+    let Ok(target) = str::from_utf8(parts.path.of(bytes)) else {
+        return Ok(HeadRead::Bad);
+    };
+    let path = read_path(alloc, target)?;
     if lacks_host(parts.version, bytes, fields) {
         return Ok(HeadRead::Bad);
     }
@@ -102,12 +105,12 @@ pub(crate) fn head_answer(
     };
     let method = parts.method.of(bytes);
     let head_only = method == b"HEAD".as_slice();
-    let Ok(method) = Method::from_bytes(alloc, method) else {
-        return Err(AllocError);
+    let Some(method) = read_method(alloc, method)? else {
+        return Ok(HeadRead::Bad);
     };
     Ok(HeadRead::Whole(Head {
         method,
-        target: Str::of(String::from_utf8_lossy(alloc, target)?),
+        target: Str::of(String::from_str(alloc, target)?),
         path: Str::of(path),
         head_only,
         last: ends_connection(parts.version, bytes, fields),

@@ -11,6 +11,8 @@
 //! | `clauses TEXT` | the clauses, or the fault |
 //! | `document TEXT` | the bundle's document, or the fault |
 //! | `head TEXT` | what the text begins with, read as the head of a request |
+//! | `method TEXT` | the method of a request that the text names, or `none` |
+//! | `target TEXT` | the path of this target of a request, or `none` |
 //!
 //! A text is a JSON string, or `bytes HEX` with two digits for each byte. An empty line and one that begins with `#` are
 //! answered by themselves, and any other line by a word that says what is wrong with it.

@@ -2,7 +2,7 @@
 
 use bundle_doc::read_bundle;
 use bundle_headers::{Clauses, Manifest};
-use http_wire::{Framing, Head, HeadRead, read_head};
+use http_wire::{Framing, Head, HeadRead, read_head, read_method, read_path};
 use ldap_filter::Filter;
 use osgi_version::{Bound, Version, VersionRange};
 use prop_map::{OutOfMemory, Properties};
@@ -108,4 +108,18 @@ fn head_text(alloc: Global, head: &Head) -> Result<String, OutOfMemory> {
         text.push_str(" last")?;
     }
     Ok(text)
+}
+
+pub(crate) fn method(alloc: Global, bytes: &[u8]) -> Result<String, OutOfMemory> {
+    match read_method(alloc, bytes)? {
+        Some(method) => String::from_str(alloc, method.as_str()),
+        None => String::from_str(alloc, "none"),
+    }
+}
+
+pub(crate) fn target(alloc: Global, text: &str) -> Result<String, OutOfMemory> {
+    match read_path(alloc, text)? {
+        Some(path) => format!(in alloc; "{path:?}"),
+        None => String::from_str(alloc, "none"),
+    }
 }

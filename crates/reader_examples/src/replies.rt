@@ -1,13 +1,13 @@
 //! What a line is answered.
 
 use crate::arguments::next_text;
-use crate::readers::{clauses, document, filter, head, manifest, range, version};
+use crate::readers::{clauses, document, filter, head, manifest, method, range, target, version};
 use prop_map::OutOfMemory;
 use std::alloc::Global;
 use std::str;
 
 const USAGE: &str =
-    "no line: filter TEXT [PROPERTIES], version, range, manifest, clauses, document or head TEXT";
+    "no line: filter TEXT [PROPERTIES], version, range, manifest, clauses, document, head, method or target TEXT";
 
 const NO_UTF8: &str = "no line: this reader takes UTF-8";
 
@@ -35,6 +35,7 @@ fn answer(alloc: Global, word: &str, bytes: &[u8]) -> Result<String, OutOfMemory
         "manifest" => manifest(alloc, bytes),
         "document" => document(alloc, bytes),
         "head" => head(alloc, bytes),
+        "method" => method(alloc, bytes),
         _ => match str::from_utf8(bytes) {
             Ok(text) => text_answer(alloc, word, text),
             Err(_) => String::from_str(alloc, NO_UTF8),
@@ -47,6 +48,7 @@ fn text_answer(alloc: Global, word: &str, text: &str) -> Result<String, OutOfMem
         "version" => version(alloc, text),
         "range" => range(alloc, text),
         "clauses" => clauses(alloc, text),
+        "target" => target(alloc, text),
         _ => String::from_str(alloc, USAGE),
     }
 }
