@@ -1,0 +1,5 @@
+pub mod KeptAgain
+pub mod KeptOrders
+pub mod Located
+pub mod Mapped
+pub mod Placed

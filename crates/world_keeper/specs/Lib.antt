@@ -1,0 +1,4 @@
+pub mod Again
+pub mod KeptWorlds
+pub mod Memory
+pub mod Orders
