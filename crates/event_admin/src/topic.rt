@@ -16,7 +16,7 @@ impl<'t> Topic<'t> {
     ghost use Rattle.event_admin.specs.Beginnings.{IsLongest};
     ghost use Rattle.event_admin.specs.TopicTexts.{text_of};
     ghost use Rattle.event_admin.specs.Topics.{is_topic, topic_of};
-    ghost use Rattle.std.specs.Prelude.{◌≡◌, IfErr, option_map};
+    ghost use Rattle.std.specs.Prelude.{◌≡◌, IfErr, option_map, true};
     ghost use Rattle.std.specs.Result.{result_ok};
 
     /// The topic that a text spells: one or more tokens between slashes, each of one or more ASCII letters, digits, `_` and
@@ -32,6 +32,14 @@ impl<'t> Topic<'t> {
             None => Ok(Topic { text }),
             Some(at) => Err(BadTopic { at }),
         }
+    }
+
+    /// The topic whose text is known to be one.
+    pub(crate) fn known(text: &'t str) -> Topic<'t>
+        requires { is_topic text.now ≡ true }
+        ensures { text_of result ≡ text.now }
+    {
+        Topic { text }
     }
 
     /// The text.
