@@ -1,0 +1,9 @@
+pub mod Beginnings
+pub mod Events
+pub mod Hands
+pub mod Inside
+pub mod Patterns
+pub mod Rule
+pub mod TopicTexts
+pub mod Topics
+pub mod Views
