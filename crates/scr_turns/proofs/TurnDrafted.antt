@@ -111,7 +111,7 @@ no_levels c w s = refl
 
 roomy : (step : Step) (w : World) (c : TurnChanges) → IsTurnChange step w c → HasRoom (draft_with c w) w
 unfolding draft_with
-roomy step w c changes = (changes.failing.room, changes.living.room, changes.numbers.room, changes.gets.room)
+roomy step w c changes = (changes.failing.room, (changes.living.room, (changes.numbers.room, changes.gets.room)))
 
 pub drafted : (s : State) (step : Step) (c : TurnChanges) → IsKept s → is_turn_step step ≡ true → IsTurnChange step s.world c → IsDraft s step (draft_with c s.world)
 drafted s step c kept turn changes = record {

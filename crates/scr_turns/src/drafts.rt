@@ -62,6 +62,23 @@ fn changes(alloc: Global, state: &State, step: &Step) -> Result<TurnChanges, Out
 fn draft_with(world: &World, changes: TurnChanges) -> Draft
     ensures { result ≡ draft_with changes world.now }
 {
+    let TurnChanges {
+        failing,
+        living,
+        numbers,
+        gets,
+    } = changes;
+    let FailureChanges { failed, failures } = failing;
+    let InstanceChanges {
+        instances,
+        whiteboard,
+    } = living;
+    let NumberChanges {
+        instances_numbered,
+        turns_begun,
+        generations,
+    } = numbers;
+    let GetChanges { uses, tokens } = gets;
     Draft {
         documents: None,
         registry: None,
@@ -69,15 +86,15 @@ fn draft_with(world: &World, changes: TurnChanges) -> Draft
         components: None,
         components_numbered: world.components_numbered,
         open_periods: None,
-        failed: changes.failing.failed,
-        failures: changes.failing.failures,
-        instances: changes.living.instances,
-        whiteboard: changes.living.whiteboard,
-        instances_numbered: changes.numbers.instances_numbered,
-        turns_begun: changes.numbers.turns_begun,
-        generations: changes.numbers.generations,
-        uses: changes.gets.uses,
-        tokens: changes.gets.tokens,
+        failed,
+        failures,
+        instances,
+        whiteboard,
+        instances_numbered,
+        turns_begun,
+        generations,
+        uses,
+        tokens,
         descriptions: None,
         levels: None,
     }
