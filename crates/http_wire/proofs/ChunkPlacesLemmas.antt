@@ -1,16 +1,15 @@
 -- A byte more of a chunked body, and what completes it.
-use Rattle.std.proofs.Common.{◌≡◌, ◌≢◌, ℕ, ◌+◌, ◌-◌, ◌*◌, ◌<◌, ◌≤◌, Bool, true, false, List, [], ◌∷◌, ◌++◌, length, refl, sym, ap, ◌∙◌, subst, arith, append_assoc, append-nil, length-append, inl, inr, Option, Some, None}
+use Rattle.std.proofs.Common.{◌≡◌, ℕ, ◌+◌, ◌-◌, ◌*◌, ◌<◌, ◌≤◌, true, List, [], ◌∷◌, ◌++◌, length, refl, sym, ap, ◌∙◌, subst, arith, append_assoc, length-append, inl, inr, Some, None}
 use Rattle.std.specs.Prelude.{replicate}
 use Rattle.std.proofs.lemmas.List.{length-replicate}
 use Rattle.std.proofs.lemmas.List.Elements.{All-nil, All-cons}
 use Rattle.std.specs.Char.{is_ascii_hexdigit, digit_value}
 use Rattle.std.specs.Str.Parse.{digits_value_after}
-use Rattle.httparse.specs.Ascii.{crlf_bytes}
-use Rattle.httparse.specs.Grammar.{AllPass, is_ows, is_token_byte, is_value_byte, is_extension_byte, ChunkLine, print_chunk_line, print_extension, Field, IsField, crlf, lf, print_end, print_section}
+use Rattle.httparse.specs.Grammar.{is_ows, is_token_byte, is_value_byte, is_extension_byte, ChunkLine, print_chunk_line, Field, IsField, crlf, lf, print_end, print_section}
 use Rattle.httparse.proofs.GrammarLemmas.{cons-append}
 use Rattle.http_wire.specs.ChunkedBody.{HasSection, IsBodyAt, IsLessBody}
 use Rattle.http_wire.specs.ChunkContinuation.{IsChunkRest}
-use Rattle.http_wire.specs.ChunkPlaces.{Follows, InDigits, InName, Completes, gained, Steps, EndsAt, IsFollowed, LacksFrom}
+use Rattle.http_wire.specs.ChunkPlaces.{Follows, InDigits, InName, gained, Steps, EndsAt, IsFollowed, LacksFrom}
 use Rattle.http_wire.specs.declared.chunk_place.Place.{Place}
 use Rattle.http_wire.specs.declared.chunk_place.Place.TheVariants.{Digits, Blanks, Extension, LineFeed, Chunk, ChunkEnd, ChunkFeed, Trailer, Name, Value, ValueFeed, LastFeed, Unknown}
 use Rattle.http_wire.specs.declared.chunk_place.Reached.{Reached}

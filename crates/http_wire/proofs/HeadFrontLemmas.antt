@@ -1,13 +1,12 @@
 -- What may become a head, and has room for it, goes on.
-use Rattle.std.proofs.Common.{◌≡◌, ℕ, ◌+◌, ◌<◌, ◌≤◌, List, [], ◌∷◌, ◌++◌, length, drop, take, refl, sym, ap, ◌∙◌, subst, arith, append_assoc, append-nil, length-append, length-take, take-append-drop, inl, inr, ◌⊎◌, cond}
-use Rattle.std.specs.Prelude.{Bool, ◌==◌, count_by, min}
-use Rattle.std.specs.List.{flat_map, sum_by}
+use Rattle.std.proofs.Common.{◌≡◌, ℕ, ◌+◌, ◌≤◌, List, [], ◌∷◌, ◌++◌, length, drop, take, refl, sym, ap, ◌∙◌, subst, arith, append_assoc, append-nil, length-append, length-take, take-append-drop, inl, inr, cond}
+use Rattle.std.specs.Prelude.{count_by, min}
+use Rattle.std.specs.List.{flat_map}
 use Rattle.std.proofs.lemmas.List.{take_all}
-use Rattle.std.proofs.lemmas.List.Elements.{All-weaker}
 use Rattle.std.proofs.lemmas.List.Sums.{sum_by-append}
 use Rattle.httparse.specs.Grammar.{AllPass, crlf, lf, LineEnd, print_end, print_blank, Field, print_field, print_section, print_version, RequestHead, ReadsRequest, HasNoRequest, MayBecomeRequest, is_uri_byte}
 use Rattle.http_wire.specs.declared.messages.HeadRead.{HeadRead}
-use Rattle.http_wire.specs.Heads.{IsLess, EndsInside, IsInsideWithRoom, GoesOn}
+use Rattle.http_wire.specs.Heads.{EndsInside, GoesOn}
 use Rattle.http_wire.specs.HeadMeaning.{ReadsHead}
 use Rattle.http_wire.specs.Continuation.{ending, IsTail, after_name, part, Shortens}
 use Rattle.http_wire.specs.HeadFronts.{is_feed, HasRoom}

@@ -1,5 +1,5 @@
 -- Bytes that were appended.
-use Rattle.std.proofs.Common.{◌≡◌, ℕ, List, ◌++◌, ap, ◌∙◌, append_assoc}
+use Rattle.std.proofs.Common.{ℕ, List, ◌++◌, ap, ◌∙◌, append_assoc}
 use Rattle.http_wire.specs.ResponseText.{Grows}
 
 pub grows_on : (a b c : List ℕ) → Grows a b → Grows b c → Grows a c

@@ -30,5 +30,5 @@ from_slash_none (b ∷ bs) none =
     ∙ from_slash_none bs (λ k below. none (suc k) (omega arith))
 
 pub not_both : (test : Bool) → not test ≡ true → test ≡ true → ⊥
-not_both true no yes = cc
-not_both false no yes = cc
+not_both true unset is_set = cc
+not_both false unset is_set = cc

@@ -3,7 +3,7 @@ use Rattle.std.specs.Prelude.{◌≡◌, ℕ, ◌+◌, ◌<◌, ◌≤◌, ◌�
 use Rattle.std.specs.Char.{is_ascii_hexdigit}
 use Rattle.std.specs.Str.Parse.{digits_value_after}
 use Rattle.httparse.specs.Grammar.{AllPass, is_ows, is_token_byte, is_value_byte, is_extension_byte, print_extension, IsExtension, LineEnd, print_end}
-use Rattle.http_wire.specs.ChunkedBody.{HasSection, IsBodyAt, IsLessBody}
+use Rattle.http_wire.specs.ChunkedBody.{HasSection, IsBodyAt}
 use Rattle.http_wire.specs.ChunkContinuation.{IsChunkRest}
 use Rattle.http_wire.specs.declared.chunk_place.Place.{Place}
 use Rattle.http_wire.specs.declared.chunk_place.Place.TheVariants.{Digits, Blanks, Extension, LineFeed, Chunk, ChunkEnd, ChunkFeed, Trailer, Name, Value, ValueFeed, LastFeed, Unknown}

@@ -1,4 +1,4 @@
-use Rattle.std.proofs.Common.{◌≡◌, ◌++◌, List, ℕ, ap, ◌∙◌, subst}
+use Rattle.std.proofs.Common.{◌++◌, List, ℕ, ap, ◌∙◌, subst}
 use Rattle.http_wire.specs.BodyReading.{ReadsBody}
 use Rattle.http_wire.proofs.chunk_reader.ChunkReader.read.Goals as goal
 
