@@ -1,0 +1,2 @@
+pub mod AdmissionLemmas
+pub mod Answering
