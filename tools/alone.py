@@ -1,13 +1,15 @@
-"""A check of one crate over the libraries that the last `rt ci` in this clone left. It reads a function again in seconds, and
-is no verdict of the gate."""
+"""What a check of one crate over the libraries that a run of `rt ci` left needs. Such a check reads a function again in
+seconds, and is no verdict of the gate."""
 
 import importlib.machinery
 import importlib.util
 import os
 import shutil
 import sys
+from pathlib import Path
 
 sys.dont_write_bytecode = True
+PARTS = ("src", "specs", "proofs")
 
 
 def toolchain():
@@ -36,7 +38,7 @@ def crates_at(top):
 def text_of(top, crate):
     """The files that a proof of the crate reads, with their texts."""
     folder = top / "crates" / crate
-    files = [file for part in ("src", "specs", "proofs") for file in sorted((folder / part).rglob("*")) if file.is_file()]
+    files = [file for part in PARTS for file in sorted((folder / part).rglob("*")) if file.is_file()]
     return [(str(it.relative_to(folder)), it.read_bytes()) for it in files]
 
 
@@ -45,7 +47,7 @@ def stale_library(top, over, libraries):
     for name in libraries:
         folder = over / "crates" / name
         left = folder / "out" / "rlib" / f"{name}.rlib" / "format"
-        files = [it for part in ("src", "specs", "proofs") for it in (folder / part).rglob("*") if it.is_file()]
+        files = [it for part in PARTS for it in (folder / part).rglob("*") if it.is_file()]
         changed = max((it.stat().st_mtime for it in files), default=0.0)
         if not left.is_file() or left.stat().st_mtime < changed or text_of(top, name) != text_of(over, name):
             return name
@@ -54,5 +56,6 @@ def stale_library(top, over, libraries):
 
 def words_of_check(crate, only, kept):
     """The words of rattle's check of these functions alone."""
-    words = crate.words(["--jobs", "1"], keeps=False)
-    return [*RT.rtlib.guarded(), RT.rtlib.RATTLE, "check", *words, *[it for name in only for it in ("--only", name)], "--incremental", kept]
+    functions = [it for name in only for it in ("--only", name)]
+    words = [*crate.words(["--jobs", "1"], keeps=False), *functions, "--incremental", kept]
+    return [*RT.rtlib.guarded(), RT.rtlib.RATTLE, "check", *words]
