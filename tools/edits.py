@@ -4,6 +4,7 @@ An edit is a file with lines `file: PATH`, `old: TEXT`, `new: TEXT`, as `rt ci` 
 crates/CRATE/must-fail/, the others in edits/CRATE/.
 """
 
+import re
 from pathlib import Path
 
 TOP = Path(__file__).resolve().parent.parent
@@ -23,9 +24,9 @@ def crates_with_edits(top):
 
 
 def strangers(top):
-    """The folders of edits/ that are no crate's, and files that are no edits."""
+    """The folders of edits/ that are no crate's, and files that are no edits; `tried` is what tools/try-edits wrote down."""
     known = {it.name for it in (top / "crates").iterdir()}
-    folders = [it for it in sorted((top / "edits").iterdir()) if it.name != "out"]
+    folders = [it for it in sorted((top / "edits").iterdir()) if it.name not in ("out", "tried")]
     lost = [it for it in folders if it.name not in known]
     return lost + [it for folder in folders for it in sorted(folder.glob("*")) if it.suffix != ".edit"]
 
@@ -60,3 +61,29 @@ def why_not_applicable(top, crate, edit):
             return f"its text stands {text.count(old)} times in {path}: {old.strip()}"
         texts[path] = text.replace(old, new)
     return None
+
+
+def function_of(top, edit):
+    """The function that an edit of one file changes, as `TYPE::NAME` or `module::NAME`, or None where no one function holds it all."""
+    crate, pairs = edit.parent.parent.name if edit.parent.name == "must-fail" else edit.parent.name, pairs_of(edit)
+    found = {name_at(top / "crates" / crate / path, old) for path, old, _ in pairs}
+    return found.pop() if len(found) == 1 else None
+
+
+def name_at(file, text):
+    """The function whose body holds the text, as a check prints the end of its name."""
+    lines = file.read_text()
+    at = lines.index(text)
+    head = [it for it in FUNCTION.finditer(lines, 0, at + len(text)) if it.start() <= at or it.group(2)]
+    if not head:
+        return None
+    indent, name = head[-1].group(1), head[-1].group(2)
+    owner = OWNER.findall(lines[: head[-1].start()]) if indent else []
+    if owner:
+        return f"{owner[-1]}::{name}"
+    module = file.stem
+    return name if module in ("lib", "main") else f"{module}::{name}"
+
+
+FUNCTION = re.compile(r"^( *)(?:pub(?:\([^)]*\))? )?(?:const )?fn (\w+)", re.M)
+OWNER = re.compile(r"^impl(?:<.*?>)? (?:[^{\n]*? for )?(\w+)", re.M)
