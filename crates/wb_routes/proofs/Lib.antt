@@ -1,3 +1,4 @@
+pub mod HomeLemmas
 pub mod OrderLaws
 pub mod OwnerLemmas
 pub mod RouteLemmas

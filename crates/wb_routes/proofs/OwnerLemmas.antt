@@ -140,7 +140,8 @@ same_owner servlets c text =
     ap service_of (found_in_order text (first_of_each (λ (r : RouteRow). r.pattern) (flat_map (rows_of c) servlets)) ∙ found_behind (λ (r : RouteRow). r.pattern) text [] (flat_map (rows_of c) servlets) refl)
     ∙ found_among c text servlets
 
-same_taker : (servlets : List Servlet) (c : Context) (path : List ℕ) → taker_in c (owner_in (rows_in servlets c)) path ≡ taker_in c (owner_among servlets c) path
+-- and a path has the taker that it has there
+pub same_taker : (servlets : List Servlet) (c : Context) (path : List ℕ) → taker_in c (owner_in (rows_in servlets c)) path ≡ taker_in c (owner_among servlets c) path
 same_taker servlets c path =
     let same : owner_in (rows_in servlets c) ≡ owner_among servlets c = λ i text. same_owner servlets c text i in
     ap (λ (owner : List ℕ → Option ℕ). taker_in c owner path) same

@@ -1,5 +1,5 @@
 -- The servlet that takes a request's path (OSGi Compendium 8, chapter 140; Java Servlet 3.1, section 12.1).
-use Rattle.std.specs.Prelude.{ℕ, ◌&&◌, List, Bool, codes, map, find, Option, Some, None, option_map, if◌then◌else◌}
+use Rattle.std.specs.Prelude.{ℕ, ◌&&◌, List, Bool, codes, map, find, is_some, Option, Some, None, option_map, if◌then◌else◌}
 use Rattle.std.specs.Option.{option_or}
 use Rattle.std.specs.Str.{bytes_eq}
 use Rattle.prop_map.specs.Words.{first_some}
@@ -46,6 +46,18 @@ taker_in c owner path = if covers c.path path then taker owner (rest_in c.path p
 abbrev pub choice_among : List Context → List Servlet → List ℕ → Option ℕ
 choice_among contexts servlets path = first_some (map (λ c. taker_in c (owner_among servlets c) path) contexts)
 
+-- the context in which it takes the path: the first in which one does
+abbrev pub takes : List Servlet → List ℕ → Context → Bool
+takes servlets path c = is_some (taker_in c (owner_among servlets c) path)
+
+abbrev pub home_among : List Context → List Servlet → List ℕ → Option Context
+home_among contexts servlets path = find (takes servlets path) contexts
+
+-- who takes the path in such a context
+abbrev pub taker_at : List Servlet → List ℕ → Option Context → Option ℕ
+taker_at servlets path None = None
+taker_at servlets path (Some c) = taker_in c (owner_among servlets c) path
+
 -- ---- the same by tables
 
 -- the owner of a pattern in a table
@@ -54,3 +66,9 @@ owner_in rows text = option_map (λ (r : RouteRow). r.service) (find (λ (r : Ro
 
 abbrev pub choice_in : List Table → List ℕ → Option ℕ
 choice_in tables path = first_some (map (λ (t : Table). taker_in t.context (owner_in t.rows) path) tables)
+
+abbrev pub takes_in : List ℕ → Table → Bool
+takes_in path t = is_some (taker_in t.context (owner_in t.rows) path)
+
+abbrev pub home_in : List Table → List ℕ → Option Context
+home_in tables path = option_map (λ (t : Table). t.context) (find (takes_in path) tables)

@@ -4,6 +4,7 @@
 
 mod candidates;
 mod failures;
+mod home;
 mod listing;
 mod route_failure;
 mod route_row;
@@ -15,3 +16,4 @@ mod table;
 pub use route_failure::{RouteCause, RouteFailure};
 pub use route_row::RouteRow;
 pub use routes::Routes;
+pub use select::{Select, select_by};

@@ -1,14 +1,16 @@
 //! The routes.
 ghost use Rattle.service_registry.specs.declared.row.ServiceRow.{ServiceRow};
+ghost use Rattle.std.specs.Option.{option_copied};
 ghost use Rattle.std.specs.Prelude.{◌≡◌, ◌++◌, ℕ, IfOk, List, OnOk, flat_map};
 ghost use Rattle.wb_context.specs.ContextOrder.{contexts_in_order};
-ghost use Rattle.wb_routes.specs.Choices.{choice_among, choice_in};
+ghost use Rattle.wb_routes.specs.Choices.{choice_among, choice_in, home_among, home_in, taker_at};
 ghost use Rattle.wb_routes.specs.Listing.{all_rows, bad_context, read_contexts, routing_of, tables_of};
 ghost use Rattle.wb_routes.specs.Servlets.{servlets_of};
 ghost use Rattle.wb_routes.specs.Tables.{AllAscend};
 
 use crate::candidates::taker_in;
 use crate::failures::{push_failures, sort_failures};
+use crate::home::home_in;
 use crate::listing::tables_of;
 use crate::servlet::servlets_of;
 use crate::table::Table;
@@ -83,6 +85,25 @@ impl Routes {
     pub fn note_choice()
         ensures { (contexts servlets : List ServiceRow) (path : List ℕ) →
             choice_in (tables_of contexts servlets) path ≡ choice_among (contexts_in_order (read_contexts contexts)) (servlets_of servlets) path }
+    {}
+
+    /// The context in which that servlet takes the path, if one does: the first of those in which the path lies that has a
+    /// pattern for it. It takes no memory.
+    pub fn home(&self, path: &str) -> Option<&Context>
+        ensures { option_copied result ≡ home_in self.now.tables path.now }
+    {
+        home_in(self.tables.as_slice(), path.as_bytes())
+    }
+
+    /// For contracts alone: the context that is found in the tables is the first of those that count in which a servlet
+    /// takes the path, and the choice is who takes it there. So there is the one exactly where there is the other.
+    #[tactic(auto, using(crate::proofs::HomeLemmas::same_home, crate::proofs::HomeLemmas::chosen_at_home))]
+    pub fn note_home()
+        ensures same { (contexts servlets : List ServiceRow) (path : List ℕ) →
+            home_in (tables_of contexts servlets) path ≡ home_among (contexts_in_order (read_contexts contexts)) (servlets_of servlets) path }
+        ensures chosen { (contexts servlets : List ServiceRow) (path : List ℕ) →
+            choice_among (contexts_in_order (read_contexts contexts)) (servlets_of servlets) path
+            ≡ taker_at (servlets_of servlets) path (home_among (contexts_in_order (read_contexts contexts)) (servlets_of servlets) path) }
     {}
 
     /// The patterns that are in effect: the contexts as a path is looked up in them, and the patterns of each in byte order.

@@ -1,4 +1,4 @@
-//! Which contexts a servlet selects.
+//! Which contexts a service of the whiteboard selects.
 ghost use Rattle.ldap_filter.specs.Texts.{filter_of};
 ghost use Rattle.std.specs.Option.{option_copied, option_map_or};
 ghost use Rattle.std.specs.Prelude.{◌≡◌, IfOk};
@@ -10,9 +10,9 @@ use prop_map::{OutOfMemory, Value};
 use std::alloc::{AllocError, Global};
 use wb_context::Context;
 
-/// Which contexts a servlet selects.
+/// Which contexts a servlet selects, or a filter or an error page.
 #[derive(Drop)]
-pub(crate) enum Select {
+pub enum Select {
     /// The one of the name `default`.
     ByDefault,
     /// Those that a filter matches.
@@ -21,11 +21,12 @@ pub(crate) enum Select {
     Never,
 }
 
-/// What the property of a servlet selects.
+/// What the property `osgi.http.whiteboard.context.select` selects: without it the context `default`; by a text that is a
+/// filter those that it matches; else none.
 ///
 /// # Errors
 /// Only want of memory.
-pub(crate) fn select_by(alloc: Global, value: Option<&Value>) -> Result<Select, OutOfMemory>
+pub fn select_by(alloc: Global, value: Option<&Value>) -> Result<Select, OutOfMemory>
     ensures { IfOk result (λ select. select ≡ select_by (option_copied value.entry)) }
 {
     match value {
@@ -49,7 +50,7 @@ fn select_of(alloc: Global, text: &str) -> Result<Select, OutOfMemory>
 
 impl Select {
     /// Whether it selects a context. It takes no memory.
-    pub(crate) fn selects(&self, context: &Context) -> bool
+    pub fn selects(&self, context: &Context) -> bool
         ensures { result ≡ selects self.now context.now }
     {
         match self {
