@@ -1,6 +1,6 @@
 -- What was kept of services answers as they do.
-use Rattle.std.proofs.Common.{◌≡◌, ◌∙◌, ℕ, List, [], ◌∷◌, ◌++◌, Bool, true, false, cond, ap, sym, refl, filter, map, Option, Some, None}
-use Rattle.std.specs.Prelude.{◌&&◌, ◌||◌, flat_map}
+use Rattle.std.proofs.Common.{◌≡◌, ◌∙◌, ℕ, List, [], ◌∷◌, ◌++◌, Bool, true, false, cond, ap, refl, filter, map, Option, Some, None}
+use Rattle.std.specs.Prelude.{◌&&◌, ◌||◌}
 use Rattle.std.specs.List.{list_any}
 use Rattle.std.specs.Option.{option_map_or}
 use Rattle.event_admin.specs.Events.{EventView}
@@ -14,13 +14,13 @@ use Rattle.prop_map.specs.declared.value.Value.TheVariants.{Text, Whole, Flag, T
 use Rattle.prop_map.specs.Maps.{get}
 use Rattle.service_registry.specs.declared.best_first.Ranked.{Ranked}
 use Rattle.service_registry.specs.declared.row.ServiceRow.{ServiceRow}
-use Rattle.service_registry.specs.Services.{best_first, ids, ranked, ranked_before}
+use Rattle.service_registry.specs.Services.{ranked, ranked_before}
 use Rattle.service_registry.proofs.RankOrder.{numbers_ranked}
 use Rattle.prop_map.specs.Words.{in_order}
-use Rattle.event_handlers.specs.declared.admission.Admission.TheVariants.{Everything, Matching, Nothing}
+use Rattle.event_handlers.specs.declared.admission.Admission.TheVariants.{Matching, Nothing}
 use Rattle.event_handlers.specs.declared.handler.Handler.{Handler}
 use Rattle.event_handlers.specs.declared.kept_pattern.KeptPattern.{KeptPattern}
-use Rattle.event_handlers.specs.Handling.{filter_key, handlers_of, handles, text_covers, text_matches, told_of, topics_key, value_covers, value_lets_in}
+use Rattle.event_handlers.specs.Handling.{filter_key, handlers_of, handles, text_covers, told_of, topics_key, value_covers, value_lets_in}
 use Rattle.event_handlers.specs.Kept.{admission_by, admits, form_kept, handler_of, kept_covers, kept_of, one_kept, pattern_if, patterns_in, patterns_of, ranks_of, takes}
 
 form_of_kept : (form : Form) → form_kept (kept_of form) ≡ form

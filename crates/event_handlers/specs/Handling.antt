@@ -1,6 +1,6 @@
 -- Which services handle an event (OSGi Compendium 8, chapter 113, event handlers: `event.topics` and `event.filter`), in the order of services
 -- (Core 8, section 5.2.5). That what is no pattern covers nothing, and what is no filter lets nothing in, is our own.
-use Rattle.std.specs.Prelude.{ℕ, ◌&&◌, List, [], ◌∷◌, Bool, true, false, codes, filter, Option, Some, None}
+use Rattle.std.specs.Prelude.{ℕ, ◌&&◌, List, Bool, true, false, codes, filter, Option, Some, None}
 use Rattle.std.specs.List.{list_any}
 use Rattle.std.specs.Option.{option_map_or}
 use Rattle.event_admin.specs.Events.{EventView}
