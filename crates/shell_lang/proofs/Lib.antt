@@ -1,2 +1,4 @@
 pub mod FilterLemmas
 pub mod TextLemmas
+pub mod LoadLemmas
+pub mod Draws

@@ -11,3 +11,4 @@ pub mod RefusalTexts
 pub mod TurnTexts
 pub mod RowTexts
 pub mod ReplyTexts
+pub mod Loads

@@ -1,14 +1,17 @@
-//! The language of the shell: what a line asks, and the text of a reply.
+//! The language of the shell: what a line asks, the text of a reply, and the lines that a load generates.
 #![tactic(auto)]
 
 mod arguments;
 mod core_fault_text;
 mod fault_text;
+mod generator;
 mod interfaces;
 mod joined_text;
 mod line_fault;
 mod line_forms;
 mod line_reading;
+mod load_counts;
+mod load_text;
 mod refusal_text;
 mod reply_text;
 mod row_text;
@@ -17,8 +20,10 @@ mod shell_reply;
 mod turn_text;
 mod words;
 
+pub use generator::Generator;
 pub use line_fault::LineFault;
 pub use line_reading::read_line;
+pub use load_counts::{LoadCounts, write_counts};
 pub use reply_text::write_reply;
 pub use shell_line::ShellLine;
 pub use shell_reply::{Refusal, ShellReply};
