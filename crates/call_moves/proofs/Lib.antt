@@ -1,0 +1,5 @@
+pub mod Moves
+pub mod Lengths
+pub mod Feeding
+pub mod Agreements
+pub mod Recursions
