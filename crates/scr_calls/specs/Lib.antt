@@ -1,0 +1,4 @@
+pub mod Evaluates
+pub mod Calls
+pub mod Servlets
+pub mod Answers
