@@ -1,0 +1,5 @@
+pub mod BoardServices
+pub mod Chains
+pub mod Pages
+pub mod Chaining
+pub mod Inside
