@@ -1,8 +1,6 @@
-//! Tests of the web layer: patterns, contexts, routes, chains of filters, and connections of HTTP/1.1.
+//! Tests of the web layer: patterns, contexts, routes, and connections of HTTP/1.1.
 #![tactic(auto)]
 
-#[cfg(test)]
-mod chains;
 #[cfg(test)]
 mod connections;
 #[cfg(test)]
