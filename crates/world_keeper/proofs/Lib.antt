@@ -1,5 +1,9 @@
+pub mod ChangeLemmas
 pub mod KeptAgain
 pub mod KeptOrders
 pub mod Located
 pub mod Mapped
 pub mod Placed
+pub mod RowLemmas
+pub mod RowOrder
+pub mod Shortened

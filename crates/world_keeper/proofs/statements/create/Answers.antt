@@ -1,0 +1,9 @@
+use Rattle.sqlite.specs.Held.{state}
+use Rattle.sqlite.specs.Steps.{over_memory}
+use Rattle.sqlite.proofs.Callers.{memory_is_clean}
+use Rattle.world_keeper.proofs.RowLemmas.{creates}
+use Rattle.world_keeper.proofs.statements.create.Goals as goal
+
+pub returns : goal.returns
+returns c =
+    creates (state over_memory c.args.conn.now) (state over_memory c.execute.new.self) c.execute.result c.requires (c.execute.ensures.runs (memory_is_clean c.execute.new.self))

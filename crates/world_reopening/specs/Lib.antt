@@ -1,0 +1,3 @@
+pub mod ChangesOf
+pub mod Readings
+pub mod Reopening
