@@ -80,10 +80,11 @@ def name_at(file, text):
     indent, name = head[-1].group(1), head[-1].group(2)
     owner = OWNER.findall(lines[: head[-1].start()]) if indent else []
     if owner:
-        return f"{owner[-1]}::{name}"
+        of_trait, of_type = owner[-1]
+        return f"{of_type}{of_trait}::{name}"
     module = file.stem
     return name if module in ("lib", "main") else f"{module}::{name}"
 
 
 FUNCTION = re.compile(r"^( *)(?:pub(?:\([^)]*\))? )?(?:const )?fn (\w+)", re.M)
-OWNER = re.compile(r"^impl(?:<.*?>)? (?:[^{\n]*? for )?(\w+)", re.M)
+OWNER = re.compile(r"^impl(?:<.*?>)? (?:(?:\w+::)*(\w+)(?:<[^{\n]*>)? for )?(\w+)", re.M)
