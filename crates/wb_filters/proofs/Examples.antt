@@ -10,27 +10,27 @@ use Rattle.wb_filters.specs.Pages.{page_of}
 abbrev property : List ℕ → Value → Property
 property key value = record { key = key; value = value }
 
-abbrev row : ℕ → List Property → ServiceRow
-row id properties = record { id = id; bundle = 1; interfaces = []; properties = properties; revision = 0; direct = false }
+abbrev service_row : ℕ → List Property → ServiceRow
+service_row id properties = record { id = id; bundle = 1; interfaces = []; properties = properties; revision = 0; direct = false }
 
 abbrev ranked : ℕ → Property
 ranked n = property (codes "service.ranking") (Whole (pos n))
 
 abbrev servlets : List ServiceRow
 servlets =
-    row 1 (property (codes "osgi.http.whiteboard.servlet.pattern") (Text (codes "/s")) ∷ [])
-    ∷ row 2 (property (codes "osgi.http.whiteboard.servlet.pattern") (Text (codes "/t")) ∷ []) ∷ []
+    service_row 1 (property (codes "osgi.http.whiteboard.servlet.pattern") (Text (codes "/s")) ∷ [])
+    ∷ service_row 2 (property (codes "osgi.http.whiteboard.servlet.pattern") (Text (codes "/t")) ∷ []) ∷ []
 
 abbrev filters : List ServiceRow
 filters =
-    row 3 (property (codes "osgi.http.whiteboard.filter.pattern") (Text (codes "/*")) ∷ [])
-    ∷ row 4 (property (codes "osgi.http.whiteboard.filter.pattern") (Text (codes "/t")) ∷ ranked 1 ∷ []) ∷ []
+    service_row 3 (property (codes "osgi.http.whiteboard.filter.pattern") (Text (codes "/*")) ∷ [])
+    ∷ service_row 4 (property (codes "osgi.http.whiteboard.filter.pattern") (Text (codes "/t")) ∷ ranked 1 ∷ []) ∷ []
 
 abbrev pages : List ServiceRow
-pages = row 5 (property (codes "osgi.http.whiteboard.servlet.errorPage") (Texts (codes "404" ∷ codes "5xx" ∷ [])) ∷ []) ∷ []
+pages = service_row 5 (property (codes "osgi.http.whiteboard.servlet.errorPage") (Texts (codes "404" ∷ codes "5xx" ∷ [])) ∷ []) ∷ []
 
 abbrev more_pages : List ServiceRow
-more_pages = row 6 (property (codes "osgi.http.whiteboard.servlet.errorPage") (Text (codes "4xx")) ∷ ranked 9 ∷ []) ∷ pages
+more_pages = service_row 6 (property (codes "osgi.http.whiteboard.servlet.errorPage") (Text (codes "4xx")) ∷ ranked 9 ∷ []) ∷ pages
 
 -- a filter's path above is on the way of each servlet, and the better filter stands first
 pub of_one : chain_of [] servlets filters (codes "/s") ≡ 3 ∷ []
@@ -67,8 +67,8 @@ by_its_class = refl
 -- a number is no text, and no text names a status without three digits
 abbrev amiss : List ServiceRow
 amiss =
-    row 7 (property (codes "osgi.http.whiteboard.servlet.errorPage") (Whole (pos 404)) ∷ [])
-    ∷ row 8 (property (codes "osgi.http.whiteboard.servlet.errorPage") (Texts (codes "000" ∷ codes "1000" ∷ codes ":00" ∷ codes "0xx" ∷ [])) ∷ []) ∷ []
+    service_row 7 (property (codes "osgi.http.whiteboard.servlet.errorPage") (Whole (pos 404)) ∷ [])
+    ∷ service_row 8 (property (codes "osgi.http.whiteboard.servlet.errorPage") (Texts (codes "000" ∷ codes "1000" ∷ codes ":00" ∷ codes "0xx" ∷ [])) ∷ []) ∷ []
 
 pub by_a_number : page_of [] amiss (codes "/u") 404 ≡ None
 by_a_number = refl
