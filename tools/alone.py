@@ -49,7 +49,8 @@ def stale_library(top, over, libraries):
         left = folder / "out" / "rlib" / f"{name}.rlib" / "format"
         files = [it for part in PARTS for it in (folder / part).rglob("*") if it.is_file()]
         changed = max((it.stat().st_mtime for it in files), default=0.0)
-        if not left.is_file() or left.stat().st_mtime < changed or text_of(top, name) != text_of(over, name):
+        # (what rt kept of an earlier run is linked here, which leaves the file's own time as it was)
+        if not left.is_file() or left.stat().st_ctime < changed or text_of(top, name) != text_of(over, name):
             return name
     return None
 

@@ -66,7 +66,7 @@ def why_not_applicable(top, crate, edit):
 def function_of(top, edit):
     """The function that an edit of one file changes, as `TYPE::NAME` or `module::NAME`, or None where no one function holds it all."""
     crate, pairs = edit.parent.parent.name if edit.parent.name == "must-fail" else edit.parent.name, pairs_of(edit)
-    found = {name_at(top / "crates" / crate / path, old) for path, old, _ in pairs}
+    found = {name_at(top / "crates" / crate / path, old) if path.startswith("src/") else None for path, old, _ in pairs}
     return found.pop() if len(found) == 1 else None
 
 
