@@ -3,6 +3,7 @@ pub mod ReadingLemmas
 pub mod Writing
 pub mod Growth
 pub mod LineGrowth
+pub mod NothingDue
 pub mod Refusals
 pub mod Resting
 pub mod Progress

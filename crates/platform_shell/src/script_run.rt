@@ -84,6 +84,8 @@ fn run_lines<K: Kinds + Drop, In: Source, Out: Sink>(
 {
     let mut ahead = ReadAhead::new(alloc);
     let mut number = 1u64;
+    // Whether it is known that nothing is due: behind each line's settling, and not before the first.
+    let mut rested = false;
     loop {
         let line = match next_line(alloc, &mut ahead, input) {
             LineStep::Line(line) => line,
@@ -97,9 +99,10 @@ fn run_lines<K: Kinds + Drop, In: Source, Out: Sink>(
             AskStep::Quit => return Status::Done,
             AskStep::NoMemory => return Status::NoMemory,
         };
-        match answer_line(alloc, manual, platform, asked, output) {
+        match answer_line(alloc, manual, rested, platform, asked, output) {
             Ok(()) => number = number.saturating_add(1),
             Err(status) => return status,
         }
+        rested = !manual;
     }
 }

@@ -10,6 +10,7 @@ use Rattle.platform_shell.specs.Reading.{not_yet_read}
 use Rattle.platform_shell.specs.Statuses.{write_faults_after}
 use Rattle.platform_shell.proofs.AnswerLemmas.{cause_unanswered, no_fault_unanswered, reads_unanswered, run_unanswered}
 use Rattle.platform_shell.proofs.EndingLemmas.{rose_next}
+use Rattle.platform_shell.proofs.NothingDue.{nothing_due_behind}
 use Rattle.platform_shell.proofs.Progress.{run_ends_here, run_ends_long, run_quits, run_stops}
 use Rattle.platform_shell.proofs.Reached.{reached_fault, reached_line, reached_start}
 use Rattle.platform_shell.proofs.script_run.run_lines.Goals as goal
@@ -55,7 +56,11 @@ loop-line-init g c =
       reached = rw (c.new-ahead.ensures.0, c.new-ahead.ensures.1) (reached_start s left written c.args.platform.now);
       reads = refl;
       writes = refl;
+      rested = λ is. absurd cc;
     }
+
+pub answer_line-requires : goal.answer_line-requires
+answer_line-requires g c = c.loop-line.invariant.rested
 
 pub returns-in-Err-clause-run : goal.returns-in-Err-clause-run
 returns-in-Err-clause-run g c =
@@ -101,4 +106,5 @@ loop-line-preserved g c =
           c.in-Line.ensures.step c.in-Line.ensures.taken other (subst R (sym asked) answer.1) answer.2);
       reads = c.in-Line.ensures.faults ∙ c.loop-line.invariant.reads;
       writes = c.in-Ok.ensures.faults ∙ c.loop-line.invariant.writes;
+      rested = λ auto. nothing_due_behind s answer.1.0 c.answer_line.new.platform answer.1.2 auto;
     }
