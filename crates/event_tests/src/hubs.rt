@@ -44,7 +44,10 @@ fn a_third_post_finds_two_places_full(rt: HostRuntime) -> Result<(), Fail> {
     let (hub, mut publisher, mut delivery) = EventHub::new(alloc, 2)?;
     assert_eq!(rt; posted(&rt, alloc, &hub, &mut publisher, 1), (true, None));
     assert_eq!(rt; posted(&rt, alloc, &hub, &mut publisher, 2), (true, None));
-    assert_eq!(rt; posted(&rt, alloc, &hub, &mut publisher, 3), (false, Some(3)));
+    assert_eq!(rt;
+        posted(&rt, alloc, &hub, &mut publisher, 3),
+        (false, Some(3))
+    );
     assert_eq!(rt; next(&rt, &hub, &mut delivery), Some(1));
     assert_eq!(rt; next(&rt, &hub, &mut delivery), Some(2));
     assert_eq!(rt; next(&rt, &hub, &mut delivery), None);

@@ -1,9 +1,7 @@
-//! Tests of events and of chains: topics and patterns, the handlers of an event, the hub of posts under way, and the filters
-//! and pages of the whiteboard.
+//! Tests of events: topics and patterns, the handlers of an event, and the hub of posts under way, on one thread and on
+//! several.
 #![tactic(auto)]
 
-#[cfg(test)]
-mod chains;
 #[cfg(test)]
 mod handlers;
 #[cfg(test)]

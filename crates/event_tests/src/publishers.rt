@@ -1,4 +1,5 @@
 //! Two publishers in threads of their own, and a third thread that takes what they post.
+ghost use Rattle.std.specs.Thread.{IsSync};
 ghost use Rattle.std.specs.Prelude.{◌≡◌};
 
 use crate::samples::post;
@@ -59,7 +60,8 @@ impl Tally {
     }
 }
 
-// Posts as often as the hub is full, until it takes the post or nobody takes posts any more. It tells whether it was taken.
+// Posts again while the hub is full, until it takes the post or nobody takes posts any more. It tells whether it was
+// taken.
 fn post_until<R: Wait>(
     rt: &R,
     hub: &EventHub,

@@ -7,7 +7,14 @@ use std::test::Fail;
 
 #[test]
 fn a_fault_tells_where_a_text_ceases_to_be_a_topic(rt: HostRuntime) {
-    for (text, at) in [("a//b", 2), ("", 0), ("/a", 0), ("a/", 2), ("a b", 1), ("a/é", 2)] {
+    for (text, at) in [
+        ("a//b", 2),
+        ("", 0),
+        ("/a", 0),
+        ("a/", 2),
+        ("a b", 1),
+        ("a/é", 2),
+    ] {
         match Topic::parse(text) {
             Ok(_) => assert!(rt; false, "{text}"),
             Err(bad) => assert_eq!(rt; bad, BadTopic { at }, "{text}"),
@@ -17,7 +24,14 @@ fn a_fault_tells_where_a_text_ceases_to_be_a_topic(rt: HostRuntime) {
 
 #[test]
 fn a_fault_tells_where_a_text_ceases_to_be_a_pattern(rt: HostRuntime) {
-    for (text, at) in [("a/*/b", 3), ("*a", 1), ("a*", 1), ("", 0), ("/*", 0), ("é", 0)] {
+    for (text, at) in [
+        ("a/*/b", 3),
+        ("*a", 1),
+        ("a*", 1),
+        ("", 0),
+        ("/*", 0),
+        ("é", 0),
+    ] {
         match TopicPattern::parse(text) {
             Ok(_) => assert!(rt; false, "{text}"),
             Err(bad) => assert_eq!(rt; bad, BadTopic { at }, "{text}"),

@@ -1,5 +1,5 @@
 -- Lists that are looked through in order, for the first item that passes a test.
-use Rattle.std.proofs.Common.{◌≡◌, ℕ, suc, ◌+◌, ◌<◌, List, ap, sym, ◌∙◌, cond, Bool, true, false, length, get_or, drop, Some, add-one, drop-cons}
+use Rattle.std.proofs.Common.{◌≡◌, ℕ, suc, ◌+◌, ◌<◌, List, ◌∷◌, ap, sym, ◌∙◌, cond, Bool, true, false, length, get_or, drop, Option, Some, add-one, drop-cons}
 use Rattle.std.specs.Prelude.{find, option_map}
 use Rattle.wb_context.specs.declared.context.Context.{Context}
 use Rattle.wb_context.specs.ContextOrder.{covers}

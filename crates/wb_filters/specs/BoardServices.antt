@@ -1,6 +1,6 @@
 -- What the whiteboard takes from the service of a filter or of an error page (OSGi Compendium 8, sections 140.4 and 140.5): the contexts that
 -- it selects, and the texts of its property.
-use Rattle.std.specs.Prelude.{ℕ, List, [], ◌∷◌, Bool, not, codes, map, Option, Some}
+use Rattle.std.specs.Prelude.{ℕ, List, [], ◌∷◌, Bool, not, codes, map, Option, Some, None}
 use Rattle.prop_map.specs.declared.value.Value.{Value}
 use Rattle.prop_map.specs.declared.value.Value.TheVariants.{Text, Texts}
 use Rattle.prop_map.specs.Maps.{get}
