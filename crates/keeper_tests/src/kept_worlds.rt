@@ -82,7 +82,8 @@ fn bad_document<K: Keeper>(alloc: Global, keeper: &mut K) -> Result<String, Keep
 
 const BAD_DOCUMENT: &str = "p stopped {\"location\":\"\"}\n\
                             p of none {\"v\":1}\n\
-                            the kept row 1 has no reading\n";
+                            the kept row \
+                            1 has no reading\n";
 
 #[test]
 fn a_bad_document_is_told_behind_the_configurations(rt: HostRuntime) -> Result<(), Fail> {
@@ -106,7 +107,8 @@ fn bad_properties<K: Keeper>(alloc: Global, keeper: &mut K) -> Result<String, Ke
 
 const BAD_PROPERTIES: &str = "p of none {\n\
                               q of none {\"v\":1}\n\
-                              the kept row 0 has no reading\n";
+                              the kept row \
+                              0 has no reading\n";
 
 #[test]
 fn bad_properties_are_told_by_their_row(rt: HostRuntime) -> Result<(), Fail> {
