@@ -1,0 +1,11 @@
+pub mod Journals
+pub mod Asking
+mod Greeter
+mod RelayedCalls
+mod ReachedByGets
+mod LongChains
+mod ManyNestedCalls
+mod EightServlets
+mod EndingServlet
+mod DirectServlets
+mod RefusedRequests
