@@ -1,5 +1,7 @@
 -- Requests to a servlet that stands, whose instance is ending, and that left.
-use Rattle.std.specs.Prelude.{refl, List, [], ◌∷◌, ◌++◌, codes, true}
+use Rattle.std.specs.Prelude.{ℕ, zero, suc, slice_index, List, [], ◌∷◌, ◌++◌, codes, true}
+use Rattle.std.proofs.Common.{◌≡◌, ◌<◌, refl, sym, ap, arith}
+use Rattle.std.proofs.lemmas.Str.{IsUtf8-from_ascii, utf8_lossy-IsUtf8}
 use Rattle.std.specs.Str.Lossy.{utf8_lossy}
 use Rattle.bundle_doc.specs.declared.document.BundleDoc.{BundleDoc}
 use Rattle.journal_core.specs.declared.entry.Entry.{Entry}
@@ -10,7 +12,7 @@ use Rattle.http_wire.specs.declared.messages.Answered.{Answered}
 use Rattle.scr_world.specs.declared.command.Command.TheVariants.{Install, Start, Stop}
 use Rattle.scr_world.specs.declared.step.Step.{Step}
 use Rattle.scr_world.specs.declared.step.Step.TheVariants.{Drained}
-use Rattle.scr_calls.specs.Answers.{AnswersRequest}
+use Rattle.scr_calls.specs.Answers.{AnswersRequest, answer_by, servlet_text}
 use Rattle.scr_calls.specs.Evaluates.{world_up_to}
 use Rattle.call_examples.proofs.Journals.{asked, closing, component, did, document, held, let_go, made, opening, pattern, unmade, with_service}
 use Rattle.call_examples.proofs.Asking.{answer, request}
@@ -34,6 +36,27 @@ answered : AnswersRequest (world_up_to journal) next (request (codes "GET") (cod
     (record { front = 8; service = 1; nested = []; answer = answer 200 1 (codes "GET /s\n") })
 unfolding after_moves world_after_entry world_of world_after_step stage_in stage_of stopped_in stopped_by shut_between has_room satisfied_in utf8_lossy
 answered = (refl, (Said (codes "GET /s\n"), refl, refl))
+
+-- its body is behind a line feed
+abbrev posted : Request
+posted = request (codes "POST") (codes "/s") (codes "abc")
+
+all_ascii : (i : ℕ) → slice_index (codes "abc") i < 128
+all_ascii zero = let e : 97 < 128 = omega arith in e
+all_ascii (suc zero) = let e : 98 < 128 = omega arith in e
+all_ascii (suc (suc zero)) = let e : 99 < 128 = omega arith in e
+all_ascii (suc (suc (suc i))) = let e : 0 < 128 = omega arith in e
+
+posted_text : servlet_text posted ≡ codes "POST /s\nabc"
+posted_text =
+    ap (λ body. codes "POST /s\n" ++ body)
+    (utf8_lossy-IsUtf8 (codes "abc") (IsUtf8-from_ascii (codes "abc") all_ascii))
+
+with_its_body : AnswersRequest (world_up_to journal) next posted
+    (record { front = 8; service = 1; nested = []; answer = answer 200 1 (codes "POST /s\nabc") })
+unfolding after_moves world_after_entry world_of world_after_step stage_in stage_of stopped_in stopped_by shut_between has_room satisfied_in
+with_its_body =
+    (refl, (Said (servlet_text posted), refl, sym (ap (λ said. answer_by posted 1 (Said said)) posted_text)))
 
 -- the servlet is told HEAD, and the answer says that its bytes are left out
 abbrev of_head : Request

@@ -2,6 +2,7 @@ pub mod Journals
 pub mod Asking
 mod Greeter
 mod RelayedCalls
+mod BestHeldService
 mod ReachedByGets
 mod LongChains
 mod ManyNestedCalls
