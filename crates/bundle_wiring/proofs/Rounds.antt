@@ -6,15 +6,15 @@ use Rattle.bundle_wiring.specs.Resolution.{Bundle, has_candidate, is_consistent,
 use Rattle.bundle_wiring.specs.Rounds.{IsGreatestSet, IsReached}
 use Rattle.bundle_wiring.specs.declared.wiring.WireNeed.{WireNeed}
 
-and_first : (a b : Bool) → a && b ≡ true → a ≡ true
+pub and_first : (a b : Bool) → a && b ≡ true → a ≡ true
 and_first true b h = refl
 and_first false b h = h
 
-and_second : (a b : Bool) → a && b ≡ true → b ≡ true
+pub and_second : (a b : Bool) → a && b ≡ true → b ≡ true
 and_second true b h = h
 and_second false b h = absurd (cc)
 
-and_both : (a b : Bool) → a ≡ true → b ≡ true → a && b ≡ true
+pub and_both : (a b : Bool) → a ≡ true → b ≡ true → a && b ≡ true
 and_both true b h k = k
 and_both false b h k = h
 
@@ -95,7 +95,7 @@ candidate_more other test bundles need a h =
     let offers = λ (b : Bundle). list_any (meets need) b.1.offers in
     or_more (list_any (meets need) platform_offers) (list_any offers (filter other bundles)) (list_any offers (filter test bundles)) (any_more offers other test bundles a) h
 
-met_more : (other test : Bundle → Bool) (bundles : List Bundle) → list_all (λ b. not (other b) || test b) bundles ≡ true
+pub met_more : (other test : Bundle → Bool) (bundles : List Bundle) → list_all (λ b. not (other b) || test b) bundles ≡ true
     → (b : Bundle) → is_met (filter other bundles) b ≡ true → is_met (filter test bundles) b ≡ true
 met_more other test bundles a b h =
     all_more (λ (need : WireNeed). need.optional || has_candidate (filter other bundles) need) (λ (need : WireNeed). need.optional || has_candidate (filter test bundles) need) b.1.needs

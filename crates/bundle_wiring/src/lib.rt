@@ -6,6 +6,7 @@ mod capabilities;
 mod clauses;
 mod fault;
 mod imports;
+mod laws;
 mod matching;
 mod offer_names;
 mod offers;
@@ -20,6 +21,7 @@ mod wires;
 mod wiring;
 
 pub use fault::WireFault;
+pub use laws::{note_missing_need, note_one_resolution};
 pub use matching::matches_versioned;
 pub use reading::read_wiring;
 pub use resolved::{Resolved, Wire};

@@ -2,9 +2,11 @@
 ghost use Rattle.bundle_wiring.specs.Placing.{is_met_by, name_cmp, placed_of, some_placed};
 ghost use Rattle.bundle_wiring.specs.Resolution.{Bundle, IsResolution, is_met, meets, platform_offer, platform_offers, version_of_numbers};
 ghost use Rattle.bundle_wiring.specs.Rounds.{IsGreatestSet};
+ghost use Rattle.bundle_wiring.specs.Wirings.{properties_of};
+ghost use Rattle.osgi_version.specs.Versions.{version_text};
 ghost use Rattle.std.specs.List.{list_any};
 ghost use Rattle.std.specs.List.Sorted.{IsSorted};
-ghost use Rattle.std.specs.Prelude.{◌≡◌, IfOk, filter, map};
+ghost use Rattle.std.specs.Prelude.{◌≡◌, IfOk, [], ◌∷◌, codes, filter, map};
 
 use crate::matching::meets;
 use crate::offer_names::{named, offers_by_name};
@@ -164,13 +166,27 @@ fn platform_offer(
 ) -> Result<Offer, OutOfMemory>
     ensures { IfOk result (λ offer. offer ≡ platform_offer name.now value.now version) }
 {
-    let mut attributes = Properties::new(alloc);
-    let value = Value::Text(Str::of(String::from_str(alloc, value)?));
-    attributes.set(alloc, name, value)?;
+    let attributes = platform_attributes(alloc, name, value, &version)?;
     Ok(Offer {
         name: Str::of(String::from_str(alloc, name)?),
         package: false,
         version: Shared::of(alloc, version)?,
         attributes: Shared::of(alloc, attributes)?,
     })
+}
+
+fn platform_attributes(
+    alloc: Global,
+    name: &str,
+    value: &str,
+    version: &Version,
+) -> Result<Properties, OutOfMemory>
+    ensures { IfOk result (λ attributes. attributes ≡ properties_of ((name.now, value.now) ∷ (codes "version", version_text version.now) ∷ [])) }
+{
+    let mut attributes = Properties::new(alloc);
+    let value = Value::Text(Str::of(String::from_str(alloc, value)?));
+    attributes.set(alloc, name, value)?;
+    let version = Value::Text(Str::of(version.text(alloc)?));
+    attributes.set(alloc, "version", version)?;
+    Ok(attributes)
 }
