@@ -1,17 +1,15 @@
 -- Each move keeps the rule of the hub.
-use Rattle.std.proofs.Common.{◌≡◌, ◌≢◌, ◌⊎◌, ℕ, zero, suc, ◌+◌, ◌-◌, ◌<◌, ◌≤◌, Bool, true, false, true≢false, List, [], ◌∷◌, ◌++◌, length, length-append, append_assoc, append-nil, set, eqb, ltb, if◌then◌else◌, refl, sym, ap, ◌∙◌, subst, inl, inr, ⊎_elim, arith}
+use Rattle.std.proofs.Common.{◌≡◌, ◌≢◌, ◌⊎◌, ℕ, zero, suc, ◌+◌, ◌-◌, ◌<◌, ◌≤◌, true, false, true≢false, List, [], ◌∷◌, ◌++◌, length, length-append, append_assoc, append-nil, set, eqb, if◌then◌else◌, refl, sym, ap, ◌∙◌, subst, ⊎_elim, arith}
 use mathlib.Core.Option.{some, some-injective, some-ne-none}
-use mathlib.Core.Logic.{dite}
-use native.Mathlib.Decide.{ℕ_discrete, dec_lt}
 use lib.ListN.{get_elem?}
-use Rattle.atomic_table.proofs.Lists.{at_set, at_snoc, at_last, set_else}
+use Rattle.atomic_table.proofs.Lists.{at_set, at_last}
 use Rattle.crossbeam_queue.specs.Fifo.{Pushes, Pops, Forks, Merges, Learns, Held}
 use Rattle.atomic_table.specs.Seated.{TableId}
 use Rattle.event_admin.specs.Views.{PublisherView, publisher_of, hand_of, posted, IsFull, IsWhole}
 use Rattle.event_admin.specs.declared.post.Post.{Post}
 use Rattle.event_admin.specs.declared.rule.Placed.{Placed}
 use Rattle.event_admin.specs.declared.rule.Hand.{Hand}
-use Rattle.event_admin.specs.Hands.{placed, hand, times, times_in, once_below, count_of, Stand, Rises, AllRise, flat, first_hand, Posted, Took, Accounts, Knows, max_of, both, nobody, lists_of, taker, without_gets, one_less, newcomer, note}
+use Rattle.event_admin.specs.Hands.{placed, hand, times, times_in, once_below, count_of, Stand, AllRise, flat, first_hand, Posted, Took, Accounts, Knows, max_of, both, nobody, lists_of, taker, without_gets, one_less, newcomer, note}
 use Rattle.event_admin.specs.Rule.{total, Fits, OneList}
 use Rattle.event_admin.proofs.Places.{times_append, stand_longer, stand_append, rises_snoc, total_set, total_snoc, total_at, only_one, once_snoc, each_set, none_below, at_snoc_place, flat_append, rise_append, in_lists, max_under, once_unique, gets_both, gets_else}
 
@@ -297,9 +295,6 @@ nothing (x ∷ xs) e = absurd (omega arith)
 
 pub knows_left : (v : Hand) (left items : List Post) → items ≡ [] → v.gets ≡ true → Knows (went v left) items → Accounts v (v.taken ++ left)
 knows_left v left items none gets h = subst (Accounts v) ((λ i. h.1 gets i ++ none i) ∙ append-nil (v.taken ++ left)) (accounts_back v left (h.0 ++ items) h.3)
-
-pub ends_empty : (v u : Hand) (left : List Post) → u ≡ went v left → v.gets ≡ true → Held 0 (Knows u) → Accounts v (v.taken ++ left)
-ends_empty v u left is gets h = knows_left v left h.0 (nothing h.0 h.1) gets (subst (λ (y : Hand). Knows y h.0) is h.2)
 
 pub ends_counted : (v u : Hand) (left : List Post) (n : ℕ) → u ≡ went v left → length left ≡ n → v.gets ≡ true → v.parts ≡ 64 → Held n (Knows v) → (items : List Post) × Knows u items → Accounts v (v.taken ++ left)
 ends_counted v u left n is size gets all before after =

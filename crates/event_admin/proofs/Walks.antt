@@ -1,5 +1,5 @@
 -- Walks over a text byte by byte, and the topics and patterns that they find.
-use Rattle.std.proofs.Common.{◌≡◌, ◌≢◌, ◌⊎◌, inl, inr, ℕ, zero, suc, ◌+◌, ◌-◌, ◌<◌, ◌≤◌, List, [], ◌∷◌, ◌++◌, ap, sym, ◌∙◌, refl, subst, cond, arith, Bool, true, false, length, take, drop, codes, Option, Some, None, append-nil, length-append}
+use Rattle.std.proofs.Common.{◌≡◌, ℕ, zero, suc, ◌+◌, ◌-◌, ◌<◌, ◌≤◌, List, [], ◌∷◌, ◌++◌, ap, sym, ◌∙◌, refl, subst, cond, arith, Bool, true, false, length, take, drop, codes, Option, Some, None, length-append}
 use Rattle.std.specs.Prelude.{◌==◌, ◌&&◌, not, is_some}
 use Rattle.std.specs.List.{list_all}
 use Rattle.std.specs.Str.{bytes_eq}
@@ -10,8 +10,8 @@ use Rattle.std.proofs.Math.Seq.{drop-append_seam}
 use Rattle.prop_map.specs.Words.{is_empty}
 use Rattle.event_admin.specs.Beginnings.{BeginsOne, IsLongest}
 use Rattle.event_admin.specs.Inside.{Told, pattern_end, topic_end}
-use Rattle.event_admin.specs.Patterns.{Form, AllTopics, AllUnder, OneTopic, ends_below, front_of, if_topic, is_pattern, pattern_of}
-use Rattle.event_admin.specs.Topics.{between_slashes, in_front, is_token, is_token_byte, is_topic, topic_of}
+use Rattle.event_admin.specs.Patterns.{Form, AllTopics, AllUnder, OneTopic, ends_below, front_of, if_topic, is_pattern}
+use Rattle.event_admin.specs.Topics.{between_slashes, in_front, is_token, is_token_byte, is_topic}
 
 clash : {A : Type 0} (b : Bool) → b ≡ true → b ≡ false → A
 clash b e f = cc

@@ -1,5 +1,6 @@
 -- What publishers and the delivery of a hub know of the one list of posts. Our own.
-use Rattle.std.specs.Prelude.{◌≡◌, ℕ, ◌+◌, ◌-◌, ◌<◌, ◌≤◌, Bool, true, false, List, [], ◌∷◌, ◌++◌, length, eqb, ltb, if◌then◌else◌}
+use Rattle.std.specs.Prelude.{◌≡◌, ℕ, ◌+◌, ◌-◌, ◌<◌, ◌≤◌, Bool, true, false, List, [], ◌∷◌, ◌++◌, length, eqb, ltb}
+use Rattle.std.specs.Prelude.{if◌then◌else◌}
 use mathlib.Core.Option.{some}
 use lib.ListN.{get_elem?}
 use Rattle.event_admin.specs.declared.post.Post.{Post}
@@ -48,7 +49,15 @@ posts_of [] = []
 posts_of (x ∷ xs) = x.post ∷ posts_of xs
 
 abbrev pub hand : ℕ → List Placed → List (List Placed) → Bool → List Post → ℕ → ℕ → Hand
-hand parts mine joined gets taken told met = record { parts = parts; mine = mine; joined = joined; gets = gets; taken = taken; told = told; met = met }
+hand parts mine joined gets taken told met = record {
+  parts = parts;
+  mine = mine;
+  joined = joined;
+  gets = gets;
+  taken = taken;
+  told = told;
+  met = met;
+}
 
 abbrev pub max_of : ℕ → ℕ → ℕ
 max_of a b = if ltb a b then b else a
@@ -92,17 +101,20 @@ abbrev pub or_gets : Bool → Bool → Bool
 or_gets a b = if a then true else b
 
 abbrev pub both : Hand → Hand → Hand
-both v w = hand (v.parts + w.parts) v.mine (v.joined ++ lists_of w) (or_gets v.gets w.gets) (or_taken v.gets v.taken w.taken) (max_of v.told w.told) (max_of v.met w.met)
+both v w =
+    hand (v.parts + w.parts) v.mine (v.joined ++ lists_of w) (or_gets v.gets w.gets) (or_taken v.gets v.taken w.taken)
+    (max_of v.told w.told) (max_of v.met w.met)
 
 -- a post stands behind all that the publisher knew of, and is one more of its own
 abbrev pub Posted : Hand → Post → Hand → Type 0
-Posted v x w = (k : ℕ) × (v.told ≤ k) × (w ≡ hand v.parts (v.mine ++ placed k x ∷ []) v.joined v.gets v.taken (k + 1) v.met)
+Posted v x w =
+    (k : ℕ) × (v.told ≤ k) × (w ≡ hand v.parts (v.mine ++ placed k x ∷ []) v.joined v.gets v.taken (k + 1) v.met)
 
 abbrev pub Took : Hand → Post → Hand → Type 0
 Took v x w = w ≡ hand v.parts v.mine v.joined v.gets (v.taken ++ x ∷ []) v.told v.met
 
--- the list of all posts is true to what a pass knows: its posts and those of each that was joined into it stand at their places, in order;
--- and where it has all parts, each place is of one of these posts, and of no second one
+-- the list of all posts is true to what a pass knows: its posts and those of each that was joined into it stand at
+-- their places, in order; and where it has all parts, each place is of one of these posts, and of no second one
 pub record Accounts (v : Hand) (whole : List Post) : Type 0 where
   pub stand : Stand whole v.mine
   pub stand_joined : Stand whole (flat v.joined)
@@ -115,4 +127,5 @@ pub record Accounts (v : Hand) (whole : List Post) : Type 0 where
 
 -- what was taken and what the queue holds are together such a list
 abbrev pub Knows : Hand → List Post → Type 0
-Knows v items = (taken : List Post) × (v.gets ≡ true → taken ≡ v.taken) × (v.met ≤ length taken) × Accounts v (taken ++ items)
+Knows v items =
+    (taken : List Post) × (v.gets ≡ true → taken ≡ v.taken) × (v.met ≤ length taken) × Accounts v (taken ++ items)

@@ -1,6 +1,7 @@
--- Patterns of topics, and which topics a pattern covers (OSGi Compendium 8, section 113.4.2, `event.topics`: a topic, or one with `/*` at its
--- end, or `*` for all).
-use Rattle.std.specs.Prelude.{ℕ, ◌-◌, ◌==◌, ◌&&◌, List, [], ◌∷◌, Bool, true, false, codes, drop, length, take, Option, Some, None, is_some, if◌then◌else◌}
+-- Patterns of topics, and which topics a pattern covers (OSGi Compendium 8, section 113.4.2, `event.topics`: a topic,
+-- or one with `/*` at its end, or `*` for all).
+use Rattle.std.specs.Prelude.{ℕ, ◌-◌, ◌==◌, ◌&&◌, List, [], ◌∷◌, Bool, true, false, codes, drop, length, take, Option}
+use Rattle.std.specs.Prelude.{Some, None, is_some, if◌then◌else◌}
 use Rattle.std.specs.Str.{bytes_eq}
 use Rattle.event_admin.specs.declared.pattern.TopicPattern.{TopicPattern}
 use Rattle.event_admin.specs.declared.pattern.TopicPattern.TheVariants.{Every, One, Under}
@@ -33,7 +34,8 @@ if_topic text form = if is_topic text then Some form else None
 abbrev pub pattern_of : List ℕ → Option Form
 pattern_of text =
     if bytes_eq text (codes "*") then Some AllTopics
-    else (if ends_below text then if_topic (front_of text) (AllUnder (front_of text)) else if_topic text (OneTopic text))
+    else (if ends_below text then if_topic (front_of text) (AllUnder (front_of text))
+    else if_topic text (OneTopic text))
 
 abbrev pub is_pattern : List ℕ → Bool
 is_pattern text = is_some (pattern_of text)
@@ -46,4 +48,5 @@ begins_with_slash (b ∷ bs) = b == 47
 abbrev pub covers : Form → List ℕ → Bool
 covers AllTopics topic = true
 covers (OneTopic text) topic = bytes_eq text topic
-covers (AllUnder front) topic = bytes_eq (take (length front) topic) front && begins_with_slash (drop (length front) topic)
+covers (AllUnder front) topic =
+    bytes_eq (take (length front) topic) front && begins_with_slash (drop (length front) topic)

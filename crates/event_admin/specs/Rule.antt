@@ -21,8 +21,8 @@ pub record Fits (taken items : List Post) (reader port : ℕ) (v : Hand) : Type 
   pub told : v.told ≤ length (taken ++ items)
   pub met : v.met ≤ length taken
 
--- there is one list of posts, of which what was taken is a beginning and what the queue holds the rest. Each place of it is known to one
--- pass, once. One pass at most takes posts, and the parts of all are 64
+-- there is one list of posts, of which what was taken is a beginning and what the queue holds the rest. Each place of
+-- it is known to one pass, once. One pass at most takes posts, and the parts of all are 64
 pub record OneList (items : List Post) (views : List Hand) : Type 0 where
   pub taken : List Post
   pub reader : ℕ

@@ -1,5 +1,5 @@
--- Topics, patterns of topics, and which topics a pattern covers (OSGi Compendium 8, section 113.3: `topic ::= token ( '/' token )*`; Core 8,
--- section 1.3.2: a token is one or more letters, digits, low lines and hyphens).
+-- Topics (OSGi Compendium 8, section 113.3: `topic ::= token ( '/' token )*`; Core 8, section 1.3.2: a token is one or
+-- more letters, digits, low lines and hyphens).
 use Rattle.std.specs.Prelude.{ℕ, ◌==◌, ◌&&◌, ◌||◌, List, [], ◌∷◌, Bool, not, nat_le, Option, Some, None, if◌then◌else◌}
 use Rattle.std.specs.List.{list_all}
 use Rattle.prop_map.specs.Words.{is_empty}

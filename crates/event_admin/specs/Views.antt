@@ -1,5 +1,5 @@
 -- What the holders of publishers, of the delivery and of the hub know, as contracts see it. Our own.
-use Rattle.std.specs.Prelude.{◌≡◌, ℕ, ◌+◌, ◌-◌, ◌<◌, ◌≤◌, Bool, true, false, List, [], ◌∷◌, ◌++◌, length}
+use Rattle.std.specs.Prelude.{◌≡◌, ℕ, ◌+◌, true, false, List, [], ◌∷◌, ◌++◌, length}
 use Rattle.atomic_table.specs.Seated.{TableId}
 use Rattle.event_admin.specs.declared.post.Post.{Post}
 use Rattle.event_admin.specs.declared.rule.Placed.{Placed}
@@ -25,7 +25,14 @@ pub record DeliveryView : Type 0 where
   pub met : ℕ
 
 abbrev pub publisher_of : TableId → ℕ → Hand → PublisherView
-publisher_of hub spare v = record { hub = hub; spare = spare; mine = v.mine; joined = v.joined; told = v.told; met = v.met }
+publisher_of hub spare v = record {
+  hub = hub;
+  spare = spare;
+  mine = v.mine;
+  joined = v.joined;
+  told = v.told;
+  met = v.met;
+}
 
 abbrev pub delivery_of : TableId → Hand → DeliveryView
 delivery_of hub v = record { hub = hub; taken = v.taken; told = v.told; met = v.met }
@@ -43,10 +50,24 @@ abbrev pub new_delivery : TableId → DeliveryView
 new_delivery hub = record { hub = hub; taken = []; told = 0; met = 0 }
 
 abbrev pub posted : PublisherView → ℕ → Post → PublisherView
-posted p k x = record { hub = p.hub; spare = p.spare; mine = p.mine ++ placed k x ∷ []; joined = p.joined; told = k + 1; met = p.met }
+posted p k x = record {
+  hub = p.hub;
+  spare = p.spare;
+  mine = p.mine ++ placed k x ∷ [];
+  joined = p.joined;
+  told = k + 1;
+  met = p.met;
+}
 
 abbrev pub joined : PublisherView → PublisherView → PublisherView
-joined p q = record { hub = p.hub; spare = p.spare + q.spare + 1; mine = p.mine; joined = p.joined ++ q.mine ∷ q.joined; told = max_of p.told q.told; met = max_of p.met q.met }
+joined p q = record {
+  hub = p.hub;
+  spare = p.spare + q.spare + 1;
+  mine = p.mine;
+  joined = p.joined ++ q.mine ∷ q.joined;
+  told = max_of p.told q.told;
+  met = max_of p.met q.met;
+}
 
 -- the queue held as many posts as it has places, at a moment at which the list was true to what the publisher knows
 abbrev pub IsFull : ℕ → PublisherView → Type 0
@@ -54,7 +75,14 @@ IsFull places p = (items : List Post) × (length items ≡ places) × Knows (han
 
 -- a publisher that was told what the delivery knows
 abbrev pub met_by : PublisherView → DeliveryView → PublisherView
-met_by p d = record { hub = p.hub; spare = p.spare; mine = p.mine; joined = p.joined; told = max_of p.told d.told; met = max_of p.met (max_of d.met (length d.taken)) }
+met_by p d = record {
+  hub = p.hub;
+  spare = p.spare;
+  mine = p.mine;
+  joined = p.joined;
+  told = max_of p.told d.told;
+  met = max_of p.met (max_of d.met (length d.taken));
+}
 
 -- a delivery that was told what a publisher knows
 abbrev pub told_by : DeliveryView → PublisherView → DeliveryView
@@ -64,8 +92,8 @@ told_by d p = record { hub = d.hub; taken = d.taken; told = max_of d.told p.told
 abbrev pub count_of : PublisherView → ℕ
 count_of p = length p.mine + length (flat p.joined)
 
--- the list of all posts is true to a publisher into which all others were joined: its posts and theirs stand at their places, those of each in
--- its order, and each place is of one of these posts, and of no second one
+-- the list of all posts is true to a publisher into which all others were joined: its posts and theirs stand at their
+-- places, those of each in its order, and each place is of one of these posts, and of no second one
 pub record IsWhole (p : PublisherView) (whole : List Post) : Type 0 where
   pub stand : Stand whole p.mine
   pub stand_joined : Stand whole (flat p.joined)

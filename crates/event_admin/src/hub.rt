@@ -1,11 +1,13 @@
-//! The hub of posts under way to their handlers (OSGi Compendium 8, section 113.7, asynchronous delivery: the posts of one
-//! publisher are delivered in its order), and what publishers and its delivery hold of it.
+//! The hub of posts under way to their handlers (OSGi Compendium 8, section 113.7, asynchronous delivery: the posts of
+//! one publisher are delivered in its order), and what publishers and its delivery hold of it.
 ghost use Rattle.std.specs.Vec.{vec_len, vec_capacity};
 ghost use Rattle.crossbeam_queue.specs.Fifo.{Held};
 ghost use Rattle.crossbeam_queue.specs.Passes.{view, IsPassOf};
-ghost use Rattle.std.specs.Prelude.{◌≡◌, ℕ, ◌+◌, ◌-◌, ◌<◌, ◌≤◌, true, [], ◌∷◌, ◌++◌, length, IfErr, IfOk, MatchOption, MatchResult};
+ghost use Rattle.std.specs.Prelude.{◌≡◌, ℕ, ◌+◌, ◌-◌, ◌<◌, ◌≤◌, true, [], ◌∷◌, ◌++◌, length, IfErr, IfOk};
+ghost use Rattle.std.specs.Prelude.{MatchOption, MatchResult};
 ghost use Rattle.event_admin.specs.Hands.{Accounts, Knows};
-ghost use Rattle.event_admin.specs.Views.{IsFull, IsWhole, count_of, joined, met_by, new_delivery, new_publisher, posted, told_by};
+ghost use Rattle.event_admin.specs.Views.{IsFull, IsWhole, count_of, joined, met_by, new_delivery, new_publisher};
+ghost use Rattle.event_admin.specs.Views.{posted, told_by};
 
 use crate::post::Post;
 use crate::rule::{CutOff, Hand, Listed, Note, Posts, Roles, TakeIn, Takes};
@@ -19,8 +21,8 @@ use std::sync::Wait;
 #[derive(Clone, Copy, Debug, PartialEq, Eq)]
 pub struct EventsFull;
 
-/// A bounded queue of posts between publishers and one delivery. Contracts see which hub it is, and its places. It reads
-/// no field of a post.
+/// A bounded queue of posts between publishers and one delivery. Contracts see which hub it is, and its places. It
+/// reads no field of a post.
 #[derive(Drop)]
 pub struct EventHub {
     queue: RuledArrayQueue<Post, Hand, Listed>,
@@ -40,9 +42,10 @@ impl Model for EventHub {
     ghost invariant = { λ h. (vec_len h.room ≡ 0) × (ruled_capacity h.queue ≤ vec_capacity h.room) };
 }
 
-/// The right to post. Contracts see which hub it is of, its spare, the posts that the hub took from it with their places in
-/// the one list of posts, those of each publisher that was joined into it, and how long the list was at least, and how many
-/// posts were taken at least, when it last learned of it. The hub of a publisher that is dropped is never closed.
+/// The right to post. Contracts see which hub it is of, its spare, the posts that the hub took from it with their
+/// places in the one list of posts, those of each publisher that was joined into it, and how long the list was at
+/// least, and how many posts were taken at least, when it last learned of it. The hub of a publisher that is dropped is
+/// never closed.
 #[derive(Drop)]
 pub struct Publisher {
     pass: Pass<Post, Hand>,
@@ -57,11 +60,13 @@ impl Model for Publisher {
 
     ghost view = { λ p. publisher_of p.pass.table_id p.spare p.pass.me.0.client };
 
-    ghost invariant = { λ p. (p.pass.me.1 ≡ []) × (p.pass.me.0.client ≡ hand_of (publisher_of p.pass.table_id p.spare p.pass.me.0.client)) × (p.spare < 64) };
+    ghost invariant = { λ p. (p.pass.me.1 ≡ [])
+        × (p.pass.me.0.client ≡ hand_of (publisher_of p.pass.table_id p.spare p.pass.me.0.client))
+        × (p.spare < 64) };
 }
 
-/// The right to take posts. Contracts see which hub it is of, the posts that it took, and how long the list of posts was at
-/// least when it last learned of it.
+/// The right to take posts. Contracts see which hub it is of, the posts that it took, and how long the list of posts
+/// was at least when it last learned of it.
 #[derive(Drop)]
 pub struct Delivery {
     pass: Pass<Post, Hand>,
@@ -76,7 +81,9 @@ impl Model for Delivery {
 
     ghost view = { λ d. delivery_of d.pass.table_id d.pass.me.0.client };
 
-    ghost invariant = { λ d. (d.taken ≡ length d.pass.me.0.client.taken) × (d.pass.me.1 ≡ []) × (d.pass.me.0.client ≡ taker_of (delivery_of d.pass.table_id d.pass.me.0.client)) };
+    ghost invariant = { λ d. (d.taken ≡ length d.pass.me.0.client.taken)
+        × (d.pass.me.1 ≡ [])
+        × (d.pass.me.0.client ≡ taker_of (delivery_of d.pass.table_id d.pass.me.0.client)) };
 }
 
 /// What is left of a hub.
@@ -105,7 +112,8 @@ impl EventHub {
     /// Only want of memory, which places that are too many count as.
     pub fn new(alloc: Global, places: usize) -> Result<(EventHub, Publisher, Delivery), OutOfMemory>
         requires { 0 < places }
-        ensures { IfOk result (λ r. (r.0.places ≡ places) × (r.1 ≡ new_publisher r.0.hub) × (r.2 ≡ new_delivery r.0.hub)) }
+        ensures { IfOk result
+            (λ r. (r.0.places ≡ places) × (r.1 ≡ new_publisher r.0.hub) × (r.2 ≡ new_delivery r.0.hub)) }
     {
         let room = Vec::with_capacity(alloc, places)?;
         let (queue, mut pass) = RuledArrayQueue::ruled(alloc, places)?;
@@ -120,13 +128,13 @@ impl EventHub {
         ))
     }
 
-    /// Posts. The post stands behind the publisher's others, at a place behind all that it knew of. It takes no memory, and
-    /// may wait.
+    /// Posts. The post stands behind the publisher's others, at a place behind all that it knew of. It takes no memory,
+    /// and may wait.
     ///
     /// # Errors
-    /// `EventsFull` only where at a step of this call the hub held as many posts as it has places, in a list that is true to
-    /// what the publisher knows: the same post comes back, and nothing changed. The posts of an only publisher are then at
-    /// least as many as the places and what it knows was taken.
+    /// `EventsFull` only where at a step of this call the hub held as many posts as it has places, in a list that is
+    /// true to what the publisher knows: the same post comes back, and nothing changed. The posts of an only publisher
+    /// are then at least as many as the places and what it knows was taken.
     pub fn post<R: Wait>(
         &self,
         rt: &R,
@@ -137,7 +145,8 @@ impl EventHub {
         ensures post { MatchResult result
             (λ _. (k : ℕ) × (publisher.old.told ≤ k) × (publisher.new ≡ posted publisher.old k post))
             (λ e. (e.0 ≡ post) × (publisher.new ≡ publisher.old) × IsFull self.now.places publisher.old) }
-        ensures only { IfErr result (λ _. publisher.old.spare ≡ 63 → publisher.old.met + self.now.places ≤ count_of publisher.old) }
+        ensures only { IfErr result
+            (λ _. publisher.old.spare ≡ 63 → publisher.old.met + self.now.places ≤ count_of publisher.old) }
     {
         match self
             .queue
@@ -148,8 +157,8 @@ impl EventHub {
         }
     }
 
-    /// Takes the next post of the list. None: nothing changed, and every post that the delivery was told of was taken. It
-    /// takes no memory, and may wait.
+    /// Takes the next post of the list. None: nothing changed, and every post that the delivery was told of was taken.
+    /// It takes no memory, and may wait.
     pub fn next<R: Wait>(&self, rt: &R, delivery: &mut Delivery) -> Option<Post>
         requires { delivery.old.hub ≡ self.now.hub }
         ensures { MatchOption result
@@ -164,8 +173,8 @@ impl EventHub {
         Some(post)
     }
 
-    /// A publisher and the delivery learn of each other how long the list is and how many posts were taken. It does nothing
-    /// at run time.
+    /// A publisher and the delivery learn of each other how long the list is and how many posts were taken. It does
+    /// nothing at run time.
     pub fn meet(&self, publisher: &mut Publisher, delivery: &mut Delivery)
         requires { (publisher.old.hub ≡ self.now.hub) × (delivery.old.hub ≡ self.now.hub) }
         ensures publisher { publisher.new ≡ met_by publisher.old delivery.old }
@@ -177,9 +186,9 @@ impl EventHub {
         self.queue.absorb::<TakeIn>(&mut delivery.pass, ours);
     }
 
-    /// Ends the hub, all publishers being joined into one. What the delivery took and what is left are together the list of
-    /// posts: each post stands at its place, in its publisher's order, and each place is of one post of one publisher. It
-    /// takes no memory, and may wait.
+    /// Ends the hub, all publishers being joined into one. What the delivery took and what is left are together the
+    /// list of posts: each post stands at its place, in its publisher's order, and each place is of one post of one
+    /// publisher. It takes no memory, and may wait.
     #[tactic(auto, using(crate::proofs::Moves::whole_of))]
     pub fn close<R: Wait>(self, rt: &R, publisher: Publisher, delivery: Delivery) -> Left
         requires { (publisher.hub ≡ self.hub) × (delivery.hub ≡ self.hub) × (publisher.spare ≡ 63) }
@@ -201,7 +210,8 @@ impl EventHub {
     /// Splits a publisher off, with a spare of 0 and no posts; the spare of the first falls by one. It takes no memory.
     pub fn split(&self, publisher: Publisher) -> (Publisher, Publisher)
         requires { (publisher.hub ≡ self.now.hub) × (0 < publisher.spare) }
-        ensures { (result.0 ≡ record publisher { spare = publisher.spare - 1 }) × (result.1 ≡ record publisher { spare = 0; mine = []; joined = [] }) }
+        ensures { (result.0 ≡ record publisher { spare = publisher.spare - 1 })
+            × (result.1 ≡ record publisher { spare = 0; mine = []; joined = [] }) }
     {
         let Publisher { mut pass, spare } = publisher;
         let other = self.queue.another::<CutOff>(&mut pass);

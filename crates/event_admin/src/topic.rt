@@ -19,8 +19,8 @@ impl<'t> Topic<'t> {
     ghost use Rattle.std.specs.Prelude.{◌≡◌, IfErr, option_map, true};
     ghost use Rattle.std.specs.Result.{result_ok};
 
-    /// The topic that a text spells: one or more tokens between slashes, each of one or more ASCII letters, digits, `_` and
-    /// `-`. It takes no memory.
+    /// The topic that a text spells: one or more tokens between slashes, each of one or more ASCII letters, digits, `_`
+    /// and `-`. It takes no memory.
     ///
     /// # Errors
     /// Exactly where the text is none.

@@ -1,5 +1,6 @@
--- Which services handle an event (OSGi Compendium 8, chapter 113, event handlers: `event.topics` and `event.filter`), in the order of services
--- (Core 8, section 5.2.5). That what is no pattern covers nothing, and what is no filter lets nothing in, is our own.
+-- Which services handle an event (OSGi Compendium 8, chapter 113, event handlers: `event.topics` and `event.filter`),
+-- in the order of services (Core 8, section 5.2.5). That what is no pattern covers nothing, and what is no filter lets
+-- nothing in, is our own.
 use Rattle.std.specs.Prelude.{ℕ, ◌&&◌, List, Bool, true, false, codes, filter, Option, Some, None}
 use Rattle.std.specs.List.{list_any}
 use Rattle.std.specs.Option.{option_map_or}
@@ -46,7 +47,9 @@ told_of event = put event.properties topics_key (Text event.topic)
 
 -- a service handles an event
 abbrev pub handles : EventView → ServiceRow → Bool
-handles event r = value_covers event.topic (get r.properties topics_key) && value_lets_in (told_of event) (get r.properties filter_key)
+handles event r =
+    value_covers event.topic (get r.properties topics_key)
+    && value_lets_in (told_of event) (get r.properties filter_key)
 
 -- the numbers of the services that handle an event, the best first
 abbrev pub handlers_of : List ServiceRow → EventView → List ℕ

@@ -15,7 +15,6 @@ use Rattle.service_registry.specs.Services.{ranked}
 use Rattle.event_handlers.specs.declared.admission.Admission.{Admission}
 use Rattle.event_handlers.specs.declared.admission.Admission.TheVariants.{Everything, Matching, Nothing}
 use Rattle.event_handlers.specs.declared.handler.Handler.{Handler}
-use Rattle.event_handlers.specs.declared.handling.Handlers.{Handlers}
 use Rattle.event_handlers.specs.declared.kept_pattern.KeptPattern.{KeptPattern}
 use Rattle.event_handlers.specs.declared.kept_pattern.KeptPattern.TheVariants.{Every, One, Under}
 use Rattle.event_handlers.specs.Handling.{filter_key, topics_key}
@@ -79,5 +78,5 @@ abbrev pub ranks_of : List ℕ → List Property → List Handler → List Ranke
 ranks_of topic told handlers = map (λ (h : Handler). h.rank) (filter (takes topic told) handlers)
 
 -- the handlers were read from these services
-abbrev pub AreOf : List ServiceRow → Handlers → Type 0
-AreOf rows handlers = handlers.handlers.items ≡ map handler_of rows
+abbrev pub AreOf : List ServiceRow → List Handler → Type 0
+AreOf rows handlers = handlers ≡ map handler_of rows

@@ -1,7 +1,7 @@
 //! Handlers, as they are kept.
 ghost use Rattle.event_admin.specs.Patterns.{covers};
 ghost use Rattle.event_admin.specs.TopicTexts.{text_of};
-ghost use Rattle.event_handlers.specs.Kept.{form_kept, handler_of, handler_with, kept_covers, takes};
+ghost use Rattle.event_handlers.specs.Kept.{handler_of, handler_with, kept_covers, takes};
 ghost use Rattle.std.specs.Prelude.{◌≡◌, IfOk};
 
 use crate::admission::{Admission, admission_by};

@@ -10,11 +10,27 @@ use event_admin::{Event, Topic};
 use prop_map::{Copies, OutOfMemory, Properties, Str, Value};
 use service_registry::{Ranked, ServiceRow, numbers_best_first};
 use std::alloc::Global;
+use std::marker::Model;
 
-/// The handlers among services, whose patterns and filters were read.
+/// The handlers among services, whose patterns and filters were read. Contracts see what is kept of each service, in
+/// the order of the services.
 #[derive(Drop)]
 pub struct Handlers {
     handlers: Vec<Handler>,
+}
+
+impl Model for Handlers {
+    ghost use Rattle.event_handlers.specs.declared.handler.Handler.{Handler};
+    ghost use Rattle.std.specs.Prelude.{List};
+
+    ghost Value = { List Handler };
+
+    ghost use Rattle.ldap_filter.specs.TreeCodes.{tree_code};
+    ghost use Rattle.std.specs.Coded.{codes};
+
+    ghost coded = { Prim.hlevel (codes, tree_code) };
+
+    ghost view = { λ h. h.handlers.items };
 }
 
 impl Handlers {
@@ -34,7 +50,8 @@ impl Handlers {
     /// # Errors
     /// Only want of memory.
     pub fn of_event(&self, alloc: Global, event: &Event) -> Result<Vec<u64>, OutOfMemory>
-        ensures { IfOk result (λ numbers. (rows : List ServiceRow) → AreOf rows self.now → numbers.items ≡ handlers_of rows event.now) }
+        ensures { IfOk result
+            (λ numbers. (rows : List ServiceRow) → AreOf rows self.now → numbers.items ≡ handlers_of rows event.now) }
     {
         let told = told_of(alloc, event)?;
         let ranks = ranks_of(alloc, self.handlers.as_slice(), &event.topic(), &told)?;
@@ -43,9 +60,9 @@ impl Handlers {
     }
 }
 
-/// The numbers of the services that handle an event, the best first: those one of whose `event.topics` covers its topic,
-/// with no `event.filter`, or one that matches its properties with `event.topics` set to its topic. What is no pattern
-/// covers nothing; what is no filter keeps its service out.
+/// The numbers of the services that handle an event, the best first: those one of whose `event.topics` covers its
+/// topic, with no `event.filter`, or one that matches its properties with `event.topics` set to its topic. What is no
+/// pattern covers nothing; what is no filter keeps its service out.
 ///
 /// # Errors
 /// Only want of memory.

@@ -5,11 +5,11 @@ ghost use Rattle.scr_growth.specs.Growths.{WasAdded};
 ghost use Rattle.scr_world.specs.declared.step.Step.{Step};
 ghost use Rattle.std.specs.Prelude.{◌≡◌, ◌+◌, ◌≤◌, ◌++◌, ◌∷◌, [], OnErr, OnOk, length};
 
+use crate::generic::{append_reserving, let_go, set_reserved};
 use crate::settling::Lists;
 use journal_core::{Entry, Journal};
 use prop_map::OutOfMemory;
 use scr_world::Step;
-use std::alloc::AllocError;
 
 /// Adds the entry of a step at the end, after which so many are reserved.
 ///
@@ -33,9 +33,6 @@ pub(crate) fn add_entry(
     }) }
     ensures err { OnErr result (journal.new ≡ journal.old) }
 {
-    let before = journal.reserved();
-    // This lets the proof know that what is reserved has room.
-    let _room = journal.room();
     let Lists {
         closed,
         opened,
@@ -47,30 +44,8 @@ pub(crate) fn add_entry(
         opened,
         stopped,
     };
-    set_reserved(journal, reserved);
-    match journal.append(entry) {
-        Ok(()) => Ok(()),
-        Err(_) => {
-            set_reserved(journal, before);
-            Err(AllocError)
-        }
-    }
-}
-
-// So many are reserved. It takes no memory.
-fn set_reserved(journal: &mut Journal<Step>, reserved: u64)
-    requires { length journal.old.entries + reserved ≤ journal.old.limit }
-    ensures { journal.new ≡ record journal.old { reserved = reserved } }
-{
-    let before = journal.reserved();
-    if reserved <= before {
-        journal.give_back(before - reserved);
-        return;
-    }
-    match journal.reserve(reserved - before) {
-        Ok(()) => {}
-        Err(_) => {}
-    }
+    append_reserving(journal, entry, reserved)?;
+    Ok(())
 }
 
 /// Takes the last entry away, as if it had never come, so that as many are reserved as before it. It takes no memory.
@@ -78,6 +53,7 @@ pub(crate) fn take_entry(journal: &mut Journal<Step>, reserved: u64)
     requires { (before : JournalRows Step) × (reserved ≡ before.reserved) × WasAdded before journal.old }
     ensures { (before : JournalRows Step) → reserved ≡ before.reserved → WasAdded before journal.old → journal.new ≡ before }
 {
-    let _entry = journal.take_back();
+    let entry = journal.take_back();
+    let_go(entry);
     set_reserved(journal, reserved);
 }

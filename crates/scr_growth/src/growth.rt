@@ -1,5 +1,5 @@
 //! An entry at the end of the journal, and the state after it, or neither.
-ghost use Rattle.scr_growth.specs.Growths.{HasFinished, IsAmid};
+ghost use Rattle.scr_growth.specs.Growths.{HasFinished, IsAmid, IsTold};
 ghost use Rattle.scr_state.specs.Keeps.{IsDraft, Keeps};
 ghost use Rattle.scr_world.specs.Calls.{Grown, world_at};
 ghost use Rattle.scr_world.specs.Consequences.{shut_between};
@@ -8,6 +8,7 @@ ghost use Rattle.scr_world.specs.Room.{has_room, needed_by};
 ghost use Rattle.std.specs.Option.{unwrap_or};
 ghost use Rattle.std.specs.Prelude.{◌≡◌, IfOk, OnErr, OnOk, true};
 
+use crate::generic::{let_go, put};
 use crate::passing::{Finished, finish_with_pass};
 use crate::told::{Told, told_before};
 use crate::unseen::finish_without_pass;
@@ -17,6 +18,7 @@ use scr_bundles::{change_bundles, put_back};
 use scr_state::{Draft, State, swap_in};
 use scr_world::Step;
 use std::alloc::Global;
+use std::mem;
 
 /// Appends the entry of a step whose draft this is, and answers which gates are shut with it, by instance.
 ///
@@ -40,14 +42,57 @@ pub fn grow(
     ensures as_before { OnErr result (journal.new ≡ journal.old) }
     ensures state { OnErr result (state.new ≡ state.old) }
 {
-    let told = told_before(alloc, state, &step, &draft)?;
-    let saved = change_bundles(alloc, &mut state.world.bundles, &step)?;
-    let mut undo = draft;
-    swap_in(alloc, &mut state.world, &mut undo);
-    match finish(alloc, journal, state, &undo, step, &told) {
-        Ok(finished) => Ok(take_over(state, undo, finished)),
+    let told = match told_before(alloc, state, &step, &draft) {
+        Ok(told) => told,
         Err(error) => {
-            swap_in(alloc, &mut state.world, &mut undo);
+            let_go(step);
+            let_go(draft);
+            return Err(error);
+        }
+    };
+    let mut undo = draft;
+    let grown = grow_told(alloc, journal, state, step, &mut undo, &told);
+    let_go(told);
+    let_go(undo);
+    grown
+}
+
+// The same, where this is told of the step.
+fn grow_told(
+    alloc: Global,
+    journal: &mut Journal<Step>,
+    state: &mut State,
+    step: Box<Step>,
+    undo: &mut Draft,
+    told: &Told,
+) -> Result<List<GateKey>, OutOfMemory>
+    requires keeps { Keeps journal.old state.old }
+    requires may { MayCome state.old.world step.value }
+    requires room { has_room journal.old.limit state.old.world (needed_by step.value) ≡ true }
+    requires draft { IsDraft state.old step.value undo.old }
+    requires told { IsTold step.value state.old.world told.now }
+    ensures keeps { Keeps journal.new state.new }
+    ensures limit { journal.new.limit ≡ journal.old.limit }
+    ensures grown { OnOk result (Grown journal.old.limit journal.old.entries step.value journal.new.entries) }
+    ensures shut { IfOk result (λ shut. shut ≡ shut_between (world_at journal.old.entries) (world_at journal.new.entries)) }
+    ensures as_before { OnErr result (journal.new ≡ journal.old) }
+    ensures state { OnErr result (state.new ≡ state.old) }
+{
+    let saved = match change_bundles(alloc, &mut state.world.bundles, &step) {
+        Ok(saved) => saved,
+        Err(error) => {
+            let_go(step);
+            return Err(error);
+        }
+    };
+    swap_in(alloc, &mut state.world, undo);
+    match finish(alloc, journal, state, undo, step, told) {
+        Ok(finished) => {
+            let_go(saved);
+            Ok(take_over(state, undo, finished))
+        }
+        Err(error) => {
+            swap_in(alloc, &mut state.world, undo);
             put_back(&mut state.world.bundles, saved);
             Err(error)
         }
@@ -76,29 +121,25 @@ fn finish(
 }
 
 // Takes over what an entry brought.
-fn take_over(state: &mut State, undo: Draft, finished: Finished) -> List<GateKey>
+fn take_over(state: &mut State, undo: &mut Draft, finished: Finished) -> List<GateKey>
     ensures world { state.new.world ≡ state.old.world }
-    ensures descriptions { state.new.descriptions ≡ unwrap_or undo.descriptions state.old.descriptions }
-    ensures levels { state.new.levels ≡ unwrap_or undo.levels state.old.levels }
+    ensures descriptions { state.new.descriptions ≡ unwrap_or undo.old.descriptions state.old.descriptions }
+    ensures levels { state.new.levels ≡ unwrap_or undo.old.levels state.old.levels }
     ensures satisfied { state.new.satisfied ≡ finished.satisfied }
     ensures shut { result ≡ finished.shut }
 {
     let Finished { shut, satisfied } = finished;
-    let Draft {
-        descriptions,
-        levels,
-        ..
-    } = undo;
-    put(&mut state.descriptions, descriptions);
-    put(&mut state.levels, levels);
-    state.satisfied = satisfied;
+    swap(&mut state.descriptions, &mut undo.descriptions);
+    swap(&mut state.levels, &mut undo.levels);
+    put(&mut state.satisfied, satisfied);
     shut
 }
 
-fn put<T: Drop>(now: &mut T, then: Option<T>)
-    ensures { now.new ≡ unwrap_or then now.old }
+// A value and what it is to be change places, where it is to be another.
+fn swap<T: Drop>(now: &mut T, then: &mut Option<T>)
+    ensures { now.new ≡ unwrap_or then.old now.old }
 {
     if let Some(other) = then {
-        *now = other;
+        mem::swap(now, other);
     }
 }

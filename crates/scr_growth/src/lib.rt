@@ -2,6 +2,7 @@
 #![tactic(auto)]
 
 mod entering;
+mod generic;
 mod growth;
 mod listener_change;
 mod listening;

@@ -8,6 +8,7 @@ ghost use Rattle.service_listeners.specs.Listening.{after_changes};
 ghost use Rattle.service_listeners.specs.Numbers.{AreNumbered};
 ghost use Rattle.std.specs.Prelude.{◌≡◌, ◌++◌, ◌∷◌, [], List as Items, OnErr, OnOk};
 
+use crate::generic::{let_go, put};
 use crate::listener_change::{ListenerChange, apply, listener_change};
 use crate::undone::{descriptions_after, levels_after, periods_before, rows_with};
 use component_state::OpenPeriod;
@@ -63,15 +64,21 @@ fn tell(
     ensures err { OnErr result (state.new ≡ state.old) }
 {
     let change = listener_change(alloc, step)?;
-    let none = Listeners::new(alloc)?;
+    let none = match Listeners::new(alloc) {
+        Ok(none) => none,
+        Err(error) => {
+            let_go(change);
+            return Err(error);
+        }
+    };
     let mut listeners = mem::replace(&mut state.world.listeners, none);
     match tell_and_apply(alloc, &mut listeners, state, undo, periods, change) {
         Ok(()) => {
-            state.world.listeners = listeners;
+            put(&mut state.world.listeners, listeners);
             Ok(())
         }
         Err(error) => {
-            state.world.listeners = listeners;
+            put(&mut state.world.listeners, listeners);
             Err(error)
         }
     }
@@ -92,10 +99,26 @@ fn tell_and_apply(
         → listeners.new ≡ with_listener_change change (after_changes (changes_between was state.now.world) listeners.old)) }
     ensures err { OnErr result (listeners.new ≡ listeners.old) }
 {
-    let saved = listeners.save(alloc)?;
-    tell_all(alloc, listeners, state, undo, periods)?;
+    let saved = match listeners.save(alloc) {
+        Ok(saved) => saved,
+        Err(error) => {
+            let_go(change);
+            return Err(error);
+        }
+    };
+    match tell_all(alloc, listeners, state, undo, periods) {
+        Ok(()) => {}
+        Err(error) => {
+            let_go(change);
+            let_go(saved);
+            return Err(error);
+        }
+    }
     match apply(alloc, listeners, change) {
-        Ok(()) => Ok(()),
+        Ok(()) => {
+            let_go(saved);
+            Ok(())
+        }
         Err(error) => {
             listeners.go_back(saved);
             Err(error)

@@ -5,6 +5,7 @@ ghost use Rattle.scr_growth.specs.Growths.{AreCached, HasFinished, HasSettled, I
 ghost use Rattle.scr_world.specs.Consequences.{stage_in};
 ghost use Rattle.std.specs.Prelude.{◌≡◌, IfOk, OnErr};
 
+use crate::generic::let_go;
 use crate::settling::{Lists, settle};
 use crate::told::Told;
 use crate::undone::{descriptions_after, levels_after};
@@ -41,8 +42,21 @@ pub(crate) fn finish_with_pass(
     ensures journal { OnErr result (journal.new ≡ journal.old) }
     ensures state { OnErr result (state.new ≡ state.old) }
 {
-    let passed = pass_of(alloc, state, undo, &told.failing)?;
-    let stopped = stopped_in(alloc, &state.world)?;
+    let passed = match pass_of(alloc, state, undo, &told.failing) {
+        Ok(passed) => passed,
+        Err(error) => {
+            let_go(step);
+            return Err(error);
+        }
+    };
+    let stopped = match stopped_in(alloc, &state.world) {
+        Ok(stopped) => stopped,
+        Err(error) => {
+            let_go(step);
+            let_go(passed);
+            return Err(error);
+        }
+    };
     let Passed {
         closed,
         opened,
@@ -56,8 +70,13 @@ pub(crate) fn finish_with_pass(
         stopped,
     };
     let draining = &told.draining;
-    let shut = settle_with(alloc, journal, state, undo, open_now, step, lists, draining)?;
-    Ok(Finished { shut, satisfied })
+    match settle_with(alloc, journal, state, undo, open_now, step, lists, draining) {
+        Ok(shut) => Ok(Finished { shut, satisfied }),
+        Err(error) => {
+            let_go(satisfied);
+            Err(error)
+        }
+    }
 }
 
 // The pass of a step that stands in the world.
@@ -99,9 +118,13 @@ fn settle_with(
     let mut periods = open_now;
     mem::swap(&mut state.world.open_periods, &mut periods);
     match settle(alloc, journal, state, undo, &periods, step, lists, draining) {
-        Ok(shut) => Ok(shut),
+        Ok(shut) => {
+            let_go(periods);
+            Ok(shut)
+        }
         Err(error) => {
             mem::swap(&mut state.world.open_periods, &mut periods);
+            let_go(periods);
             Err(error)
         }
     }

@@ -13,6 +13,7 @@ ghost use Rattle.std.specs.List.{All, AllPairs};
 ghost use Rattle.std.specs.Prelude.{◌≡◌, ◌+◌, ◌<◌, ◌≤◌, ℕ, IfOk, IsTrue, OnErr, OnOk, length, map, sum};
 
 use crate::entering::{add_entry, take_entry};
+use crate::generic::{let_go, put};
 use crate::listening::tell_last;
 use crate::undone::{periods_before, rows_with};
 use component_state::OpenPeriod;
@@ -45,6 +46,13 @@ pub(crate) struct Rest {
     reserved: u64,
 }
 
+// What an entry leaves, and the bundles that stop with it.
+#[derive(Drop)]
+struct Ending {
+    rest: Rest,
+    stopped: List<u64>,
+}
+
 /// Appends the entry of a step whose pass stands in the world, and makes the world what it is after it.
 ///
 /// # Errors
@@ -69,23 +77,54 @@ pub(crate) fn settle(
     note_bundles();
     note_stops();
     let _rows = state.world.registry.rows();
-    let rest = rest_of(alloc, &state.world, undo, periods, &step, draining)?;
-    let stopped = List::of(Vec::from_slice(alloc, lists.stopped.as_slice())?);
+    let ending = match ending_of(alloc, &state.world, undo, periods, &step, &lists, draining) {
+        Ok(ending) => ending,
+        Err(error) => {
+            let_go(step);
+            let_go(lists);
+            return Err(error);
+        }
+    };
     let given = services_among(lists.opened.as_slice());
-    state.world.registry.give(given)?;
-    match enter(
-        alloc,
-        journal,
-        state,
-        undo,
-        periods,
-        step,
-        lists,
-        rest.reserved,
-    ) {
-        Ok(()) => Ok(leave(&mut state.world, rest, &stopped)),
+    match state.world.registry.give(given) {
+        Ok(_) => {}
+        Err(error) => {
+            let_go(step);
+            let_go(lists);
+            let_go(ending);
+            return Err(error);
+        }
+    }
+    let reserved = ending.rest.reserved;
+    match enter(alloc, journal, state, undo, periods, step, lists, reserved) {
+        Ok(()) => Ok(leave(&mut state.world, ending)),
         Err(error) => {
             state.world.registry.give_back(given);
+            let_go(ending);
+            Err(error)
+        }
+    }
+}
+
+// What an entry leaves, and which bundles stop with it.
+fn ending_of(
+    alloc: Global,
+    world: &World,
+    undo: &Draft,
+    periods: &List<OpenPeriod>,
+    step: &Step,
+    lists: &Lists,
+    draining: &List<u64>,
+) -> Result<Ending, OutOfMemory>
+    ensures rest { IfOk result (λ e. (was : World) → IsBefore was world.now undo.now periods.now → HaveStood step.now was world.now
+        → draining.now ≡ draining_in was → IsRest was world.now e.rest) }
+    ensures stopped { IfOk result (λ e. e.stopped ≡ lists.now.stopped) }
+{
+    let rest = rest_of(alloc, world, undo, periods, step, draining)?;
+    match copied(alloc, lists.stopped.as_slice()) {
+        Ok(stopped) => Ok(Ending { rest, stopped }),
+        Err(error) => {
+            let_go(rest);
             Err(error)
         }
     }
@@ -114,6 +153,14 @@ fn rest_of(
         shut: shut_since(alloc, world, draining.as_slice())?,
         reserved,
     })
+}
+
+/// A list of the same numbers.
+pub(crate) fn copied(alloc: Global, numbers: &[u64]) -> Result<List<u64>, OutOfMemory>
+    ensures { IfOk result (λ v. v ≡ numbers.now) }
+{
+    let all = Vec::from_slice(alloc, numbers)?;
+    Ok(List::of(all))
 }
 
 // The gets by token that are left of a world's.
@@ -161,12 +208,13 @@ fn enter(
 }
 
 // Takes over into the world what an entry leaves.
-fn leave(world: &mut World, rest: Rest, stopped: &List<u64>) -> List<GateKey>
-    requires stopping { All (λ n. IsTrue (state_is is_stopping world.old.bundles.rows n)) stopped.now }
-    requires rising { AllPairs (λ (a b : ℕ). a < b) stopped.now }
-    ensures world { world.new ≡ settled_world rest stopped.now world.old }
-    ensures shut { result ≡ rest.shut }
+fn leave(world: &mut World, ending: Ending) -> List<GateKey>
+    requires stopping { All (λ n. IsTrue (state_is is_stopping world.old.bundles.rows n)) ending.stopped }
+    requires rising { AllPairs (λ (a b : ℕ). a < b) ending.stopped }
+    ensures world { world.new ≡ settled_world ending.rest ending.stopped world.old }
+    ensures shut { result ≡ ending.rest.shut }
 {
+    let Ending { rest, stopped } = ending;
     let Rest {
         entries,
         gets,
@@ -176,7 +224,7 @@ fn leave(world: &mut World, rest: Rest, stopped: &List<u64>) -> List<GateKey>
     } = rest;
     world.entries = entries;
     put_gets(world, gets);
-    world.unregistered_held = unregistered_held;
+    put(&mut world.unregistered_held, unregistered_held);
     complete_stops(&mut world.bundles, stopped.as_slice());
     shut
 }
@@ -186,8 +234,8 @@ fn put_gets(world: &mut World, gets: Option<StandingGets>)
     ensures { world.new ≡ record world.old { uses = uses_left gets world.old; tokens = tokens_left gets world.old } }
 {
     if let Some(StandingGets { uses, tokens }) = gets {
-        world.uses = uses;
-        world.tokens = tokens;
+        put(&mut world.uses, uses);
+        put(&mut world.tokens, tokens);
     }
 }
 

@@ -3,8 +3,9 @@ ghost use Rattle.scr_growth.specs.Growths.{HasFinished, IsAmid, no_lists};
 ghost use Rattle.std.specs.Option.{unwrap_or};
 ghost use Rattle.std.specs.Prelude.{◌≡◌, IfOk, OnErr, true};
 
+use crate::generic::let_go;
 use crate::passing::Finished;
-use crate::settling::{Lists, settle};
+use crate::settling::{Lists, copied, settle};
 use crate::told::Told;
 use component_state::OpenPeriod;
 use journal_core::Journal;
@@ -31,19 +32,34 @@ pub(crate) fn finish_without_pass(
     ensures journal { OnErr result (journal.new ≡ journal.old) }
     ensures state { OnErr result (state.new ≡ state.old) }
 {
-    let satisfied = copied(alloc, state.satisfied.as_slice())?;
-    let periods = periods_for(alloc, undo, &state.world.open_periods)?;
+    let satisfied = match copied(alloc, state.satisfied.as_slice()) {
+        Ok(satisfied) => satisfied,
+        Err(error) => {
+            let_go(step);
+            return Err(error);
+        }
+    };
+    let periods = match periods_for(alloc, undo, &state.world.open_periods) {
+        Ok(periods) => periods,
+        Err(error) => {
+            let_go(step);
+            let_go(satisfied);
+            return Err(error);
+        }
+    };
     let draining = &told.draining;
     let lists = no_lists(alloc);
-    let shut = settle(alloc, journal, state, undo, &periods, step, lists, draining)?;
-    Ok(Finished { shut, satisfied })
-}
-
-fn copied(alloc: Global, numbers: &[u64]) -> Result<List<u64>, OutOfMemory>
-    ensures { IfOk result (λ v. v ≡ numbers.now) }
-{
-    let all = Vec::from_slice(alloc, numbers)?;
-    Ok(List::of(all))
+    match settle(alloc, journal, state, undo, &periods, step, lists, draining) {
+        Ok(shut) => {
+            let_go(periods);
+            Ok(Finished { shut, satisfied })
+        }
+        Err(error) => {
+            let_go(periods);
+            let_go(satisfied);
+            Err(error)
+        }
+    }
 }
 
 // What was open before a step that leaves it: nothing is copied where the draft that brings it back has it.

@@ -7,13 +7,14 @@ ghost use Rattle.scr_world.specs.Legal.{MayCome};
 ghost use Rattle.scr_world.specs.Room.{has_room, needed_by};
 ghost use Rattle.std.specs.Prelude.{◌≡◌, IfOk, OnErr, OnOk, true};
 
+use crate::generic::{append_reserved, let_go};
 use crate::leavings::{Leaving, leaving_of, lost_by, take_over};
 use callback_orders::Outcome;
 use journal_core::{Entry, GateKey, Journal};
 use prop_map::{List, OutOfMemory};
 use scr_state::{Draft, State, swap_in};
 use scr_world::{Step, World};
-use std::alloc::{AllocError, Global};
+use std::alloc::Global;
 
 /// Appends the entry of the end of a turn, whose draft this is, and answers which gates are shut with it, by instance. No pass runs:
 /// the end is one of those without consequences, as `is_still_end` tells.
@@ -40,13 +41,40 @@ pub fn grow_still_end(
     ensures as_before { OnErr result (journal.new ≡ journal.old) }
     ensures state { OnErr result (state.new ≡ state.old) }
 {
-    let leaving = leaving_of(alloc, &state.world, turn, outcome)?;
     let mut undo = draft;
-    swap_in(alloc, &mut state.world, &mut undo);
+    let grown = grow_end(alloc, journal, state, turn, outcome, &mut undo);
+    let_go(undo);
+    grown
+}
+
+// The same, where the draft is the caller's.
+fn grow_end(
+    alloc: Global,
+    journal: &mut Journal<Step>,
+    state: &mut State,
+    turn: u64,
+    outcome: Outcome,
+    undo: &mut Draft,
+) -> Result<List<GateKey>, OutOfMemory>
+    requires still { is_still_end turn outcome state.old.world ≡ true }
+    requires keeps { Keeps journal.old state.old }
+    requires may { MayCome state.old.world (Step.End turn outcome) }
+    requires room { has_room journal.old.limit state.old.world (needed_by (Step.End turn outcome)) ≡ true }
+    requires draft { IsDraft state.old (Step.End turn outcome) undo.old }
+    ensures keeps { Keeps journal.new state.new }
+    ensures limit { journal.new.limit ≡ journal.old.limit }
+    ensures grown { OnOk result (Grown journal.old.limit journal.old.entries (Step.End turn outcome) journal.new.entries) }
+    ensures shut { IfOk result (λ shut. shut ≡ shut_between (world_at journal.old.entries) (world_at journal.new.entries)) }
+    ensures as_before { OnErr result (journal.new ≡ journal.old) }
+    ensures state { OnErr result (state.new ≡ state.old) }
+{
+    let leaving = leaving_of(alloc, &state.world, turn, outcome)?;
+    swap_in(alloc, &mut state.world, undo);
     match enter(alloc, journal, &state.world, turn, outcome, &leaving) {
         Ok(lost) => Ok(take_over(alloc, &mut state.world, leaving, lost)),
         Err(error) => {
-            swap_in(alloc, &mut state.world, &mut undo);
+            swap_in(alloc, &mut state.world, undo);
+            let_go(leaving);
             Err(error)
         }
     }
@@ -88,13 +116,13 @@ fn add_end(
         opened: List::of(Vec::new(alloc)),
         stopped: List::of(Vec::new(alloc)),
     };
-    match journal.append_reserved(entry) {
+    match append_reserved(journal, entry) {
         Ok(()) => {
             if drain {
                 journal.give_back(1);
             }
             Ok(())
         }
-        Err(_) => Err(AllocError),
+        Err(error) => Err(error),
     }
 }

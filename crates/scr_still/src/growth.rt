@@ -8,8 +8,9 @@ ghost use Rattle.scr_world.specs.Consequences.{shut_between};
 ghost use Rattle.scr_world.specs.Legal.{MayCome};
 ghost use Rattle.scr_world.specs.Room.{has_room, needed_by};
 ghost use Rattle.scr_world.specs.declared.world.World.{World};
-ghost use Rattle.std.specs.Prelude.{◌≡◌, ◌+◌, [], IfOk, OnErr, OnOk, true};
+ghost use Rattle.std.specs.Prelude.{◌≡◌, ◌+◌, ◌++◌, ◌∷◌, [], IfOk, OnErr, OnOk, true};
 
+use crate::generic::{append, append_reserved, let_go};
 use callback_orders::Callback;
 use journal_core::{Entry, Journal};
 use prop_map::{List, OutOfMemory};
@@ -41,16 +42,50 @@ pub fn grow_still(
     ensures as_before { OnErr result (journal.new ≡ journal.old) }
     ensures state { OnErr result (state.new ≡ state.old) }
 {
-    let entries = one_more(state.world.entries)?;
+    let entries = match one_more(state.world.entries) {
+        Ok(entries) => entries,
+        Err(error) => {
+            let_go(step);
+            let_go(draft);
+            return Err(error);
+        }
+    };
     let mut undo = draft;
-    swap_in(alloc, &mut state.world, &mut undo);
+    let grown = grow_to(alloc, journal, state, step, &mut undo, entries);
+    let_go(undo);
+    grown
+}
+
+// The same, where there are so many entries with it.
+fn grow_to(
+    alloc: Global,
+    journal: &mut Journal<Step>,
+    state: &mut State,
+    step: Box<Step>,
+    undo: &mut Draft,
+    entries: u64,
+) -> Result<(), OutOfMemory>
+    requires shuts { shuts_nothing step.value ≡ true }
+    requires keeps { Keeps journal.old state.old }
+    requires may { MayCome state.old.world step.value }
+    requires room { has_room journal.old.limit state.old.world (needed_by step.value) ≡ true }
+    requires draft { IsDraft state.old step.value undo.old }
+    requires entries { entries ≡ state.old.world.entries + 1 }
+    ensures keeps { Keeps journal.new state.new }
+    ensures limit { journal.new.limit ≡ journal.old.limit }
+    ensures grown { OnOk result (Grown journal.old.limit journal.old.entries step.value journal.new.entries) }
+    ensures shut { OnOk result (shut_between (world_at journal.old.entries) (world_at journal.new.entries) ≡ []) }
+    ensures as_before { OnErr result (journal.new ≡ journal.old) }
+    ensures state { OnErr result (state.new ≡ state.old) }
+{
+    swap_in(alloc, &mut state.world, undo);
     match add_bare(alloc, journal, step) {
         Ok(()) => {
             state.world.entries = entries;
             Ok(())
         }
         Err(error) => {
-            swap_in(alloc, &mut state.world, &mut undo);
+            swap_in(alloc, &mut state.world, undo);
             Err(error)
         }
     }
@@ -79,20 +114,31 @@ fn add_bare(alloc: Global, journal: &mut Journal<Step>, step: Box<Step>) -> Resu
         stopped: List::of(Vec::new(alloc)),
     };
     if release {
-        return match journal.append_reserved(entry) {
-            Ok(()) => Ok(()),
-            Err(_) => Err(AllocError),
-        };
+        append_reserved(journal, entry)?;
+        return Ok(());
     }
-    match journal.reserve(more) {
-        Ok(()) => match journal.append(entry) {
-            Ok(()) => Ok(()),
-            Err(_) => {
-                journal.give_back(more);
-                Err(AllocError)
-            }
-        },
-        Err(_) => Err(AllocError),
+    append_with(journal, entry, more)?;
+    Ok(())
+}
+
+// Adds an entry and reserves room for what it begins, or does neither.
+fn append_with<S: Drop>(
+    journal: &mut Journal<S>,
+    entry: Entry<S>,
+    more: u64,
+) -> Result<(), OutOfMemory>
+    ensures ok { OnOk result (journal.new ≡ record journal.old { entries = journal.old.entries ++ entry ∷ []; reserved = journal.old.reserved + more }) }
+    ensures err { OnErr result (journal.new ≡ journal.old) }
+{
+    if journal.reserve(more).is_err() {
+        return Err(AllocError);
+    }
+    match append(journal, entry) {
+        Ok(()) => Ok(()),
+        Err(error) => {
+            journal.give_back(more);
+            Err(error)
+        }
     }
 }
 

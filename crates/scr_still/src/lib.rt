@@ -3,6 +3,7 @@
 
 mod callbacks;
 mod ends;
+mod generic;
 mod growth;
 mod leavings;
 mod still_ends;

@@ -1,6 +1,8 @@
-//! Tests of the web layer: patterns, contexts, routes, and connections of HTTP/1.1.
+//! Tests of the web layer: patterns, contexts, routes, chains, and connections of HTTP/1.1.
 #![tactic(auto)]
 
+#[cfg(test)]
+mod chains;
 #[cfg(test)]
 mod connections;
 #[cfg(test)]

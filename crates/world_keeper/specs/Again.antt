@@ -20,7 +20,8 @@ start_of b = Started b.location true
 
 -- the configurations by PID, the installs in order, then the starts of those that are marked, in order
 abbrev pub changes_again : Kept → List Change
-changes_again kept = map configured kept.configurations ++ map installed kept.bundles ++ map start_of (filter is_started kept.bundles)
+changes_again kept =
+    map configured kept.configurations ++ map installed kept.bundles ++ map start_of (filter is_started kept.bundles)
 
 -- a list of so many changes is to begin anew, where so many keep the same: it is long, and at least twice as long
 abbrev pub is_long : ℕ → ℕ → Bool

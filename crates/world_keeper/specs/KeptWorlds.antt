@@ -4,7 +4,8 @@ use Rattle.std.specs.List.{list_any}
 use Rattle.std.specs.Str.{bytes_eq}
 use Rattle.prop_map.specs.Words.{insert_by, text_before}
 use Rattle.world_keeper.specs.declared.change.Change.{Change}
-use Rattle.world_keeper.specs.declared.change.Change.TheVariants.{Install, Update, Remove, Started, Configured, Unconfigured}
+use Rattle.world_keeper.specs.declared.change.Change.TheVariants.{Install, Update, Remove, Started}
+use Rattle.world_keeper.specs.declared.change.Change.TheVariants.{Configured, Unconfigured}
 use Rattle.world_keeper.specs.declared.kept.Kept.{Kept}
 use Rattle.world_keeper.specs.declared.kept.KeptBundle.{KeptBundle}
 use Rattle.world_keeper.specs.declared.kept.KeptConfiguration.{KeptConfiguration}
@@ -20,7 +21,9 @@ is_marked location bundles = list_any (λ (b : KeptBundle). bytes_eq b.location 
 
 -- an install stands last; a location that was there keeps its mark
 abbrev pub with_install : List ℕ → List ℕ → List KeptBundle → List KeptBundle
-with_install location document bundles = without_location location bundles ++ record { location = location; document = document; started = is_marked location bundles } ∷ []
+with_install location document bundles =
+    without_location location bundles
+    ++ record { location = location; document = document; started = is_marked location bundles } ∷ []
 
 -- a bundle with this document, where it has this location
 abbrev pub with_document : List ℕ → List ℕ → KeptBundle → KeptBundle
@@ -55,14 +58,18 @@ configurations_after configurations (Install location document) = configurations
 configurations_after configurations (Update location document) = configurations
 configurations_after configurations (Remove location) = configurations
 configurations_after configurations (Started location marked) = configurations
-configurations_after configurations (Configured pid factory properties) = with_configuration (record { pid = pid; factory = factory; properties = properties }) configurations
+configurations_after configurations (Configured pid factory properties) =
+    with_configuration (record { pid = pid; factory = factory; properties = properties }) configurations
 configurations_after configurations (Unconfigured pid) = without_pid pid configurations
 
 -- ---- both
 
 -- what is kept after a change
 abbrev pub kept_after : Kept → Change → Kept
-kept_after kept change = record { bundles = bundles_after kept.bundles change; configurations = configurations_after kept.configurations change }
+kept_after kept change = record {
+  bundles = bundles_after kept.bundles change;
+  configurations = configurations_after kept.configurations change;
+}
 
 abbrev pub nothing : Kept
 nothing = record { bundles = []; configurations = [] }

@@ -2,7 +2,8 @@
 use Rattle.std.specs.Prelude.{ℕ, List, [], ◌∷◌, codes, map, true, false, Some, None, if◌then◌else◌}
 use Rattle.std.specs.Str.{bytes_eq}
 use Rattle.world_keeper.specs.declared.change.Change.{Change}
-use Rattle.world_keeper.specs.declared.change.Change.TheVariants.{Install, Update, Remove, Started, Configured, Unconfigured}
+use Rattle.world_keeper.specs.declared.change.Change.TheVariants.{Install, Update, Remove, Started}
+use Rattle.world_keeper.specs.declared.change.Change.TheVariants.{Configured, Unconfigured}
 
 -- the kind of change, the location or PID that it changes, the PID of a factory, and a document or properties
 pub record Line : Type 0 where
@@ -17,8 +18,10 @@ line_of (Update location document) = record { kind = codes "update"; name = loca
 line_of (Remove location) = record { kind = codes "remove"; name = location; factory = []; text = [] }
 line_of (Started location true) = record { kind = codes "start"; name = location; factory = []; text = [] }
 line_of (Started location false) = record { kind = codes "stop"; name = location; factory = []; text = [] }
-line_of (Configured pid None properties) = record { kind = codes "configure"; name = pid; factory = []; text = properties }
-line_of (Configured pid (Some factory) properties) = record { kind = codes "factory"; name = pid; factory = factory; text = properties }
+line_of (Configured pid None properties) =
+    record { kind = codes "configure"; name = pid; factory = []; text = properties }
+line_of (Configured pid (Some factory) properties) =
+    record { kind = codes "factory"; name = pid; factory = factory; text = properties }
 line_of (Unconfigured pid) = record { kind = codes "forget"; name = pid; factory = []; text = [] }
 
 -- the change that a row keeps

@@ -4,7 +4,8 @@ use Rattle.fault_count.specs.Memory.{is_listed}
 use Rattle.fault_count.specs.Steps.{next_count}
 use Rattle.world_keeper.specs.declared.kept.Kept.{Kept}
 
--- what a keeper in memory keeps, the numbers of the calls that are to fail, how many calls there were, and how many failed
+-- what a keeper in memory keeps, the numbers of the calls that are to fail, how many calls there were, and how many
+-- failed
 pub record MemoryWorld : Type 0 where
   pub kept : Kept
   pub failing : List ℕ

@@ -1,4 +1,5 @@
--- What is always true of what is kept: a location is there once, and the configurations stand by PID in byte order, each PID once. Our own.
+-- What is always true of what is kept: a location is there once, and the configurations stand by PID in byte order,
+-- each PID once. Our own.
 use Rattle.std.specs.Prelude.{◌≡◌, ℕ, List, [], ◌∷◌, Bool}
 use Rattle.std.specs.Cmp.Lexicographic.{slice_cmp}
 use Rattle.std.specs.List.{AllPairs}

@@ -19,11 +19,46 @@ abbrev pub change : Table
 change = record {
   name = codes "change";
   tree = 0;
-  columns = (record { name = codes "id"; kind = Integer; is_strict = true; not_null = false; default = Null; collation = Binary })
-      ∷ (record { name = codes "kind"; kind = Text; is_strict = true; not_null = true; default = Null; collation = Binary })
-      ∷ (record { name = codes "name"; kind = Text; is_strict = true; not_null = true; default = Null; collation = Binary })
-      ∷ (record { name = codes "factory"; kind = Text; is_strict = true; not_null = true; default = Null; collation = Binary })
-      ∷ (record { name = codes "text"; kind = Text; is_strict = true; not_null = true; default = Null; collation = Binary }) ∷ [];
+  columns = (record {
+    name = codes "id";
+    kind = Integer;
+    is_strict = true;
+    not_null = false;
+    default = Null;
+    collation = Binary;
+  })
+      ∷ (record {
+        name = codes "kind";
+        kind = Text;
+        is_strict = true;
+        not_null = true;
+        default = Null;
+        collation = Binary;
+      })
+      ∷ (record {
+        name = codes "name";
+        kind = Text;
+        is_strict = true;
+        not_null = true;
+        default = Null;
+        collation = Binary;
+      })
+      ∷ (record {
+        name = codes "factory";
+        kind = Text;
+        is_strict = true;
+        not_null = true;
+        default = Null;
+        collation = Binary;
+      })
+      ∷ (record {
+        name = codes "text";
+        kind = Text;
+        is_strict = true;
+        not_null = true;
+        default = Null;
+        collation = Binary;
+      }) ∷ [];
   key = Some 0;
   primary = 0 ∷ [];
   uniques = [];
@@ -66,7 +101,12 @@ words (Words t) = t
 words _ = []
 
 abbrev pub line_in : Row → Line
-line_in r = record { kind = words (column r 2); name = words (column r 3); factory = words (column r 4); text = words (column r 5) }
+line_in r = record {
+  kind = words (column r 2);
+  name = words (column r 3);
+  factory = words (column r 4);
+  text = words (column r 5);
+}
 
 -- the changes that a database keeps
 abbrev pub changes_in : State → List Change

@@ -1,6 +1,7 @@
 //! Bundles as they are kept, changed in place.
 ghost use Rattle.std.specs.Prelude.{◌≡◌, map, IfOk, OnOk};
-ghost use Rattle.world_keeper.specs.KeptWorlds.{bundles_after, is_marked, with_document, with_install, with_mark, without_location};
+ghost use Rattle.world_keeper.specs.KeptWorlds.{bundles_after, is_marked, with_document, with_install};
+ghost use Rattle.world_keeper.specs.KeptWorlds.{with_mark, without_location};
 
 use crate::{Change, KeptBundle};
 use prop_map::{Copies, OutOfMemory, Str};
@@ -52,7 +53,8 @@ fn bundle_of(
     document: &Str,
     started: bool,
 ) -> Result<KeptBundle, OutOfMemory>
-    ensures { IfOk result (λ bundle. bundle ≡ record { location = location.now; document = document.now; started = started }) }
+    ensures { IfOk result (λ bundle.
+        bundle ≡ record { location = location.now; document = document.now; started = started }) }
 {
     Ok(KeptBundle {
         location: location.copy(alloc)?,

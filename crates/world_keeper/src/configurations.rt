@@ -42,7 +42,8 @@ fn configuration_of(
     factory: &Option<Str>,
     properties: &Str,
 ) -> Result<KeptConfiguration, OutOfMemory>
-    ensures { IfOk result (λ made. made ≡ record { pid = pid.now; factory = factory.now; properties = properties.now }) }
+    ensures { IfOk result (λ made.
+        made ≡ record { pid = pid.now; factory = factory.now; properties = properties.now }) }
 {
     Ok(KeptConfiguration {
         pid: pid.copy(alloc)?,

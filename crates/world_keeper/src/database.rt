@@ -27,8 +27,10 @@ pub(crate) fn put_at(
     place: &mut Option<Connection<MemStore>>,
     change: &Change,
 ) -> Result<(), Error>
-    ensures refused { (changes : List Change) → KeepsChanges place.old changes → OnErr result (KeepsChanges place.new changes) }
-    ensures kept { (changes : List Change) → KeepsChanges place.old changes → OnOk result (KeepsChanges place.new (changes ++ change.now ∷ [])) }
+    ensures refused { (changes : List Change) → KeepsChanges place.old changes →
+        OnErr result (KeepsChanges place.new changes) }
+    ensures kept { (changes : List Change) → KeepsChanges place.old changes →
+        OnOk result (KeepsChanges place.new (changes ++ change.now ∷ [])) }
 {
     match place {
         Some(conn) => {
@@ -50,7 +52,8 @@ pub(crate) fn found_at(
     place: &mut Option<Connection<MemStore>>,
 ) -> Result<Vec<Change>, Error>
     ensures kept { (changes : List Change) → KeepsChanges place.old changes → KeepsChanges place.new changes }
-    ensures all { (changes : List Change) → KeepsChanges place.old changes → IfOk result (λ found. found.items ≡ changes) }
+    ensures all { (changes : List Change) → KeepsChanges place.old changes →
+        IfOk result (λ found. found.items ≡ changes) }
 {
     match place {
         Some(conn) => changes_in(alloc, conn),
@@ -64,8 +67,10 @@ pub(crate) fn found_at(
 }
 
 fn changes_in(alloc: Global, conn: &mut Connection<MemStore>) -> Result<Vec<Change>, Error>
-    ensures kept { (changes : List Change) → KeepsLines (state over_memory conn.old) (map line_of changes) → KeepsLines (state over_memory conn.new) (map line_of changes) }
-    ensures all { (changes : List Change) → KeepsLines (state over_memory conn.old) (map line_of changes) → IfOk result (λ found. found.items ≡ changes) }
+    ensures kept { (changes : List Change) → KeepsLines (state over_memory conn.old) (map line_of changes) →
+        KeepsLines (state over_memory conn.new) (map line_of changes) }
+    ensures all { (changes : List Change) → KeepsLines (state over_memory conn.old) (map line_of changes) →
+        IfOk result (λ found. found.items ≡ changes) }
 {
     let rows = read_all(conn)?;
     changes_of(alloc, &rows)

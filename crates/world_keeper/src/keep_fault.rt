@@ -8,7 +8,7 @@ use thiserror::Error;
 /// Why a keeper refuses.
 #[derive(Clone, Copy, Debug, PartialEq, Eq, Error)]
 pub enum KeepFault {
-    /// The keeper failed, and its count of faults rose.
+    /// The keeper failed. Its count of faults rose, or stands at its last value.
     #[error("the keeper failed")]
     Failed,
     /// There was no memory.

@@ -18,8 +18,8 @@ pub trait Keeper {
     /// What it keeps, which stays.
     ///
     /// # Errors
-    /// `Failed` comes only where the count of faults rose in this call or stands at its last value. `OutOfMemory` may come
-    /// at any call.
+    /// `Failed` comes only where the count of faults rose in this call or stands at its last value. `OutOfMemory` may
+    /// come at any call.
     fn load(&mut self) -> Result<Kept, KeepFault>
         ensures same { kept self.new ≡ kept self.old }
         ensures all { IfOk result (λ found. found ≡ kept self.old) }

@@ -1,5 +1,4 @@
-//! Kept worlds: what is kept of a platform behind a trait, in memory or as rows of a database, and the commands that make a
-//! platform again from it.
+//! Kept worlds: what is kept of a platform behind a trait, in memory or as rows of a database.
 #![tactic(auto)]
 
 mod again;

@@ -14,8 +14,10 @@ use std::alloc::Global;
 
 /// Puts the row of a change behind the others, or none where it is refused.
 pub(crate) fn put_change(conn: &mut Connection<MemStore>, change: &Change) -> Result<usize, Error>
-    ensures refused { (lines : List Line) → KeepsLines (state over_memory conn.old) lines → OnErr result (KeepsLines (state over_memory conn.new) lines) }
-    ensures kept { (lines : List Line) → KeepsLines (state over_memory conn.old) lines → OnOk result (KeepsLines (state over_memory conn.new) (lines ++ line_of change.now ∷ [])) }
+    ensures refused { (lines : List Line) → KeepsLines (state over_memory conn.old) lines →
+        OnErr result (KeepsLines (state over_memory conn.new) lines) }
+    ensures kept { (lines : List Line) → KeepsLines (state over_memory conn.old) lines →
+        OnOk result (KeepsLines (state over_memory conn.new) (lines ++ line_of change.now ∷ [])) }
 {
     match change {
         Change::Install { location, document } => {
@@ -36,8 +38,11 @@ pub(crate) fn put_change(conn: &mut Connection<MemStore>, change: &Change) -> Re
 }
 
 fn put_started(conn: &mut Connection<MemStore>, location: &Str, yes: bool) -> Result<usize, Error>
-    ensures refused { (lines : List Line) → KeepsLines (state over_memory conn.old) lines → OnErr result (KeepsLines (state over_memory conn.new) lines) }
-    ensures kept { (lines : List Line) → KeepsLines (state over_memory conn.old) lines → OnOk result (KeepsLines (state over_memory conn.new) (lines ++ line_of (Change.Started location.now yes) ∷ [])) }
+    ensures refused { (lines : List Line) → KeepsLines (state over_memory conn.old) lines →
+        OnErr result (KeepsLines (state over_memory conn.new) lines) }
+    ensures kept { (lines : List Line) → KeepsLines (state over_memory conn.old) lines →
+        OnOk result (KeepsLines (state over_memory conn.new)
+        (lines ++ line_of (Change.Started location.now yes) ∷ [])) }
 {
     if yes {
         put(conn, "start", location.as_str(), "", "")
@@ -52,8 +57,11 @@ fn put_configured(
     factory: &Option<Str>,
     properties: &Str,
 ) -> Result<usize, Error>
-    ensures refused { (lines : List Line) → KeepsLines (state over_memory conn.old) lines → OnErr result (KeepsLines (state over_memory conn.new) lines) }
-    ensures kept { (lines : List Line) → KeepsLines (state over_memory conn.old) lines → OnOk result (KeepsLines (state over_memory conn.new) (lines ++ line_of (Change.Configured pid.now factory.now properties.now) ∷ [])) }
+    ensures refused { (lines : List Line) → KeepsLines (state over_memory conn.old) lines →
+        OnErr result (KeepsLines (state over_memory conn.new) lines) }
+    ensures kept { (lines : List Line) → KeepsLines (state over_memory conn.old) lines →
+        OnOk result (KeepsLines (state over_memory conn.new)
+        (lines ++ line_of (Change.Configured pid.now factory.now properties.now) ∷ [])) }
 {
     match factory {
         None => put(conn, "configure", pid.as_str(), "", properties.as_str()),
@@ -77,7 +85,8 @@ struct Texts {
 }
 
 fn texts_of(row: &Row) -> Result<Texts, Error>
-    ensures { IfOk result (λ t. (l : Line) → row.now ≡ shown l → (string_bytes t.kind ≡ l.kind) × (t.name ≡ l.name) × (t.factory ≡ l.factory) × (t.text ≡ l.text)) }
+    ensures { IfOk result (λ t. (l : Line) → row.now ≡ shown l →
+        (string_bytes t.kind ≡ l.kind) × (t.name ≡ l.name) × (t.factory ≡ l.factory) × (t.text ≡ l.text)) }
 {
     let kind: String = row.get(0)?;
     let name: String = row.get(1)?;
@@ -92,7 +101,12 @@ fn texts_of(row: &Row) -> Result<Texts, Error>
 }
 
 fn change_of(texts: Texts) -> Change
-    ensures { result ≡ change_in (record { kind = string_bytes texts.kind; name = texts.name; factory = texts.factory; text = texts.text }) }
+    ensures { result ≡ change_in (record {
+      kind = string_bytes texts.kind;
+      name = texts.name;
+      factory = texts.factory;
+      text = texts.text;
+    }) }
 {
     let Texts {
         kind,

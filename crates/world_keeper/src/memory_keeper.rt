@@ -28,7 +28,12 @@ impl Model for MemoryKeeper {
 
     ghost Value = { MemoryWorld };
 
-    ghost view = { λ k. record { kept = kept_by k.changes.items; failing = k.failing.items; calls = k.calls; fault_count = k.faults } };
+    ghost view = { λ k. record {
+      kept = kept_by k.changes.items;
+      failing = k.failing.items;
+      calls = k.calls;
+      fault_count = k.faults;
+    } };
 }
 
 impl MemoryKeeper {

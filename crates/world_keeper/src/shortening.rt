@@ -16,15 +16,16 @@ use std::alloc::Global;
 // How many rows a list has at least that begins anew.
 const LEAST_ROWS: usize = 1000;
 
-/// Begins the list of changes anew, where it has many rows and twice as many as what is kept needs. A new database takes
-/// the place of the old one whole, which stays where that fails.
+/// Begins the list of changes anew, where it has many rows and twice as many as what is kept needs. A new database
+/// takes the place of the old one whole, which stays where that fails.
 pub(crate) fn shorten(
     alloc: Global,
     place: &mut Option<Connection<MemStore>>,
     rows: usize,
     kept: &Kept,
 ) -> Result<(), Error>
-    ensures ok { OnOk result (MatchBool (is_long rows (length (changes_again kept.now))) (KeepsChanges place.new (changes_again kept.now)) (place.new ≡ place.old)) }
+    ensures ok { OnOk result (MatchBool (is_long rows (length (changes_again kept.now)))
+        (KeepsChanges place.new (changes_again kept.now)) (place.new ≡ place.old)) }
     ensures err { OnErr result (place.new ≡ place.old) }
 {
     let changes = changes_again(alloc, kept)?;

@@ -63,7 +63,8 @@ fn counted(error: Error, faults: &mut u64) -> KeepFault
 // What is kept in a place, whose list begins anew where it is long.
 fn kept_at(alloc: Global, place: &mut Option<Connection<MemStore>>) -> Result<Kept, Error>
     ensures stays { (changes : List Change) → KeepsChanges place.old changes → Stays place.new changes }
-    ensures all { (changes : List Change) → KeepsChanges place.old changes → IfOk result (λ kept. kept ≡ kept_by changes) }
+    ensures all { (changes : List Change) → KeepsChanges place.old changes →
+        IfOk result (λ kept. kept ≡ kept_by changes) }
 {
     let changes = found_at(alloc, place)?;
     let kept = kept_of(alloc, changes.as_slice())?;

@@ -27,8 +27,11 @@ pub(crate) fn put(
     factory: &str,
     text: &str,
 ) -> Result<usize, Error>
-    ensures refused { (lines : List Line) → KeepsLines (state over_memory conn.old) lines → OnErr result (KeepsLines (state over_memory conn.new) lines) }
-    ensures kept { (lines : List Line) → KeepsLines (state over_memory conn.old) lines → OnOk result (KeepsLines (state over_memory conn.new) (lines ++ record { kind = kind.now; name = name.now; factory = factory.now; text = text.now } ∷ [])) }
+    ensures refused { (lines : List Line) → KeepsLines (state over_memory conn.old) lines →
+        OnErr result (KeepsLines (state over_memory conn.new) lines) }
+    ensures kept { (lines : List Line) → KeepsLines (state over_memory conn.old) lines →
+        OnOk result (KeepsLines (state over_memory conn.new)
+        (lines ++ record { kind = kind.now; name = name.now; factory = factory.now; text = text.now } ∷ [])) }
 {
     conn.execute(
         "INSERT INTO change (kind, name, factory, text) VALUES (?1, ?2, ?3, ?4)",
@@ -38,8 +41,10 @@ pub(crate) fn put(
 
 /// The rows in their order, which stay.
 pub(crate) fn read_all(conn: &mut Connection<MemStore>) -> Result<Vec<Row>, Error>
-    ensures kept { (lines : List Line) → KeepsLines (state over_memory conn.old) lines → KeepsLines (state over_memory conn.new) lines }
-    ensures rows { (lines : List Line) → KeepsLines (state over_memory conn.old) lines → IfOk result (λ rows. rows.items ≡ map shown lines) }
+    ensures kept { (lines : List Line) → KeepsLines (state over_memory conn.old) lines →
+        KeepsLines (state over_memory conn.new) lines }
+    ensures rows { (lines : List Line) → KeepsLines (state over_memory conn.old) lines →
+        IfOk result (λ rows. rows.items ≡ map shown lines) }
 {
     conn.query_all(
         "SELECT kind, name, factory, text FROM change ORDER BY id",

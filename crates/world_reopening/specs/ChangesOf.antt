@@ -1,5 +1,6 @@
 -- The changes of commands that make a platform again. Our own.
-use Rattle.std.specs.Prelude.{◌≡◌, ℕ, suc, List, [], ◌∷◌, ◌++◌, codes, flat_map, slice_get, Bool, true, false, Option, Some, None}
+use Rattle.std.specs.Prelude.{◌≡◌, ℕ, suc, List, [], ◌∷◌, ◌++◌, codes, flat_map, slice_get}
+use Rattle.std.specs.Prelude.{Bool, true, false, Option, Some, None}
 use Rattle.bundle_doc.specs.declared.document.BundleDoc.{BundleDoc}
 use Rattle.prop_map.specs.declared.properties.Property.{Property}
 use Rattle.scr_world.specs.declared.command.Command.{Command}
@@ -27,7 +28,8 @@ IsOfFactory factory name properties kept_pid (Some kept_factory) text =
 
 -- the document is the one of the text, with this location
 abbrev IsRead : BundleDoc → List ℕ → List ℕ → Type 0
-IsRead doc location text = (there : BundleDoc) × (document_in text ≡ Some there) × (doc ≡ record there { location = location })
+IsRead doc location text =
+    (there : BundleDoc) × (document_in text ≡ Some there) × (doc ≡ record there { location = location })
 
 -- the bundle of this number is at this location
 abbrev IsNumberOf : List (List ℕ) → ℕ → List ℕ → Type 0
@@ -35,8 +37,10 @@ IsNumberOf locations bundle location = (place : ℕ) × (bundle ≡ suc place) �
 
 -- the change is the one that the command makes, by locations and PIDs
 abbrev pub IsChangeOf : List (List ℕ) → Command → Change → Type 0
-IsChangeOf locations (Configure pid properties) (Configured kept_pid factory text) = IsOwn pid properties kept_pid factory text
-IsChangeOf locations (ConfigureFactory factory name properties) (Configured kept_pid kept_factory text) = IsOfFactory factory name properties kept_pid kept_factory text
+IsChangeOf locations (Configure pid properties) (Configured kept_pid factory text) =
+    IsOwn pid properties kept_pid factory text
+IsChangeOf locations (ConfigureFactory factory name properties) (Configured kept_pid kept_factory text) =
+    IsOfFactory factory name properties kept_pid kept_factory text
 IsChangeOf locations (Install doc) (Installed location text) = IsRead doc location text
 IsChangeOf locations (Start bundle) (Started location so) = IsNumberOf locations bundle location × (so ≡ true)
 IsChangeOf locations _ _ = ⊥
@@ -45,4 +49,5 @@ abbrev pub AreChangesOf : List (List ℕ) → List Command → List Change → T
 AreChangesOf locations [] [] = Unit {0}
 AreChangesOf locations [] (change ∷ changes) = ⊥
 AreChangesOf locations (command ∷ commands) [] = ⊥
-AreChangesOf locations (command ∷ commands) (change ∷ changes) = IsChangeOf locations command change × AreChangesOf locations commands changes
+AreChangesOf locations (command ∷ commands) (change ∷ changes) =
+    IsChangeOf locations command change × AreChangesOf locations commands changes

@@ -1,5 +1,6 @@
 -- The commands that make a platform again from what is kept. Our own.
-use Rattle.std.specs.Prelude.{◌≡◌, ℕ, suc, List, [], ◌∷◌, ◌++◌, map, Option, Some, None, option_map, Result, Ok, Err, if◌then◌else◌}
+use Rattle.std.specs.Prelude.{◌≡◌, ℕ, suc, List, [], ◌∷◌, ◌++◌, map, if◌then◌else◌}
+use Rattle.std.specs.Prelude.{Option, Some, None, option_map, Result, Ok, Err}
 use Rattle.std.specs.Option.{option_and_then}
 use Rattle.scr_world.specs.declared.command.Command.{Command}
 use Rattle.scr_world.specs.declared.command.Command.TheVariants.{Install, Start, Configure, ConfigureFactory}
@@ -16,7 +17,8 @@ abbrev pub own_command : List ℕ → List ℕ → Option Command
 own_command pid text = option_map (λ properties. Configure pid properties) (properties_in text)
 
 abbrev pub named_command : List ℕ → List ℕ → List ℕ → Option Command
-named_command factory name text = option_map (λ properties. ConfigureFactory factory name properties) (properties_in text)
+named_command factory name text =
+    option_map (λ properties. ConfigureFactory factory name properties) (properties_in text)
 
 abbrev pub factory_command : List ℕ → List ℕ → List ℕ → Option Command
 factory_command factory pid text = option_and_then (λ name. named_command factory name text) (name_of factory pid)
@@ -54,7 +56,8 @@ commands_of (Some command ∷ rows) = command ∷ commands_of rows
 -- a start of each that is marked, where the bundles are numbered from this number on
 abbrev pub starts_from : ℕ → List KeptBundle → List Command
 starts_from number [] = []
-starts_from number (b ∷ bundles) = if b.started then Start number ∷ starts_from (suc number) bundles else starts_from (suc number) bundles
+starts_from number (b ∷ bundles) =
+    if b.started then Start number ∷ starts_from (suc number) bundles else starts_from (suc number) bundles
 
 -- ---- all
 
@@ -63,14 +66,16 @@ unless_unread (Some row) commands = Err (BadKept row)
 unless_unread None commands = Ok commands
 
 abbrev pub reopening : Kept → Result (List Command) ReopenFault
-reopening kept = unless_unread (first_unread 0 (rows_of kept)) (commands_of (rows_of kept) ++ starts_from 1 kept.bundles)
+reopening kept =
+    unless_unread (first_unread 0 (rows_of kept)) (commands_of (rows_of kept) ++ starts_from 1 kept.bundles)
 
 -- A bad row that is told is the one that is there. Want of memory is free.
 abbrev pub Tells : ReopenFault → Result (List Command) ReopenFault → Type 0
 Tells (BadKept row) meaning = meaning ≡ Err (BadKept row)
 Tells OutOfMemory meaning = Unit {0}
 
--- Rows are added as their commands, or the first is told that has no reading. The first row's number is how many commands there were.
+-- Rows are added as their commands, or the first is told that has no reading. The first row's number is how many
+-- commands there were.
 abbrev pub Adds : Result (Unit {0}) ReopenFault → ℕ → List (Option Command) → List Command → List Command → Type 0
 Adds (Ok done) first rows old new = (first_unread first rows ≡ None) × (new ≡ old ++ commands_of rows)
 Adds (Err (BadKept row)) first rows old new = first_unread first rows ≡ Some row

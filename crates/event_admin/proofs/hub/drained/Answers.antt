@@ -1,6 +1,6 @@
-use Rattle.std.proofs.Common.{rules, ap, ◌∙◌, refl, sym, arith, append-nil}
+use Rattle.std.proofs.Common.{ap, ◌∙◌, arith}
 use Rattle.event_admin.specs.declared.rule.Hand.{Hand}
-use Rattle.event_admin.proofs.Moves.{learns, takes, ends_empty, ends_counted}
+use Rattle.event_admin.proofs.Moves.{learns, takes, ends_counted}
 use Rattle.event_admin.proofs.hub.drained.Goals as goal
 
 pub pop_as-requires-clause-rule : goal.pop_as-requires-clause-rule

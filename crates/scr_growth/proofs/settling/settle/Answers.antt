@@ -8,43 +8,40 @@ use Rattle.scr_growth.proofs.settling.settle.Goals as goal
 
 pub enter-requires-clause-room : goal.enter-requires-clause-room
 enter-requires-clause-room c =
-    room_for c.args.journal.now c.args.step.value c.args.state.now c.args.undo.now c.args.periods.now c.args.lists c.args.draining.now c.requires c.in_ok-rest.rest _ c.deref.ensures c.in_ok-rest.ensures
+    room_for c.args.journal.now c.args.step.value c.args.state.now c.args.undo.now c.args.periods.now c.args.lists c.args.draining.now c.requires c.in-Ok.ending.rest _ c.deref.ensures c.in-Ok.ensures.rest
 
 pub enter-requires-clause-numbered : goal.enter-requires-clause-numbered
 enter-requires-clause-numbered c =
-    numbered_for c.args.journal.now c.args.step.value c.args.state.now c.args.undo.now c.args.periods.now c.args.lists c.args.draining.now c.requires c.in_ok-rest.rest _ c.deref.ensures c.in_ok-rest.ensures c.note_listeners.ensures
+    numbered_for c.args.journal.now c.args.step.value c.args.state.now c.args.undo.now c.args.periods.now c.args.lists c.args.draining.now c.requires c.in-Ok.ending.rest _ c.deref.ensures c.in-Ok.ensures.rest c.note_listeners.ensures
 
 pub leave-requires-clause-stopping : goal.leave-requires-clause-stopping
 leave-requires-clause-stopping c =
     let was = world_at c.args.journal.now.entries in
-    let copied = c.of-stopped.ensures ∙ c.in_ok-from_slice.ensures.items ∙ c.as_slice.ensures in
-    let before = before_for c.args.journal.now c.args.step.value c.args.state.now c.args.undo.now c.args.periods.now c.args.lists c.args.draining.now c.requires c.in_ok-rest.rest _ c.deref.ensures c.in_ok-rest.ensures
-    c.services_among-given.result (c.services_among-given.ensures ∙ ap services_among c.as_slice-2.ensures) c.give.new.self c.in_ok-give.ensures.ok in
-    stopping_for c.args.journal.now c.args.step.value c.args.state.now c.args.undo.now c.args.periods.now c.args.lists c.args.draining.now c.requires c.in_ok-rest.rest _ c.deref.ensures c.in_ok-rest.ensures
-    c.services_among-given.result (c.services_among-given.ensures ∙ ap services_among c.as_slice-2.ensures) c.give.new.self c.in_ok-give.ensures.ok c.enter.new.state (c.in-Ok.ensures.told was before) c.of-stopped.result copied
+    let before = before_for c.args.journal.now c.args.step.value c.args.state.now c.args.undo.now c.args.periods.now c.args.lists c.args.draining.now c.requires c.in-Ok.ending.rest _ c.deref.ensures c.in-Ok.ensures.rest
+    c.services_among-given.result (c.services_among-given.ensures ∙ ap services_among c.as_slice.ensures) c.give.new.self c.in-Ok-give.ensures.ok in
+    stopping_for c.args.journal.now c.args.step.value c.args.state.now c.args.undo.now c.args.periods.now c.args.lists c.args.draining.now c.requires c.in-Ok.ending.rest _ c.deref.ensures c.in-Ok.ensures.rest
+    c.services_among-given.result (c.services_among-given.ensures ∙ ap services_among c.as_slice.ensures) c.give.new.self c.in-Ok-give.ensures.ok c.enter.new.state (c.in-Ok-enter.ensures.told was before) c.in-Ok.ending.stopped c.in-Ok.ensures.stopped
     (c.note_bundles.ensures.step c.args.step.value (world_at c.args.journal.now.entries).bundles (c.note_bundles.ensures.world (history_of c.args.journal.now.entries))).0 c.note_stops.ensures.stopping
 
 pub leave-requires-clause-rising : goal.leave-requires-clause-rising
 leave-requires-clause-rising c =
     let was = world_at c.args.journal.now.entries in
-    let copied = c.of-stopped.ensures ∙ c.in_ok-from_slice.ensures.items ∙ c.as_slice.ensures in
-    let before = before_for c.args.journal.now c.args.step.value c.args.state.now c.args.undo.now c.args.periods.now c.args.lists c.args.draining.now c.requires c.in_ok-rest.rest _ c.deref.ensures c.in_ok-rest.ensures
-    c.services_among-given.result (c.services_among-given.ensures ∙ ap services_among c.as_slice-2.ensures) c.give.new.self c.in_ok-give.ensures.ok in
-    rising_for c.args.journal.now c.args.step.value c.args.state.now c.args.undo.now c.args.periods.now c.args.lists c.args.draining.now c.requires c.in_ok-rest.rest _ c.deref.ensures c.in_ok-rest.ensures
-    c.services_among-given.result (c.services_among-given.ensures ∙ ap services_among c.as_slice-2.ensures) c.give.new.self c.in_ok-give.ensures.ok c.enter.new.state (c.in-Ok.ensures.told was before) c.of-stopped.result copied
+    let before = before_for c.args.journal.now c.args.step.value c.args.state.now c.args.undo.now c.args.periods.now c.args.lists c.args.draining.now c.requires c.in-Ok.ending.rest _ c.deref.ensures c.in-Ok.ensures.rest
+    c.services_among-given.result (c.services_among-given.ensures ∙ ap services_among c.as_slice.ensures) c.give.new.self c.in-Ok-give.ensures.ok in
+    rising_for c.args.journal.now c.args.step.value c.args.state.now c.args.undo.now c.args.periods.now c.args.lists c.args.draining.now c.requires c.in-Ok.ending.rest _ c.deref.ensures c.in-Ok.ensures.rest
+    c.services_among-given.result (c.services_among-given.ensures ∙ ap services_among c.as_slice.ensures) c.give.new.self c.in-Ok-give.ensures.ok c.enter.new.state (c.in-Ok-enter.ensures.told was before) c.in-Ok.ending.stopped c.in-Ok.ensures.stopped
     (c.note_bundles.ensures.step c.args.step.value (world_at c.args.journal.now.entries).bundles (c.note_bundles.ensures.world (history_of c.args.journal.now.entries))).0 c.note_stops.ensures.rising
 
-pub returns-in-Ok-clause-settled : goal.returns-in-Ok-clause-settled
-returns-in-Ok-clause-settled c =
+pub returns-in-Ok-enter-clause-settled : goal.returns-in-Ok-enter-clause-settled
+returns-in-Ok-enter-clause-settled c =
     let was = world_at c.args.journal.now.entries in
-    let copied = c.of-stopped.ensures ∙ c.in_ok-from_slice.ensures.items ∙ c.as_slice.ensures in
-    let before = before_for c.args.journal.now c.args.step.value c.args.state.now c.args.undo.now c.args.periods.now c.args.lists c.args.draining.now c.requires c.in_ok-rest.rest _ c.deref.ensures c.in_ok-rest.ensures
-    c.services_among-given.result (c.services_among-given.ensures ∙ ap services_among c.as_slice-2.ensures) c.give.new.self c.in_ok-give.ensures.ok in
-    settled_so c.args.journal.now c.args.step.value c.args.state.now c.args.undo.now c.args.periods.now c.args.lists c.args.draining.now c.requires c.in_ok-rest.rest _ c.deref.ensures c.in_ok-rest.ensures
-    c.services_among-given.result (c.services_among-given.ensures ∙ ap services_among c.as_slice-2.ensures) c.give.new.self c.in_ok-give.ensures.ok c.enter.new.state (c.in-Ok.ensures.told was before) c.of-stopped.result copied
-    c.leave.new.world c.leave.ensures.world c.enter.new.journal c.in-Ok.ensures.ok c.leave.result c.leave.ensures.shut
+    let before = before_for c.args.journal.now c.args.step.value c.args.state.now c.args.undo.now c.args.periods.now c.args.lists c.args.draining.now c.requires c.in-Ok.ending.rest _ c.deref.ensures c.in-Ok.ensures.rest
+    c.services_among-given.result (c.services_among-given.ensures ∙ ap services_among c.as_slice.ensures) c.give.new.self c.in-Ok-give.ensures.ok in
+    settled_so c.args.journal.now c.args.step.value c.args.state.now c.args.undo.now c.args.periods.now c.args.lists c.args.draining.now c.requires c.in-Ok.ending.rest _ c.deref.ensures c.in-Ok.ensures.rest
+    c.services_among-given.result (c.services_among-given.ensures ∙ ap services_among c.as_slice.ensures) c.give.new.self c.in-Ok-give.ensures.ok c.enter.new.state (c.in-Ok-enter.ensures.told was before) c.in-Ok.ending.stopped c.in-Ok.ensures.stopped
+    c.leave.new.world c.leave.ensures.world c.enter.new.journal c.in-Ok-enter.ensures.ok c.leave.result c.leave.ensures.shut
 
-pub returns-in-Err-clause-state : goal.returns-in-Err-clause-state
-returns-in-Err-clause-state c =
-    state_back c.args.state.now c.enter.new.state c.give.new.self c.give_back.new.self c.in-Err.ensures.state
-    (c.give_back.ensures.undone c.args.state.now.world.registry c.rows-rows.ensures.numbered (ap (λ (x : State). x.world.registry) c.in-Err.ensures.state ∙ c.in_ok-give.ensures.ok))
+pub returns-in-Err-enter-clause-state : goal.returns-in-Err-enter-clause-state
+returns-in-Err-enter-clause-state c =
+    state_back c.args.state.now c.enter.new.state c.give.new.self c.give_back.new.self c.in-Err-enter.ensures.state
+    (c.give_back.ensures.undone c.args.state.now.world.registry c.rows-rows.ensures.numbered (ap (λ (x : State). x.world.registry) c.in-Err-enter.ensures.state ∙ c.in-Ok-give.ensures.ok))

@@ -20,15 +20,15 @@ settle-requires c = record {
   cached = c.requires.amid.cached;
   before = record {
     registry = c.requires.amid.before.registry;
-    periods = c.in_ok-periods.ensures ∙ c.requires.amid.before.periods;
+    periods = c.in-Ok-periods_for.ensures ∙ c.requires.amid.before.periods;
     held = c.requires.amid.before.held;
   };
   draining = c.requires.amid.told.draining;
 }
 
-pub returns-clause-finished : goal.returns-clause-finished
-returns-clause-finished c =
+pub returns-in-Ok-settle-clause-finished : goal.returns-in-Ok-settle-clause-finished
+returns-in-Ok-settle-clause-finished c =
     finished c.args.journal.now c.args.step.value c.args.state.now c.args.undo.now c.args.told.now c.requires.amid c.requires.unseen
-    c.settle.new.journal c.settle.new.state c.in_ok-shut.shut
-    (subst (λ (l : Lists). HasSettled c.args.journal.now c.args.step.value l c.args.state.now c.settle.new.journal c.settle.new.state c.in_ok-shut.shut) c.no_lists-lists.ensures c.in_ok-shut.ensures.settled)
-    c.in_ok-satisfied.satisfied (c.in_ok-satisfied.ensures ∙ c.as_slice.ensures)
+    c.settle.new.journal c.settle.new.state c.in-Ok-settle.shut
+    (subst (λ (l : Lists). HasSettled c.args.journal.now c.args.step.value l c.args.state.now c.settle.new.journal c.settle.new.state c.in-Ok-settle.shut) c.no_lists-lists.ensures c.in-Ok-settle.ensures.settled)
+    c.in-Ok.satisfied (c.in-Ok.ensures ∙ c.as_slice.ensures)
