@@ -1,5 +1,5 @@
 -- The references of each description that a line brings differ in name.
-use Rattle.std.proofs.Common.{◌≡◌, ℕ, List, ap, sym, ◌∙◌, refl, Bool, true, false, Ok, Err}
+use Rattle.std.proofs.Common.{◌≡◌, ℕ, List, ap, refl, Bool, true, false, Ok, Err}
 use Rattle.std.specs.Prelude.{Option, Result, codes, if◌then◌else◌, ⊤}
 use Rattle.std.specs.Str.{bytes_eq, is_utf8}
 use Rattle.bundle_doc.specs.declared.document.BundleDoc.{BundleDoc}

@@ -1,6 +1,5 @@
 -- Behind each line the references of each installed description differ in name, where they did before it.
 use Rattle.std.proofs.Common.{◌≡◌, ℕ, List, [], ◌∷◌, ◌++◌, sym, subst, cond, Bool, true, false, Ok, Err, inl, inr}
-use Rattle.std.specs.List.{Contains}
 use Rattle.std.specs.declared.option.Option.{Option}
 use Rattle.component_state.proofs.Apart.{in_cases, in_either, in_none}
 use Rattle.platform_hall.specs.Cores.{CoreView}

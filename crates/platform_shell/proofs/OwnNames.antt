@@ -1,9 +1,8 @@
 -- A run keeps the references of each installed description apart by their names.
-use Rattle.std.proofs.Common.{◌≡◌, ℕ, ◌+◌, List, [], ◌∷◌, ◌++◌, ap, sym, ◌∙◌, refl, subst, cond, append_assoc, append-nil, Bool, true, false, Ok, Err, inl, inr}
-use Rattle.std.specs.Prelude.{filter, map, not, ◌==◌}
+use Rattle.std.proofs.Common.{◌≡◌, ℕ, ◌+◌, List, [], ◌∷◌, ◌++◌, ap, sym, refl, subst, cond, append_assoc, append-nil, Bool, true, false, inl, inr}
+use Rattle.std.specs.Prelude.{map, not, ◌==◌}
 use Rattle.std.specs.List.{Contains}
 use Rattle.bundle_doc.specs.declared.document.BundleDoc.{BundleDoc}
-use Rattle.component_dto.specs.declared.description.Description.{Description}
 use Rattle.component_state.proofs.Apart.{in_cases, in_either, in_first, in_left, in_none, in_right, kept_was}
 use Rattle.component_state.proofs.Plain.{in_mapped}
 use Rattle.journal_core.specs.declared.entry.Entry.{Entry}

@@ -1,11 +1,10 @@
 -- The references of each description of a document that is read differ in name.
-use Rattle.std.proofs.Common.{◌≡◌, ℕ, List, [], ◌∷◌, ap, sym, ◌∙◌, refl, subst, Bool, true, false, Some, None, Ok, Err, inl, inr}
-use Rattle.std.specs.Prelude.{◌<◌, ◌==◌, ◌&&◌, codes, length, map, nat_lt, not, Option, option_and_then, option_map, Result, is_some}
+use Rattle.std.proofs.Common.{◌≡◌, ℕ, List, [], ◌∷◌, ap, sym, ◌∙◌, refl, subst, Some, None, Ok, Err, inl, inr}
+use Rattle.std.specs.Prelude.{codes, map, Option, option_and_then, option_map, Result, is_some}
 use Rattle.std.specs.List.{Contains}
 use Rattle.serde_json.specs.Data.{Data}
 use Rattle.serde_json.specs.Find.{get}
 use Rattle.bundle_doc.specs.declared.document.BundleDoc.{BundleDoc}
-use Rattle.bundle_doc.specs.declared.fault.DocFault.{DocFault}
 use Rattle.bundle_doc.specs.declared.fault.DocFault.TheVariants.{MissingEntry, NotJson}
 use Rattle.bundle_doc.specs.Documents.{bundle_of, described, document_of, each_of, entries_of, in_entry, json_of, needed_text_at, object_or_none, of_object, text_at, told_apart}
 use Rattle.bundle_doc.specs.Entries.{described_entries}

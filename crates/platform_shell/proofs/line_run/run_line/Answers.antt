@@ -1,16 +1,19 @@
-use Rattle.std.proofs.Common.{◌∙◌, ◌&&◌, ap, inr, length, refl, sym}
+use Rattle.std.proofs.Common.{◌≡◌, ◌∙◌, ◌&&◌, ap, inr, length, refl, rules, sym, true}
 use Rattle.std.specs.Prelude.{◌==◌}
 use Rattle.platform_shell.specs.Asks.{Setting, commands_of}
+use Rattle.platform_shell.specs.Rests.{HasNothingDue}
 use Rattle.platform_shell.proofs.NothingDue.{still_nothing_due}
 use Rattle.platform_shell.proofs.Resting.{asks_still}
 use Rattle.platform_shell.proofs.line_run.run_line.Goals as goal
 
 pub rest-requires : goal.rest-requires
-rest-requires g c = λ is.
+rest-requires g c =
     let s : Setting = record { is_manual = c.args.manual; refuses = g.K.Kinds.refuses } in
     let after = c.carry_out.new.platform in
+    let still : c.rested_still-still.result ≡ true → HasNothingDue after = λ is.
     still_nothing_due s c.args.asked c.args.platform.now after c.in_ok-told.told c.args.rested c.in_ok-told.ensures c.requires
-    (ap (λ n. c.args.rested && (length after.journal == n)) (sym c.entries-before.ensures) ∙ sym c.rested_still-still.ensures ∙ is)
+    (ap (λ n. c.args.rested && (length after.journal == n)) (sym c.entries-before.ensures) ∙ sym c.rested_still-still.ensures ∙ is) in
+    (search rules, (search rules, still))
 
 pub returns-in-Ok : goal.returns-in-Ok
 returns-in-Ok g c =

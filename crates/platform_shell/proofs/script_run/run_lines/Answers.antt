@@ -59,9 +59,6 @@ loop-line-init g c =
       rested = λ is. absurd cc;
     }
 
-pub answer_line-requires : goal.answer_line-requires
-answer_line-requires g c = c.loop-line.invariant.rested
-
 pub returns-in-Err-clause-run : goal.returns-in-Err-clause-run
 returns-in-Err-clause-run g c =
     let s : Setting = record { is_manual = c.args.manual; refuses = g.K.Kinds.refuses } in
