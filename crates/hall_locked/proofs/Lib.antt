@@ -1,0 +1,5 @@
+mod Logs
+mod Appends
+mod Sites
+mod Kept
+mod Changes
