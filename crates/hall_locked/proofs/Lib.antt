@@ -3,3 +3,4 @@ mod Appends
 mod Sites
 mod Kept
 mod Changes
+mod Stretches

@@ -1,5 +1,5 @@
--- What lies under the lock of a hall, as contracts see it, and what its calls do. Our own; callbacks are OSGi Compendium 8, chapter 112,
--- component life cycle.
+-- What lies under the lock of a hall, as contracts see it, and what its calls do. Our own; callbacks are OSGi
+-- Compendium 8, chapter 112, component life cycle.
 use Rattle.std.specs.Prelude.{◌≡◌, ℕ, ◌==◌, List, ◌++◌, Option, Some, None, length, map, count_by}
 use Rattle.std.specs.List.{Contains}
 use Rattle.journal_core.specs.declared.entry.Entry.{Entry}
@@ -19,8 +19,8 @@ use Rattle.scr_world.specs.declared.instance.Instance.{Instance}
 use Rattle.scr_world.specs.declared.step.Step.{Step}
 use Rattle.scr_world.specs.declared.world.World.{World}
 
--- the core, the owner of each entry, the oldest first, the turns under way, each behind its owner, in the order in which they began, and what is
--- kept for the instances
+-- the core, the owner of each entry, the oldest first, the turns under way, each behind its owner, in the order in
+-- which they began, and what is kept for the instances
 pub record LockedView (O : Type 0) : Type 0 where
   pub core : CoreView
   pub owners : List ℕ
@@ -59,8 +59,8 @@ parts_of parts instance = count_by (λ part. part.instance == instance) parts
 abbrev pub IsSiteOf : {O : Type 0} → World → Part O → Type 0
 IsSiteOf w part = (i : Instance) → Contains w.instances i → i.number ≡ part.instance → part.site ≡ site_told w i
 
--- as many owners as entries; one token for each turn under way and none for any other; one part for each instance that was made and none for
--- any other, with its site
+-- as many owners as entries; one token for each turn under way and none for any other; one part for each instance
+-- that was made and none for any other, with its site
 pub record IsLocked {O : Type 0} (l : LockedView O) : Type 0 where
   pub owners : length l.owners ≡ length l.core.journal
   pub tokens : (turn : ℕ) → tokens_of (turn_numbers l.turns) turn ≡ one_if (is_under_way (world l.core) turn)

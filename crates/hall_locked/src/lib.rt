@@ -1,8 +1,8 @@
-//! What lies under the lock of a hall: the core with the owner of each entry, the tokens of the turns under way, and the object and
-//! the site of each living instance that was made.
+//! What lies under the lock of a hall: the core with the owner of each entry, the tokens of the turns under way, and
+//! the object and the site of each living instance that was made.
 //!
-//! A [`Locked`] is changed in stretches at the lock alone. Each change says which entries it appends, and under which owner, the
-//! number of the pass that made it; and the turns that other passes began are as they were.
+//! A [`Locked`] is changed in stretches at the lock alone. Each change says which entries it appends, and under which
+//! owner, the number of the pass that made it; and the turns that other passes began are as they were.
 #![tactic(auto)]
 
 mod locked;

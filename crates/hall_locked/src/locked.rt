@@ -17,12 +17,12 @@ use scr_core::{Accepted, Command, Core, CoreFault, Limits, Step, Turn};
 use std::alloc::{AllocError, Global};
 use std::marker::Model;
 
-/// What lies under the lock of a hall. Contracts see what they see of the core, the owner of each entry, the turns under way, each
-/// with its owner, and what is kept for the instances.
+/// What lies under the lock of a hall. Contracts see what they see of the core, the owner of each entry, the turns
+/// under way, each with its owner, and what is kept for the instances.
 ///
-/// Its journal is legal, and has as many owners as entries. A token is kept for each turn under way and none for any other, and a
-/// part for each living instance that was made, with the class and the properties that it was told at its Create or its last
-/// Modified, and for no other.
+/// Its journal is legal, and has as many owners as entries. A token is kept for each turn under way and none for any
+/// other, and a part for each living instance that was made, with the class and the properties that it was told at
+/// its Create or its last Modified, and for no other.
 #[derive(Drop)]
 pub struct Locked<O> {
     core: Core,
@@ -62,8 +62,12 @@ impl<O> Grows for Locked<O> {
     }
 }
 
+// Lets a value go whose parts needn't be named here.
+fn let_go<T: Drop>(_value: T) {}
+
 impl<O: Drop> Locked<O> {
-    /// A core with an empty journal, and nothing beside it. The limits have to be at most 4,194,304 entries and 1,000,000 turns.
+    /// A core with an empty journal, and nothing beside it. The limits have to be at most 4,194,304 entries and
+    /// 1,000,000 turns.
     ///
     /// # Errors
     /// Only want of memory.
@@ -97,7 +101,8 @@ impl<O: Drop> Locked<O> {
         self.core.note_legal();
     }
 
-    /// Takes a command for this owner, and answers as the core does. The entry of a command that changes something is the owner's.
+    /// Takes a command for this owner, and answers as the core does. The entry of a command that changes something is
+    /// the owner's.
     ///
     /// # Errors
     /// Those of [`scr_core::Core::command`]. A refused command leaves all as it was.
@@ -115,6 +120,7 @@ impl<O: Drop> Locked<O> {
         ensures refused { OnErr result (self.new ≡ self.old) }
     {
         if self.owners.reserve(1).is_err() {
+            let_go(command);
             return Err(CoreFault::OutOfMemory);
         }
         self.core.note_legal();
@@ -127,8 +133,8 @@ impl<O: Drop> Locked<O> {
         }
     }
 
-    /// Posts the first drain that is awaited, for this owner, and answers what is owed then. Where none is awaited, since another
-    /// pass posted it, all stays as it is.
+    /// Posts the first drain that is awaited, for this owner, and answers what is owed then. Where none is awaited,
+    /// since another pass posted it, all stays as it is.
     ///
     /// # Errors
     /// Only want of memory: all is then as it was, and the drains are left to whoever posts next.

@@ -4,8 +4,8 @@ ghost use Rattle.std.specs.Prelude.{◌≡◌, is_some};
 
 use scr_core::Core;
 
-/// Stands for the drains that a change left to be posted. It isn't `Drop`, and [`crate::Locked::post`] alone takes it: so whoever
-/// made the change can't forget them.
+/// Stands for the drains that a change left to be posted. It isn't `Drop`, and [`crate::Locked::post`] alone takes
+/// it: so whoever made the change can't forget them.
 pub struct Owed {
     posts: (),
 }
