@@ -58,7 +58,7 @@ impl<O> Grows for Locked<O> {
     ghost tie = { λ l. [] };
 
     fn length(&self) -> u64 {
-        self.owners.len() as u64
+        self.core.journal().length()
     }
 }
 
