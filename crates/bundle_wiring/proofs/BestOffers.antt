@@ -17,7 +17,7 @@ version_total =
     then_total (on_total (λ (v : Version). v.major) nat_cmp_total) (then_total (on_total (λ (v : Version). v.minor) nat_cmp_total)
     (then_total (on_total (λ (v : Version). v.micro) nat_cmp_total) (on_total (λ (v : Version). v.qualifier) nat_list_cmp_total)))
 
-placed_total : IsTotalOrder placed_cmp
+pub placed_total : IsTotalOrder placed_cmp
 placed_total =
     then_total (on_total (λ (p : Placed). p.offer.version) (back_total version_total))
     (then_total (on_total (λ (p : Placed). p.to) nat_cmp_total) (on_total (λ (p : Placed). p.place) nat_cmp_total))

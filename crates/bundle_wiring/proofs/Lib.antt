@@ -1,6 +1,13 @@
 pub mod BestOffers
+pub mod Candidates
+pub mod LeftBundles
 pub mod Machines
-pub mod OfferNames
-pub mod Rounds
+pub mod Mapped
+pub mod MissingNeeds
+pub mod OfferTables
+pub mod Places
+pub mod Resolutions
+pub mod Sets
+pub mod Stands
 pub mod VersionTexts
 pub mod WorkedWorlds

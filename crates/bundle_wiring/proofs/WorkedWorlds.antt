@@ -2,10 +2,10 @@
 use Rattle.std.proofs.Common.{◌≡◌, refl, ℕ, List, [], ◌∷◌, true, false, Some, None}
 use Rattle.std.specs.Prelude.{codes, filter}
 use Rattle.ldap_filter.specs.declared.comparison.Comparison.TheVariants.{Equal, AtLeast}
-use Rattle.ldap_filter.specs.Trees.{Tree, Every, Not, Compare, trees_of}
+use Rattle.ldap_filter.specs.Trees.{Tree, Every, Not, Compare, Present, trees_of}
 use Rattle.osgi_version.specs.declared.version.Version.{Version}
 use Rattle.prop_map.specs.Words.{has}
-use Rattle.bundle_wiring.specs.Resolution.{Bundle, is_consistent, version_of_numbers, wires_of}
+use Rattle.bundle_wiring.specs.Resolution.{Bundle, is_consistent, missing_need, version_of_numbers, wires_of}
 use Rattle.bundle_wiring.specs.declared.resolved.Wire.{Wire}
 use Rattle.bundle_wiring.specs.declared.wiring.Offer.{Offer}
 use Rattle.bundle_wiring.specs.declared.wiring.WireNeed.{WireNeed}
@@ -45,6 +45,9 @@ without_r = refl
 -- bundle 2 is in no consistent set
 not_all : is_consistent three ≡ false
 not_all = refl
+
+it_misses_r : missing_need (among (1 ∷ 3 ∷ []) three) (bundle 2 (imported (codes "r") ∷ []) (exported (codes "q") (version_of_numbers 1 2 0) ∷ [])) ≡ Some (imported (codes "r"))
+it_misses_r = refl
 
 not_alone : is_consistent (among (2 ∷ []) three) ≡ false
 not_alone = refl
@@ -92,3 +95,10 @@ with_log = refl
 
 wired_to_the_platform : wires_of together ≡ wire 1 0 2 0 ∷ wire 1 1 0 0 ∷ wire 1 2 0 1 ∷ []
 wired_to_the_platform = refl
+
+-- the offers of the platform have their version as an attribute too
+abbrev any_version : Bundle
+any_version = bundle 1 (required (codes "osgi.extender") (Present (codes "version")) ∷ required (codes "osgi.ee") (Present (codes "Version")) ∷ []) []
+
+with_any_version : wires_of (any_version ∷ []) ≡ wire 1 0 0 0 ∷ wire 1 1 0 1 ∷ []
+with_any_version = refl

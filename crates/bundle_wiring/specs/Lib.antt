@@ -4,7 +4,7 @@ pub mod Inside
 pub mod Placing
 pub mod Readings
 pub mod Resolution
-pub mod Rounds
+pub mod Standings
 pub mod Texts
 pub mod Versioned
 pub mod Wirings

@@ -1,19 +1,18 @@
 -- Which bundles resolve together, and their wires. OSGi Core 8, chapter 3 "Module Layer", "Dependencies" and "Resolving Process", without `uses`.
--- What bundle 0 offers is our own.
-use Rattle.std.specs.Prelude.{◌≡◌, ℕ, ◌+◌, ◌&&◌, ◌||◌, List, [], ◌∷◌, ◌++◌, codes, map, flat_map, filter, Bool, true, false, not, IsTrue, Option, Some, None, if◌then◌else◌}
+-- What bundle 0 offers, and which need of a bundle is told as missing, is our own.
+use Rattle.std.specs.Prelude.{◌≡◌, ℕ, ◌+◌, ◌&&◌, ◌||◌, List, [], ◌∷◌, ◌++◌, codes, map, flat_map, filter, find, Bool, true, false, not, IsTrue, Option, Some, None, if◌then◌else◌}
 use Rattle.std.specs.List.{list_all, list_any}
 use Rattle.std.specs.Ordering.{is_lt, nat_cmp, ordering_then}
 use Rattle.std.specs.Str.{bytes_eq}
 use Rattle.std.proofs.Math.Bool.{beq}
 use Rattle.ldap_filter.specs.Trees.{Tree}
 use Rattle.osgi_version.specs.Ranges.{includes}
-use Rattle.osgi_version.specs.Versions.{version_cmp}
+use Rattle.osgi_version.specs.Versions.{version_cmp, version_text}
 use Rattle.osgi_version.specs.declared.range.VersionRange.{VersionRange}
 use Rattle.osgi_version.specs.declared.version.Version.{Version}
-use Rattle.prop_map.specs.Maps.{put}
-use Rattle.prop_map.specs.declared.value.Value.TheVariants.{Text}
 use Rattle.std.specs.declared.cmp.Ordering.{Ordering}
 use Rattle.bundle_wiring.specs.Versioned.{matches_versioned}
+use Rattle.bundle_wiring.specs.Wirings.{properties_of}
 use Rattle.bundle_wiring.specs.declared.wiring.Offer.{Offer}
 use Rattle.bundle_wiring.specs.declared.wiring.WireNeed.{WireNeed}
 use Rattle.bundle_wiring.specs.declared.wiring.Wiring.{Wiring}
@@ -27,8 +26,10 @@ Bundle = ℕ × Wiring
 abbrev pub version_of_numbers : ℕ → ℕ → ℕ → Version
 version_of_numbers major minor micro = record { major = major; minor = minor; micro = micro; qualifier = [] }
 
+-- with the attributes that the offer of a manifest has whose clause says this value and this version
 abbrev pub platform_offer : List ℕ → List ℕ → Version → Offer
-platform_offer name value version = record { name = name; «package» = false; version = version; attributes = put [] name (Text value) }
+platform_offer name value version =
+    record { name = name; «package» = false; version = version; attributes = properties_of ((name, value) ∷ (codes "version", version_text version) ∷ []) }
 
 -- what bundle 0 offers
 abbrev pub platform_offers : List Offer
@@ -56,6 +57,10 @@ has_candidate set need = list_any (meets need) platform_offers || list_any (λ (
 -- each need of the bundle that isn't optional has a candidate in the set
 abbrev pub is_met : List Bundle → Bundle → Bool
 is_met set bundle = list_all (λ (need : WireNeed). need.optional || has_candidate set need) bundle.1.needs
+
+-- the first need of the bundle that isn't optional and has no candidate in the set
+abbrev pub missing_need : List Bundle → Bundle → Option WireNeed
+missing_need set bundle = find (λ (need : WireNeed). not (need.optional || has_candidate set need)) bundle.1.needs
 
 abbrev pub is_consistent : List Bundle → Bool
 is_consistent set = list_all (is_met set) set

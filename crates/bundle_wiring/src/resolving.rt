@@ -1,16 +1,16 @@
 //! The bundles that resolve together (OSGi Core 8, chapter 3 "Module Layer", "Resolving Process").
-ghost use Rattle.bundle_wiring.specs.Placing.{is_met_by, name_cmp, placed_of, some_placed};
-ghost use Rattle.bundle_wiring.specs.Resolution.{Bundle, IsResolution, is_met, meets, platform_offer, platform_offers, version_of_numbers};
-ghost use Rattle.bundle_wiring.specs.Rounds.{IsGreatestSet};
-ghost use Rattle.std.specs.List.{list_any};
-ghost use Rattle.std.specs.List.Sorted.{IsSorted};
-ghost use Rattle.std.specs.Prelude.{◌≡◌, IfOk, filter, map};
+ghost use Rattle.bundle_wiring.specs.Placing.{IsTable};
+ghost use Rattle.bundle_wiring.specs.Resolution.{Bundle, IsResolution, platform_offer, platform_offers, version_of_numbers};
+ghost use Rattle.bundle_wiring.specs.Standings.{IsSettled, left_of};
+ghost use Rattle.bundle_wiring.specs.Wirings.{properties_of};
+ghost use Rattle.osgi_version.specs.Versions.{version_text};
+ghost use Rattle.std.specs.Prelude.{◌≡◌, IfOk, [], ◌∷◌, codes, map};
 
-use crate::matching::meets;
-use crate::offer_names::{named, offers_by_name};
+use crate::offer_table::{is_left, offer_table};
 use crate::placed_offers::PlacedOffer;
+use crate::standings::{Stand, look_on, some_lost, stands_of, strike_lost};
 use crate::wires::wires_of;
-use crate::{Offer, Resolved, WireNeed, Wiring};
+use crate::{Offer, Resolved, Wiring};
 use osgi_version::{Qualifier, Version};
 use prop_map::{List, OutOfMemory, Properties, Shared, Str, Value};
 use std::alloc::Global;
@@ -28,110 +28,58 @@ pub fn resolve(alloc: Global, bundles: &[(u64, Wiring)]) -> Result<Resolved, Out
     ensures { IfOk result (λ resolved. IsResolution bundles.now resolved) }
 {
     let platform = platform_offers(alloc)?;
-    let set = greatest(alloc, platform.as_slice(), bundles)?;
-    let wires = wires_of(alloc, platform.as_slice(), set.as_slice())?;
-    let numbers = numbers_of(alloc, set.as_slice())?;
+    let offers = offer_table(alloc, platform.as_slice(), bundles)?;
+    let table = offers.as_slice();
+    let settled = settle(alloc, table, bundles)?;
+    let left = settled.left.as_slice();
+    let stands = settled.stands.as_slice();
+    let wires = wires_of(alloc, table, left, stands)?;
+    let numbers = numbers_of(alloc, left, bundles)?;
     Ok(Resolved {
         bundles: List::of(numbers),
         wires: List::of(wires),
     })
 }
 
-fn numbers_of(alloc: Global, set: &[&(u64, Wiring)]) -> Result<Vec<u64>, OutOfMemory>
-    ensures { IfOk result (λ numbers. numbers.items ≡ map (λ (b : Bundle). b.0) (map (λ b. b.now) set.now)) }
+fn numbers_of(
+    alloc: Global,
+    left: &[bool],
+    bundles: &[(u64, Wiring)],
+) -> Result<Vec<u64>, OutOfMemory>
+    ensures { IfOk result (λ numbers. numbers.items ≡ map (λ (b : Bundle). b.0) (left_of left.now bundles.now)) }
 {
     let mut numbers = Vec::new(alloc);
-    for bundle in set {
-        numbers.push(bundle.0)?;
+    for (home, bundle) in bundles.iter().enumerate() {
+        if is_left(left, home) {
+            numbers.push(bundle.0)?;
+        }
     }
     Ok(numbers)
 }
 
-// Bundles whose needs aren't met go, round by round, until all that are left have theirs met.
-fn greatest<'b>(
+/// Which bundles are left, and where each need stands.
+#[derive(Drop)]
+struct Settled<'b> {
+    left: Vec<bool>,
+    stands: Vec<Stand<'b>>,
+}
+
+// Bundles that lack a candidate are struck out, and the needs whose candidate was theirs look on, until none lacks one.
+fn settle<'b>(
     alloc: Global,
-    platform: &'b [Offer],
+    table: &[PlacedOffer],
     bundles: &'b [(u64, Wiring)],
-) -> Result<Vec<&'b (u64, Wiring)>, OutOfMemory>
-    requires { platform.now ≡ platform_offers }
-    ensures { IfOk result (λ set. IsGreatestSet bundles.now (map (λ b. b.now) set.items)) }
+) -> Result<Settled<'b>, OutOfMemory>
+    requires { IsTable bundles.now table.now }
+    ensures { IfOk result (λ settled. IsSettled bundles.now table.now settled.left.items settled.stands.items) }
 {
-    let mut set = all_of(alloc, bundles)?;
-    'rounds: loop {
-        let met = met_in(alloc, platform, set.as_slice())?;
-        if met.len() == set.len() {
-            return Ok(set);
-        }
-        set = met;
+    let mut left = vec![in alloc; true; bundles.len()]?;
+    let mut stands = stands_of(alloc, table, left.as_slice(), bundles)?;
+    'rounds: while some_lost(table, left.as_slice(), stands.as_slice()) {
+        strike_lost(table, left.as_mut_slice(), stands.as_slice());
+        look_on(table, left.as_slice(), stands.as_mut_slice());
     }
-}
-
-fn all_of<'b>(
-    alloc: Global,
-    bundles: &'b [(u64, Wiring)],
-) -> Result<Vec<&'b (u64, Wiring)>, OutOfMemory>
-    ensures { IfOk result (λ set. map (λ b. b.now) set.items ≡ bundles.now) }
-{
-    let mut set = Vec::new(alloc);
-    for bundle in bundles {
-        set.push(bundle)?;
-    }
-    Ok(set)
-}
-
-// The bundles of a set whose needs are met in it.
-fn met_in<'b>(
-    alloc: Global,
-    platform: &'b [Offer],
-    set: &[&'b (u64, Wiring)],
-) -> Result<Vec<&'b (u64, Wiring)>, OutOfMemory>
-    requires { platform.now ≡ platform_offers }
-    ensures { IfOk result (λ met. map (λ b. b.now) met.items ≡ filter (is_met (map (λ b. b.now) set.now)) (map (λ b. b.now) set.now)) }
-{
-    let offers = offers_by_name(alloc, platform, set)?;
-    met_by(alloc, offers.as_slice(), set)
-}
-
-fn met_by<'b>(
-    alloc: Global,
-    offers: &[PlacedOffer],
-    set: &[&'b (u64, Wiring)],
-) -> Result<Vec<&'b (u64, Wiring)>, OutOfMemory>
-    requires { IsSorted name_cmp offers.now }
-    ensures { IfOk result (λ met. map (λ b. b.now) met.items ≡ filter (is_met_by (map placed_of offers.now)) (map (λ b. b.now) set.now)) }
-{
-    let mut met = Vec::new(alloc);
-    for bundle in set {
-        if is_met(offers, bundle) {
-            met.push(*bundle)?;
-        }
-    }
-    Ok(met)
-}
-
-fn is_met(offers: &[PlacedOffer], bundle: &(u64, Wiring)) -> bool
-    requires { IsSorted name_cmp offers.now }
-    ensures { result ≡ is_met_by (map placed_of offers.now) bundle.now }
-{
-    for need in bundle.1.needs.as_slice() {
-        if !need.optional && !has_candidate(offers, need) {
-            return false;
-        }
-    }
-    true
-}
-
-fn has_candidate(offers: &[PlacedOffer], need: &WireNeed) -> bool
-    requires { IsSorted name_cmp offers.now }
-    ensures { result ≡ some_placed (map placed_of offers.now) need.now }
-{
-    some_meets(named(offers, need.name.as_str()), need)
-}
-
-fn some_meets(offers: &[PlacedOffer], need: &WireNeed) -> bool
-    ensures { result ≡ list_any (λ o. meets need.now o.offer.now) offers.now }
-{
-    offers.iter().any(|offer| meets(need, offer.offer))
+    Ok(Settled { left, stands })
 }
 
 fn platform_offers(alloc: Global) -> Result<Vec<Offer>, OutOfMemory>
@@ -164,13 +112,27 @@ fn platform_offer(
 ) -> Result<Offer, OutOfMemory>
     ensures { IfOk result (λ offer. offer ≡ platform_offer name.now value.now version) }
 {
-    let mut attributes = Properties::new(alloc);
-    let value = Value::Text(Str::of(String::from_str(alloc, value)?));
-    attributes.set(alloc, name, value)?;
+    let attributes = platform_attributes(alloc, name, value, &version)?;
     Ok(Offer {
         name: Str::of(String::from_str(alloc, name)?),
         package: false,
         version: Shared::of(alloc, version)?,
         attributes: Shared::of(alloc, attributes)?,
     })
+}
+
+fn platform_attributes(
+    alloc: Global,
+    name: &str,
+    value: &str,
+    version: &Version,
+) -> Result<Properties, OutOfMemory>
+    ensures { IfOk result (λ attributes. attributes ≡ properties_of ((name.now, value.now) ∷ (codes "version", version_text version.now) ∷ [])) }
+{
+    let mut attributes = Properties::new(alloc);
+    let value = Value::Text(Str::of(String::from_str(alloc, value)?));
+    attributes.set(alloc, name, value)?;
+    let version = Value::Text(Str::of(version.text(alloc)?));
+    attributes.set(alloc, "version", version)?;
+    Ok(attributes)
 }

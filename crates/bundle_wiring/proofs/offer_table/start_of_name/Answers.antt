@@ -1,0 +1,12 @@
+use Rattle.std.proofs.Common.{rules}
+use Rattle.std.specs.Ordering.{is_lt}
+use Rattle.std.proofs.lemmas.List.Sorted.{IsPartitionPoint-from_clause}
+use Rattle.bundle_wiring.specs.Placing.{cmp_to}
+use Rattle.bundle_wiring.proofs.OfferTables.{parted_before}
+use Rattle.bundle_wiring.proofs.offer_table.start_of_name.Goals as goal
+
+pub returns : goal.returns
+returns c =
+    let name = c.args.name.now in
+    let table = c.args.table.now in
+    (IsPartitionPoint-from_clause (λ o. is_lt (cmp_to name o)) _ _ c.partition_point.ensures.partitioned (parted_before table name c.requires) (λ a r q k. search rules)).0
