@@ -1,0 +1,6 @@
+mod Logs
+mod Appends
+mod Sites
+mod Kept
+mod Changes
+mod Stretches

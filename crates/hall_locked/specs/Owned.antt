@@ -1,0 +1,30 @@
+-- Entries and turns, each with its owner, the number of a pass. Our own.
+use Rattle.std.specs.Prelude.{ℕ, ◌*◌, ◌==◌, List, [], ◌∷◌, ◌++◌, length, map, nat_lt, if◌then◌else◌}
+
+module _ {E : Type 0} where
+  -- each entry with its owner
+  abbrev pub owned : List ℕ → List E → List (ℕ × E)
+  owned [] es = []
+  owned (o ∷ os) [] = []
+  owned (o ∷ os) (e ∷ es) = (o, e) ∷ owned os es
+
+-- the owners once one more is written down, where there are fewer than so many
+abbrev pub owners_up_to : ℕ → ℕ → List ℕ → List ℕ
+owners_up_to count owner os = if nat_lt (length os) count then os ++ owner ∷ [] else os
+
+-- ---- turns that have begun: the owner, and the number of the turn
+
+abbrev pub turn_numbers : List (ℕ × ℕ) → List ℕ
+turn_numbers turns = map (λ (t : ℕ × ℕ). t.1) turns
+
+-- those that are left once a turn has ended
+abbrev pub without_turn : ℕ → List (ℕ × ℕ) → List (ℕ × ℕ)
+without_turn turn [] = []
+without_turn turn (t ∷ ts) = if t.1 == turn then ts else t ∷ without_turn turn ts
+
+-- a turn as a thing that is kept for a pass: things are numbers, those of turns the even ones
+abbrev pub turn_thing : ℕ → ℕ
+turn_thing turn = 2 * turn
+
+abbrev pub as_kept : ℕ × ℕ → ℕ × ℕ
+as_kept begun = (begun.0, turn_thing begun.1)

@@ -1,0 +1,28 @@
+//! Drains that are still to be posted.
+ghost use Rattle.platform_hall.specs.Platforms.{has_drain};
+ghost use Rattle.std.specs.Prelude.{◌≡◌, is_some};
+
+use scr_core::Core;
+
+/// Stands for the drains that a change left to be posted. It isn't `Drop`, and [`crate::Locked::post`] alone takes
+/// it: so whoever made the change can't forget them.
+pub struct Owed {
+    posts: (),
+}
+
+impl Owed {
+    pub(crate) fn spend(self) {
+        let Owed { posts } = self;
+        posts
+    }
+}
+
+// What is owed: something exactly where an instance awaits its drain.
+pub(crate) fn owed_by(core: &Core) -> Option<Owed>
+    ensures { is_some result ≡ has_drain core.now }
+{
+    match core.next_drain() {
+        Some(_) => Some(Owed { posts: () }),
+        None => None,
+    }
+}
