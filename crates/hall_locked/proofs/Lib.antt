@@ -4,3 +4,4 @@ mod Sites
 mod Kept
 mod Changes
 mod Stretches
+mod Sends

@@ -9,7 +9,9 @@ mod locked;
 mod owed;
 mod owners;
 mod part;
+mod sending;
 
 pub use locked::Locked;
 pub use owed::Owed;
 pub use part::Part;
+pub use sending::locked_is_send;

@@ -1,0 +1,30 @@
+-- What lies under the lock may go to another thread, where its objects may be shared by threads and go from one to
+-- another: by the core's own proof, and by the fields beside it, each in its turn.
+use denote.RattleType.{RattleType}
+use denote.Param.Send.{IsSend, IsSync, recorded_send, sendable, struct_send, view_send}
+use denote.Struct.Declared.{shape}
+use Rattle.std.proofs.Crossing.{Arc-send, Vec-send}
+use Rattle.scr_core.proofs.Sends.{core_send}
+use Rattle.turn_work.proofs.site.Site.TheSendSync as site
+use Rattle.hall_locked.specs.contracts.locked.Locked as Locked
+use Rattle.hall_locked.specs.contracts.locked.Locked.TheInside as Inside
+use Rattle.hall_locked.specs.contracts.part.Part as Part
+
+module _ (O : RattleType) (sends : IsSend O) (syncs : IsSync O) where
+  part_send : IsSend (Part.the_row O)
+  part_send =
+      recorded_send _ _ _ (Part.the_type O).to_one
+      (struct_send (shape (Part.the_type O)) (search sendable, (Arc-send O sends syncs, (site.the_field_send, tt))))
+
+  inside_send : IsSend (Inside.the_row O)
+  inside_send =
+      recorded_send _ _ _ (Inside.the_type O).to_one (struct_send (shape (Inside.the_type O)) (
+        core_send,
+        (
+          Vec-send _ (search sendable),
+          (Vec-send _ (search sendable depth 60 fits 20000), (Vec-send _ part_send, tt)),
+        ),
+      ))
+
+  pub locked_send : IsSend (Locked.the_row O)
+  locked_send = view_send _ _ _ _ _ inside_send
