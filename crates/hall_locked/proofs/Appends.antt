@@ -1,18 +1,15 @@
 -- Changes that append one entry for an owner, or none.
-use Rattle.std.proofs.Common.{◌≡◌, ◌⊎◌, ℕ, ◌+◌, List, [], ◌∷◌, ◌++◌, length, ap, sym, ◌∙◌, refl, inl, inr, Bool, true, false, Err, arith}
+use Rattle.std.proofs.Common.{◌≡◌, ◌⊎◌, ℕ, ◌+◌, List, [], ◌∷◌, ◌++◌, length, ap, sym, ◌∙◌, inl, inr, Bool, true, false, Err, arith}
 use Rattle.std.proofs.lemmas.List.{append-nil, length-append}
 use Rattle.journal_core.specs.declared.entry.Entry.{Entry}
 use Rattle.hall_locked.specs.Locks.{AppendsFor, LockedView}
 use Rattle.hall_locked.specs.Owned.{owned, owners_up_to}
 use Rattle.hall_locked.proofs.Logs.{owned_more, up_to_more, up_to_same}
 use Rattle.scr_world.specs.Calls.{Commands, Grown, GrownIf}
-use Rattle.scr_world.specs.Replies.{changes}
 use Rattle.scr_world.specs.declared.command.Command.{Command}
-use Rattle.scr_world.specs.declared.reply.Accepted.{Accepted}
 use Rattle.scr_world.specs.declared.reply.CoreFault.{CoreFault}
 use Rattle.scr_world.specs.declared.reply.CoreFault.TheVariants.{NoBundle, NoComponent, WrongState, Stopping, SameName, Cycle, BundlesFull, ComponentsFull, ServicesFull, ConfigurationsFull, ListenersFull, NoService, NotOwner, NotUsing, NoListener, NoConfiguration, BadPid, FactoryClash, ActivationFailed, ActivationNoMemory, JournalFull, OutOfMemory}
 use Rattle.scr_world.specs.declared.step.Step.{Step}
-use Rattle.scr_world.specs.declared.step.Step.TheVariants.{Command as Commanded}
 
 -- one list with one more at its end, or the same
 abbrev pub GrowsByOne : List (Entry Step) → List (Entry Step) → Type 0

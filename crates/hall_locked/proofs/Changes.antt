@@ -1,6 +1,6 @@
 -- What commands and drains leave.
-use Rattle.std.proofs.Common.{◌≡◌, ℕ, List, ap, sym, ◌∙◌, refl, subst, Bool, true, false, Ok, Err, Some, None, Option}
-use Rattle.std.specs.Prelude.{find, is_some, option_map}
+use Rattle.std.proofs.Common.{◌≡◌, ℕ, List, sym, refl, subst, Bool, true, false, Ok, Some, None, Option}
+use Rattle.std.specs.Prelude.{find, option_map}
 use Rattle.std.specs.List.{list_any}
 use Rattle.component_state.proofs.Apart.{any_from}
 use Rattle.journal_core.specs.declared.entry.Entry.{Entry}

@@ -1,12 +1,12 @@
 -- What the value under the lock keeps stays as its journal says, at each change.
 use Rattle.std.proofs.Common.{◌≡◌, ℕ, List, [], ap, sym, ◌∙◌, refl, subst, Bool, true, false, ◌&&◌, ◌||◌}
 use Rattle.std.specs.Prelude.{length, ◌==◌}
-use Rattle.std.specs.List.{Contains, list_any}
+use Rattle.std.specs.List.{Contains}
 use Rattle.component_state.proofs.Apart.{in_none}
 use Rattle.journal_core.specs.declared.entry.Entry.{Entry}
 use Rattle.prop_map.specs.Words.{one_if}
 use Rattle.hall_locked.specs.declared.part.Part.{Part}
-use Rattle.hall_locked.specs.Locks.{IsLocked, IsSiteOf, LockedView, parts_of, site_told}
+use Rattle.hall_locked.specs.Locks.{IsLocked, LockedView, parts_of}
 use Rattle.hall_locked.specs.Owned.{turn_numbers}
 use Rattle.hall_locked.proofs.Sites.{SitesStay}
 use Rattle.platform_hall.specs.Desks.{tokens_of}
@@ -16,7 +16,6 @@ use Rattle.scr_core.specs.Cores.{CoreView}
 use Rattle.scr_world.specs.Calls.{world_at}
 use Rattle.scr_world.specs.Legal.{is_under_way}
 use Rattle.scr_world.specs.Lists.{world_of}
-use Rattle.scr_world.specs.declared.instance.Instance.{Instance}
 use Rattle.scr_world.specs.declared.step.Step.{Step}
 
 -- nothing is kept beside an empty journal

@@ -5,3 +5,7 @@ mod Kept
 mod Changes
 mod Stretches
 mod Sends
+mod Counts
+mod Told
+mod Turning
+mod Placed

@@ -1,15 +1,14 @@
 -- What an instance was told of itself stays while the instance and its properties stay.
-use Rattle.std.proofs.Common.{◌≡◌, ℕ, List, [], ◌∷◌, ◌++◌, ap, sym, ◌∙◌, refl, subst, cond, true, false}
+use Rattle.std.proofs.Common.{◌≡◌, ℕ, List, [], ◌∷◌, ap, sym, ◌∙◌, refl, subst, cond, true, false}
 use Rattle.std.specs.Prelude.{map, ◌==◌}
 use Rattle.std.specs.List.{Contains}
 use Rattle.std.specs.Option.{option_map_or}
 use Rattle.component_dto.specs.declared.description.Description.{Description}
 use Rattle.component_state.specs.declared.component.Component.{Component}
-use Rattle.component_state.specs.declared.origin.Origin.{Origin}
 use Rattle.journal_core.specs.declared.entry.Entry.{Entry}
 use Rattle.prop_map.specs.declared.properties.Property.{Property}
 use Rattle.hall_locked.specs.Locks.{site_told}
-use Rattle.platform_hall.proofs.Steps.{IsAfter, grown_after, history_append}
+use Rattle.platform_hall.proofs.Steps.{grown_after, history_append}
 use Rattle.scr_laws.proofs.InstanceLemmas.{mapped_was}
 use Rattle.scr_promises.proofs.InstanceComponents.{component_kept}
 use Rattle.scr_world.specs.Calls.{Grown, world_at}

@@ -1,14 +1,14 @@
 -- A change of the value under the lock: it keeps what its type keeps, and its entries are the owner's.
-use Rattle.std.proofs.Common.{◌≡◌, ℕ, List, ap, sym, ◌∙◌, refl, subst, Ok, Err}
+use Rattle.std.proofs.Common.{◌≡◌, ℕ, List, ap, sym, ◌∙◌, subst, Ok}
 use Rattle.std.specs.Prelude.{length}
 use Rattle.journal_core.specs.declared.entry.GateKey.{GateKey}
 use Rattle.hall_locked.specs.Locks.{AppendsFor, IsLocked, LockedView}
 use Rattle.hall_locked.specs.Owned.{owners_up_to}
-use Rattle.hall_locked.proofs.Appends.{GrowsByOne, appends_for, appends_none, as_many, refused_same}
+use Rattle.hall_locked.proofs.Appends.{GrowsByOne, appends_for, appends_none, as_many}
 use Rattle.hall_locked.proofs.Changes.{drain_alike, drain_grows, drain_sites, taken_grows, taken_sites}
 use Rattle.hall_locked.proofs.Kept.{locked_alike}
 use Rattle.hall_locked.proofs.Sites.{SitesStay}
-use Rattle.platform_hall.specs.Platforms.{CoreTakes, world}
+use Rattle.platform_hall.specs.Platforms.{world}
 use Rattle.platform_hall.proofs.Commanding.{commands_alike}
 use Rattle.platform_hall.proofs.Desks.{same_view}
 use Rattle.platform_hall.proofs.Settlings.{HasLegal}
@@ -17,7 +17,6 @@ use Rattle.scr_core.specs.Cores.{CoreView}
 use Rattle.scr_world.specs.Calls.{Commands, Drains}
 use Rattle.scr_world.specs.declared.command.Command.{Command}
 use Rattle.scr_world.specs.declared.reply.Accepted.{Accepted}
-use Rattle.scr_world.specs.declared.reply.CoreFault.{CoreFault}
 
 module _ {O : Type 0} where
   -- with another core and other owners

@@ -1,5 +1,5 @@
 -- Entries and turns, each with its owner, the number of a pass. Our own.
-use Rattle.std.specs.Prelude.{ℕ, ◌*◌, ◌==◌, List, [], ◌∷◌, ◌++◌, length, map, nat_lt, if◌then◌else◌}
+use Rattle.std.specs.Prelude.{ℕ, ◌*◌, ◌==◌, List, [], ◌∷◌, ◌++◌, filter, length, map, nat_lt, not, if◌then◌else◌}
 
 module _ {E : Type 0} where
   -- each entry with its owner
@@ -19,8 +19,7 @@ turn_numbers turns = map (λ (t : ℕ × ℕ). t.1) turns
 
 -- those that are left once a turn has ended
 abbrev pub without_turn : ℕ → List (ℕ × ℕ) → List (ℕ × ℕ)
-without_turn turn [] = []
-without_turn turn (t ∷ ts) = if t.1 == turn then ts else t ∷ without_turn turn ts
+without_turn turn turns = filter (λ (t : ℕ × ℕ). not (t.1 == turn)) turns
 
 -- a turn as a thing that is kept for a pass: things are numbers, those of turns the even ones
 abbrev pub turn_thing : ℕ → ℕ

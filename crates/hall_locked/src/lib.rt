@@ -9,7 +9,10 @@ mod locked;
 mod owed;
 mod owners;
 mod part;
+mod parts;
+mod room;
 mod sending;
+mod turns;
 
 pub use locked::Locked;
 pub use owed::Owed;

@@ -1,21 +1,30 @@
 //! The value under the lock.
-ghost use Rattle.hall_locked.specs.Locks.{AppendsFor, IsLocked, PostsOne};
-ghost use Rattle.platform_hall.specs.Platforms.{CoreTakes, has_drain};
+ghost use Rattle.front_lock.specs.Keepings.{kept_under};
+ghost use Rattle.hall_locked.specs.Locks.{AppendsFor, IsLocked, PostsOne, turns_kept};
+ghost use Rattle.hall_locked.specs.Owned.{without_turn};
+ghost use Rattle.hall_locked.specs.Parts.{ArePartsLeft, has_begun, parts_begun, with_begun};
+ghost use Rattle.platform_hall.specs.Platforms.{BeginsTurn, CoreTakes, Ends, has_drain, running};
 ghost use Rattle.scr_core.specs.Cores.{AreWithinGreatest};
 ghost use Rattle.scr_world.specs.Legal.{IsLegal};
 ghost use Rattle.scr_world.specs.Steps.{history_of};
 ghost use Rattle.scr_world.specs.declared.reply.CoreFault.TheVariants.{OutOfMemory as NoMemory};
-ghost use Rattle.std.specs.Prelude.{◌≡◌, [], Ok, Err, IfErr, IfOk, MatchResult, OnErr, is_some};
+ghost use Rattle.std.specs.Arc.{arc_value};
+ghost use Rattle.std.specs.Prelude.{◌≡◌, ℕ, [], Ok, Err, IfErr, IfOk, MatchResult, OnErr, OnOk, false, is_some};
+ghost use Rattle.turn_runner.specs.Outcomes.{IsRunOf};
 
 use crate::owed::{Owed, owed_by};
 use crate::owners::note_owner;
 use crate::part::Part;
+use crate::parts::{keep, tell_site};
+use crate::room::{let_go, room_in};
+use crate::turns::{put_again, take_out};
 use front_lock::Grows;
 use journal_core::Entry;
 use prop_map::OutOfMemory;
-use scr_core::{Accepted, Command, Core, CoreFault, Limits, Step, Turn};
+use scr_core::{Accepted, Command, Core, CoreFault, Limits, Step, Taken, Turn};
 use std::alloc::{AllocError, Global};
 use std::marker::Model;
+use turn_runner::Ran;
 
 /// What lies under the lock of a hall. Contracts see what they see of the core, the owner of each entry, the turns
 /// under way, each with its owner, and what is kept for the instances.
@@ -61,9 +70,6 @@ impl<O> Grows for Locked<O> {
         self.core.journal().length()
     }
 }
-
-// Lets a value go whose parts needn't be named here.
-fn let_go<T: Drop>(_value: T) {}
 
 impl<O: Drop> Locked<O> {
     /// A core with an empty journal, and nothing beside it. The limits have to be at most 4,194,304 entries and
@@ -165,6 +171,86 @@ impl<O: Drop> Locked<O> {
                 Ok(owed_by(&self.core))
             }
             Err(error) => Err(error),
+        }
+    }
+
+    /// Begins the first due turn for this owner, and answers its number: `None` exactly where none is due. Its work
+    /// is what the core says of the turn. The part of its instance, if there is one, has the site of that work then;
+    /// the other parts, and the other turns, are as they were.
+    ///
+    /// # Errors
+    /// `JournalFull` exactly where a turn is due and the journal has no room for it; otherwise only want of memory.
+    /// All is then as it was.
+    pub fn take(&mut self, alloc: Global, owner: u64) -> Result<Option<u64>, CoreFault>
+        ensures answer { BeginsTurn self.old.core result self.new.core }
+        ensures appended { AppendsFor owner self.old self.new }
+        ensures turns { self.new.turns ≡ with_begun owner result self.old.turns }
+        ensures parts { self.new.parts ≡ parts_begun self.new.core result self.old.parts }
+        ensures refused { OnErr result (self.new ≡ self.old) }
+    {
+        if room_in(&mut self.owners, &mut self.turns).is_err() {
+            return Err(CoreFault::OutOfMemory);
+        }
+        self.core.note_legal();
+        match self.core.take_turn(alloc) {
+            Ok(Taken::Turn(token, work)) => {
+                let number = work.number;
+                self.turns.push_reserved((owner, token));
+                note_owner(&self.core, &mut self.owners, owner);
+                tell_site(&mut self.parts, work);
+                Ok(Some(number))
+            }
+            Ok(Taken::Idle) => Ok(None),
+            Err(CoreFault::JournalFull) => Err(CoreFault::JournalFull),
+            Err(CoreFault::OutOfMemory) => Err(CoreFault::OutOfMemory),
+            Err(_) => unreachable!(),
+        }
+    }
+
+    /// Ends a turn that is under way with what it came to, whoever began it, and answers what is owed then. The entry
+    /// is this owner's. The object that the turn made is kept, and that of an instance that was destroyed is let go.
+    ///
+    /// # Errors
+    /// Only want of memory: what the turn came to comes back, and all is as it was.
+    pub fn done(
+        &mut self,
+        alloc: Global,
+        owner: u64,
+        turn: u64,
+        ran: Ran<O>,
+    ) -> Result<Option<Owed>, (Ran<O>, OutOfMemory)>
+        requires run { IsRunOf (running self.old.core turn) ran.outcome (is_some ran.made) }
+        ensures ended { OnOk result (Ends self.old.core turn ran.outcome self.new.core) }
+        ensures appended { AppendsFor owner self.old self.new }
+        ensures turns { OnOk result (self.new.turns ≡ without_turn turn self.old.turns) }
+        ensures others { (n : ℕ) → has_begun n turn self.old.turns ≡ false → kept_under n (turns_kept self.new) ≡ kept_under n (turns_kept self.old) }
+        ensures parts { OnOk result (ArePartsLeft arc_value (running self.old.core turn) ran.made self.old.parts self.new.parts) }
+        ensures owed { IfOk result (λ left. is_some left ≡ has_drain self.new.core) }
+        ensures err { OnErr result (self.new ≡ self.old) }
+        ensures back { IfErr result (λ e. e.0 ≡ ran) }
+    {
+        if room_in(&mut self.owners, &mut self.parts).is_err() {
+            return Err((ran, AllocError));
+        }
+        self.core.note_legal();
+        let work = match self.core.turn_work(alloc, turn) {
+            Ok(Some(work)) => work,
+            Ok(None) => unreachable!(),
+            Err(error) => return Err((ran, error)),
+        };
+        let out = take_out(&mut self.turns, turn);
+        match self.core.done(alloc, out.turn, ran.outcome) {
+            Ok(ended) => {
+                let_go(ended);
+                note_owner(&self.core, &mut self.owners, owner);
+                keep(&mut self.parts, work, ran.made);
+                Ok(owed_by(&self.core))
+            }
+            Err((token, error)) => {
+                let_go(work);
+                put_again(&mut self.turns, out.place, out.owner, token);
+                Err((ran, error))
+            }
         }
     }
 }
