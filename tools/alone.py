@@ -6,10 +6,13 @@ import importlib.util
 import os
 import shutil
 import sys
+import threading
 from pathlib import Path
 
 sys.dont_write_bytecode = True
 PARTS = ("src", "specs", "proofs")
+# rt reads the crates of the folder that a process is in, which its threads share.
+IN_A_FOLDER = threading.Lock()
 
 
 def toolchain():
@@ -27,12 +30,13 @@ RT = toolchain()
 
 def crates_at(top):
     """The crates of the repository there, by name."""
-    here = os.getcwd()
-    os.chdir(top)
-    try:
-        return {it.name: it for it in RT.crates_of(str(top))}
-    finally:
-        os.chdir(here)
+    with IN_A_FOLDER:
+        here = os.getcwd()
+        os.chdir(top)
+        try:
+            return {it.name: it for it in RT.crates_of(str(top))}
+        finally:
+            os.chdir(here)
 
 
 def text_of(top, crate):
