@@ -44,12 +44,21 @@ def pairs_of(edit):
     return pairs
 
 
+def refuser_of(crate, edit):
+    """The crate whose proof refuses the edit: its own, or the one above it that a line `above: CRATE` names, as one that
+    computes definitions on examples."""
+    lines = edit.read_text().splitlines()
+    return next((it.removeprefix("above: ").strip() for it in lines if it.startswith("above: ")), crate)
+
+
 def why_not_applicable(top, crate, edit):
     """Why the edit can't be applied to the crate as it stands, or None: each text that it replaces stands once in its file."""
     texts = {}
     pairs = pairs_of(edit)
     if not pairs:
         return "it has no pair of lines 'old:' and 'new:'"
+    if not (top / "crates" / refuser_of(crate, edit)).is_dir():
+        return f"there is no crate {refuser_of(crate, edit)}"
     for path, old, new in pairs:
         if not path or not old:
             return "a 'new:' line stands before any 'file:' or 'old:' line"
