@@ -5,3 +5,4 @@ mod ContentsAfter
 mod Starts
 mod Stops
 mod ComponentFlags
+mod EnabledAlready

@@ -1,5 +1,6 @@
 //! Which components of a bundle are enabled (OSGi Compendium 8, chapter 112, "Enabled").
 ghost use Rattle.component_dto.specs.declared.description.Description.{Description};
+ghost use Rattle.scr_starting.specs.Enabled.{are_enabled, has_disabled};
 ghost use Rattle.scr_world.specs.Replies.{flag_of};
 ghost use Rattle.scr_world.specs.Tables.{defaults, with_flag};
 ghost use Rattle.std.specs.List.{list_any};
@@ -25,6 +26,25 @@ pub(crate) fn flag_of(descriptions: &[Description], enabled: &[bool], name: &Str
 {
     for (description, enabled) in descriptions.iter().zip(enabled) {
         if description.name == *name && *enabled {
+            return true;
+        }
+    }
+    false
+}
+
+/// Whether each description of this name is enabled, so that to enable it changes no flag. It takes no memory.
+pub(crate) fn are_enabled(descriptions: &[Description], enabled: &[bool], name: &Str) -> bool
+    ensures { result ≡ are_enabled name.now descriptions.now enabled.now }
+{
+    enabled.len() <= descriptions.len() && !has_disabled(descriptions, enabled, name)
+}
+
+// Whether a description of this name isn't enabled.
+fn has_disabled(descriptions: &[Description], enabled: &[bool], name: &Str) -> bool
+    ensures { result ≡ has_disabled name.now descriptions.now enabled.now }
+{
+    for (description, enabled) in descriptions.iter().zip(enabled) {
+        if description.name == *name && !*enabled {
             return true;
         }
     }

@@ -10,10 +10,12 @@ ghost use Rattle.scr_world.specs.declared.step.Step.TheVariants.{Command as Comm
 ghost use Rattle.std.specs.Prelude.{◌≡◌, IfOk, None, Some, map, true};
 
 use crate::contents_after::flagged;
-use crate::known_components::{component_refusal, is_enabled};
+use crate::known_components::{component_refusal, is_all_enabled, is_enabled};
 use journal_core::Journal;
 use prop_map::{OutOfMemory, Str};
-use scr_judgements::{Judgement, TablesAfter, are_too_many, asked_with, change, change_freely};
+use scr_judgements::{
+    Judgement, TablesAfter, are_too_many, asked_with, change, change_freely, has_room_for_command,
+};
 use scr_state::State;
 use scr_world::{CoreFault, Reply, Step};
 use std::alloc::Global;
@@ -42,7 +44,7 @@ pub fn judge_enable(
     }
 }
 
-// Judges that a component is enabled that an ACTIVE bundle has.
+// Judges that a component is enabled that an ACTIVE bundle has. One that is enabled asks for nothing anew.
 fn enable_known(
     alloc: Global,
     journal: &Journal<Step>,
@@ -56,6 +58,9 @@ fn enable_known(
     requires refused { refusal state.now.world (Enable bundle name.now) ≡ components_full state.now.world (Enable bundle name.now) }
     ensures { JudgesStep journal.now.limit state.now step.now result }
 {
+    if is_all_enabled(&state.world, bundle, name) {
+        return Ok(Judgement::Unchanged(Reply::Done));
+    }
     let tables = flagged_tables(alloc, state, bundle, name, true)?;
     let asked = asked_with(alloc, state, step, &tables)?;
     if are_too_many(&state.world, step, &asked) {
@@ -110,6 +115,9 @@ fn disable_enabled(
     requires effect { has_effect state.now.world (Disable bundle name.now) ≡ true }
     ensures { JudgesStep journal.now.limit state.now step.now result }
 {
+    if !has_room_for_command(journal, state) {
+        return Err(CoreFault::JournalFull);
+    }
     let tables = flagged_tables(alloc, state, bundle, name, false)?;
     change_freely(alloc, journal, state, step, Reply::Done, tables)
 }

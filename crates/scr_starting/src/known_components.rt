@@ -3,16 +3,17 @@
 ghost use Rattle.bundle_life.specs.Lives.{is_active};
 ghost use Rattle.component_dto.specs.declared.description.Description.{Description};
 ghost use Rattle.prop_map.specs.Words.{first_some};
+ghost use Rattle.scr_starting.specs.Enabled.{is_all_enabled, stays_enabled};
 ghost use Rattle.scr_world.specs.Refusals.{no_bundle, no_component, not_active};
 ghost use Rattle.scr_world.specs.Replies.{is_enabled};
 ghost use Rattle.scr_world.specs.Tables.{contents_of};
 ghost use Rattle.scr_world.specs.declared.contents.Contents.{Contents};
-ghost use Rattle.std.specs.List.{list_any};
+ghost use Rattle.std.specs.List.{list_all, list_any};
 ghost use Rattle.std.specs.Option.{option_copied, option_map_or};
 ghost use Rattle.std.specs.Prelude.{◌≡◌, [], ◌∷◌, false, IfOk};
 ghost use Rattle.std.specs.Str.{bytes_eq};
 
-use crate::enabled_flags::{flag_of, has_component};
+use crate::enabled_flags::{are_enabled, flag_of, has_component};
 use bundle_life::BundleState;
 use prop_map::{Copies, OutOfMemory, Str};
 use scr_state::State;
@@ -95,4 +96,31 @@ pub(crate) fn is_enabled(world: &World, bundle: u64, name: &Str) -> bool
         ),
         None => false,
     }
+}
+
+/// Whether the component of this name is enabled, and no description of this name is left to enable, as one may be where two
+/// have it. It takes no memory.
+pub(crate) fn is_all_enabled(world: &World, bundle: u64, name: &Str) -> bool
+    ensures { result ≡ is_all_enabled world.now bundle name.now }
+{
+    is_enabled(world, bundle, name) && all_stay_enabled(world.documents.as_slice(), bundle, name)
+}
+
+fn all_stay_enabled(documents: &[Contents], bundle: u64, name: &Str) -> bool
+    ensures { result ≡ list_all (stays_enabled bundle name.now) documents.now }
+{
+    documents
+        .iter()
+        .all(|contents| stays_enabled(contents, bundle, name))
+}
+
+fn stays_enabled(contents: &Contents, bundle: u64, name: &Str) -> bool
+    ensures { result ≡ stays_enabled bundle name.now contents.now }
+{
+    contents.bundle != bundle
+        || are_enabled(
+            contents.document.get().descriptions.as_slice(),
+            contents.enabled.as_slice(),
+            name,
+        )
 }

@@ -10,7 +10,7 @@ ghost use Rattle.std.specs.Prelude.{◌≡◌, None, true};
 use crate::known_components::is_active_state;
 use crate::remaining_services::without_bundle;
 use journal_core::Journal;
-use scr_judgements::{Judgement, TablesAfter, change_freely};
+use scr_judgements::{Judgement, TablesAfter, change_freely, has_room_for_command};
 use scr_state::State;
 use scr_world::{CoreFault, Reply, Step};
 use std::alloc::Global;
@@ -56,6 +56,9 @@ fn stop_active(
     requires effect { has_effect state.now.world (Stop bundle) ≡ true }
     ensures { JudgesStep journal.now.limit state.now step.now result }
 {
+    if !has_room_for_command(journal, state) {
+        return Err(CoreFault::JournalFull);
+    }
     let registry = without_bundle(alloc, &state.world.registry, bundle)?;
     let mut tables = TablesAfter::none();
     tables.registry = Some(registry);

@@ -7,11 +7,20 @@ use Rattle.scr_judgements.specs.Changing.{AreTablesBy, ChangesFreely}
 use Rattle.scr_judgements.proofs.Judged.{judged_step, unchanged}
 use Rattle.scr_judgements.proofs.Plain.{refused_plainly}
 use Rattle.scr_starting.proofs.ComponentFlags.{enable_tables}
+use Rattle.scr_starting.proofs.EnabledAlready.{already_enabled, already_free}
 use Rattle.scr_world.specs.declared.command.Command.TheVariants.{Enable}
 use Rattle.scr_world.specs.declared.reply.CoreFault.TheVariants.{ComponentsFull}
 use Rattle.scr_world.specs.declared.reply.Reply.TheVariants.{Done}
 use Rattle.scr_world.specs.declared.step.Step.{Step}
 use Rattle.scr_starting.proofs.enabling.enable_known.Goals as goal
+
+pub returns-then-is_all_enabled : goal.returns-then-is_all_enabled
+returns-then-is_all_enabled c =
+    let already = sym c.is_all_enabled.ensures ∙ c.if-is_all_enabled.true in
+    judged_step c.args.journal.now.limit c.args.state.now c.args.step.now (Enable c.args.bundle c.args.name.now) _ c.requires.command
+    (unchanged c.args.journal.now.limit c.args.state.now (Enable c.args.bundle c.args.name.now)
+    (c.requires.refused ∙ already_free c.args.journal.now c.args.state.now c.requires.keeps c.args.bundle c.args.name.now already)
+    Done (ap not (already_enabled c.args.journal.now c.args.state.now c.requires.keeps c.args.bundle c.args.name.now already)) refl)
 
 pub returns-in_err-tables : goal.returns-in_err-tables
 returns-in_err-tables c =
