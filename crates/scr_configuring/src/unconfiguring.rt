@@ -38,7 +38,7 @@ pub fn judge_unconfigure(
     }
 }
 
-// A copy of the configurations, with that of a PID deleted.
+// A copy of the configurations, with that of a PID deleted. Where it has none, nothing is copied.
 fn unconfigured(
     alloc: Global,
     configurations: &Configurations,
@@ -47,6 +47,9 @@ fn unconfigured(
     ensures after { IfOk result (λ after. after ≡ without_pid pid.now configurations.now) }
     ensures refused { IsRefusedBy (delete_refusal pid.now configurations.now) result }
 {
+    if configurations.of_pid(pid.as_str()).is_none() {
+        return Err(ConfigFault::NoConfiguration);
+    }
     let mut after = configurations.copy(alloc)?;
     after.delete(pid.as_str())?;
     Ok(after)
