@@ -1,13 +1,13 @@
 -- Each event of a change says what happened.
-use Rattle.std.proofs.Common.{◌≡◌, ℕ, [], ◌∷◌, ap, sym, ◌∙◌, refl, subst, cond, Bool, true, false, ◌&&◌, inl, inr, Option, Some, None}
-use Rattle.std.specs.Prelude.{not, ◌==◌}
+use Rattle.std.proofs.Common.{◌≡◌, ◌<◌, ◌≤◌, ℕ, [], ◌∷◌, ap, sym, ◌∙◌, refl, subst, cond, Bool, true, false, ◌&&◌, inl, inr, Option, Some, None, arith}
+use Rattle.std.specs.Prelude.{nat_lt, not, ◌==◌}
 use Rattle.std.specs.List.{Contains}
-use Rattle.std.proofs.lemmas.Bool.{and_from, both_ways, cases_Bool, eq-eqb, eqb-true}
+use Rattle.std.proofs.lemmas.Bool.{and_from, both_ways, cases_Bool, eq-eqb, eqb-true, lt-ltb}
 use Rattle.component_state.proofs.Apart.{any_found, any_from, in_cases, in_none}
 use Rattle.ldap_filter.specs.Matching.{matches}
 use Rattle.ldap_filter.specs.Trees.{Tree}
 use Rattle.prop_map.specs.Words.{has}
-use Rattle.scr_promises.specs.Events.{is_listed, matching, tells_truth}
+use Rattle.scr_promises.specs.Events.{is_listed, is_listed_above, matching, tells_truth, was_set}
 use Rattle.scr_promises.proofs.ChangeLaws.{IsPair, match_is, match_on}
 use Rattle.scr_world.specs.Lists.{change_between, change_of_one}
 use Rattle.scr_world.specs.Readers.{listed}
@@ -28,7 +28,11 @@ listed_none w s none = elim (cases_Bool (is_listed w s)) [
 abbrev OneEach : World → Type 0
 OneEach w = (a b : ServiceRow) → Contains (listed w) a → Contains (listed w) b → a.id ≡ b.id → a ≡ b
 
-module _ (was now : World) (tree : Tree) (one : OneEach now) (one_before : OneEach was) where
+-- no revision falls
+abbrev pub NoneFalls : World → World → Type 0
+NoneFalls was now = (old fresh : ServiceRow) → Contains (listed was) old → Contains (listed now) fresh → fresh.id ≡ old.id → old.revision ≤ fresh.revision
+
+module _ (was now : World) (tree : Tree) (one : OneEach now) (one_before : OneEach was) (rises : NoneFalls was now) where
   abbrev IsTrue : ServiceEvent → Type 0
   IsTrue e = tells_truth was now tree e ≡ true
 
@@ -56,16 +60,27 @@ module _ (was now : World) (tree : Tree) (one : OneEach now) (one_before : OneEa
       go true on = only 4 old.id (and_from (has (matching was tree) old.id) (not (is_listed now old.id)) (match_on was tree old.id old h refl on) (ap not (listed_none now old.id none))) e
       go false off = λ there. absurd (in_none e there)
 
-  set_true : (old fresh : ServiceRow) → Contains (listed was) old → Contains (listed now) fresh → old.id ≡ fresh.id → AreTrue (Some old, Some fresh)
-  set_true old fresh h k same e there = go (matches tree fresh.properties) (matches tree old.properties) refl refl there
+  -- its properties were set
+  risen : (old fresh : ServiceRow) → Contains (listed was) old → Contains (listed now) fresh → old.id ≡ fresh.id → (old.revision == fresh.revision) ≡ false → was_set was now fresh.id ≡ true
+  risen old fresh h k same differ =
+      let low = rises old fresh h k (sym same) in
+      let other : old.revision ≡ fresh.revision → ⊥ = λ e. both_ways (old.revision == fresh.revision) differ (eq-eqb old.revision fresh.revision e) in
+      let above : old.revision < fresh.revision = omega (arith, low, other) in
+      any_from (λ (x : ServiceRow). (x.id == fresh.id) && is_listed_above now fresh.id x.revision) (listed was) old h
+      (and_from (old.id == fresh.id) (is_listed_above now fresh.id old.revision) (eq-eqb old.id fresh.id same)
+      (any_from (λ (y : ServiceRow). (y.id == fresh.id) && nat_lt old.revision y.revision) (listed now) fresh k
+      (and_from (fresh.id == fresh.id) (nat_lt old.revision fresh.revision) (eq-eqb fresh.id fresh.id refl) (lt-ltb old.revision fresh.revision above))))
+
+  set_true : (old fresh : ServiceRow) → Contains (listed was) old → Contains (listed now) fresh → old.id ≡ fresh.id → (old.revision == fresh.revision) ≡ false → AreTrue (Some old, Some fresh)
+  set_true old fresh h k same differ e there = go (matches tree fresh.properties) (matches tree old.properties) refl refl there
     where
-      was_listed : is_listed was fresh.id ≡ true
-      was_listed = ap (is_listed was) (sym same) ∙ listed_is was old h
+      set_is : was_set was now fresh.id ≡ true
+      set_is = risen old fresh h k same differ
 
       go : (a b : Bool) → matches tree fresh.properties ≡ a → matches tree old.properties ≡ b → Contains (cond a (one_event 2 fresh.id) (cond b (one_event 8 fresh.id) [])) e → IsTrue e
-      go true b on old_is = only 2 fresh.id (and_from (is_listed was fresh.id) (has (matching now tree) fresh.id) was_listed (match_on now tree fresh.id fresh k refl on)) e
-      go false true off old_on = only 8 fresh.id (and_from (has (matching was tree) fresh.id) (is_listed now fresh.id && not (has (matching now tree) fresh.id)) (match_on was tree fresh.id old h same old_on)
-          (and_from (is_listed now fresh.id) (not (has (matching now tree) fresh.id)) (listed_is now fresh k) (ap not (match_is now tree fresh.id one fresh k refl ∙ off)))) e
+      go true b on old_is = only 2 fresh.id (and_from (was_set was now fresh.id) (has (matching now tree) fresh.id) set_is (match_on now tree fresh.id fresh k refl on)) e
+      go false true off old_on = only 8 fresh.id (and_from (was_set was now fresh.id) (has (matching was tree) fresh.id && not (has (matching now tree) fresh.id)) set_is
+          (and_from (has (matching was tree) fresh.id) (not (has (matching now tree) fresh.id)) (match_on was tree fresh.id old h same old_on) (ap not (match_is now tree fresh.id one fresh k refl ∙ off)))) e
       go false false off old_off = λ none. absurd (in_none e none)
 
   single_true : (c d : Change) → AreTrue c → Contains (c ∷ []) d → AreTrue d
@@ -76,12 +91,12 @@ module _ (was now : World) (tree : Tree) (one : OneEach now) (one_before : OneEa
 
   same_true : (old fresh : ServiceRow) → Contains (listed was) old → Contains (listed now) fresh → ((fresh.id ≡ old.id → ⊥) → (x : ServiceRow) → Contains (listed now) x → x.id ≡ old.id → ⊥) → ((old.id ≡ fresh.id → ⊥) → (x : ServiceRow) → Contains (listed was) x → x.id ≡ fresh.id → ⊥)
       → (d : Change) → Contains (change_of_one old fresh) d → AreTrue d
-  same_true old fresh h k gone came d here = go (old.id == fresh.id) (old.revision == fresh.revision) refl here
+  same_true old fresh h k gone came d here = go (old.id == fresh.id) (old.revision == fresh.revision) refl refl here
     where
-      go : (a b : Bool) → (old.id == fresh.id) ≡ a → Contains (cond a (cond b [] ((Some old, Some fresh) ∷ [])) ((Some old, None) ∷ (None, Some fresh) ∷ [])) d → AreTrue d
-      go true true is there = absurd (in_none d there)
-      go true false is there = single_true (Some old, Some fresh) d (set_true old fresh h k (eqb-true old.id fresh.id is)) there
-      go false b is there = elim (in_cases (Some old, None) ((None, Some fresh) ∷ []) d there) [
+      go : (a b : Bool) → (old.id == fresh.id) ≡ a → (old.revision == fresh.revision) ≡ b → Contains (cond a (cond b [] ((Some old, Some fresh) ∷ [])) ((Some old, None) ∷ (None, Some fresh) ∷ [])) d → AreTrue d
+      go true true is even there = absurd (in_none d there)
+      go true false is differ there = single_true (Some old, Some fresh) d (set_true old fresh h k (eqb-true old.id fresh.id is) differ) there
+      go false b is any there = elim (in_cases (Some old, None) ((None, Some fresh) ∷ []) d there) [
         | inl same ↦ subst AreTrue same (left_true old h (gone (λ e. both_ways (old.id == fresh.id) is (eq-eqb old.id fresh.id (sym e)))))
         | inr later ↦ single_true (None, Some fresh) d (came_true fresh k (came (λ e. both_ways (old.id == fresh.id) is (eq-eqb old.id fresh.id e)))) later
       ]
