@@ -1,5 +1,5 @@
 -- The events of a listener lead from the services that matched its filter at one time to those that match it at a later one, and each entry tells just what happened, in order.
-use Rattle.std.proofs.Common.{◌≡◌, ◌≤◌, ◌⊎◌, ℕ, ◌+◌, List, [], ◌∷◌, ◌++◌, ap, sym, ◌∙◌, refl, subst, arith, Bool, true, false, inl, inr, Option, Some, append_assoc, append-nil}
+use Rattle.std.proofs.Common.{◌≡◌, ◌⊎◌, ℕ, ◌+◌, [], ◌∷◌, ◌++◌, ap, sym, ◌∙◌, refl, arith, Bool, true, false, inl, inr, Option, Some, append_assoc, append-nil}
 use Rattle.std.specs.Prelude.{flat_map, ◌==◌, ◌≢◌}
 use Rattle.std.specs.List.{Contains, list_any}
 use Rattle.std.proofs.lemmas.Bool.{both_ways, cases_Bool, eq-eqb, eqb-true}

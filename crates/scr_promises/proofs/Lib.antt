@@ -82,6 +82,7 @@ pub mod ServicePairs
 pub mod ListenerSteps
 pub mod RowsAt
 pub mod Statuses
+mod ToldExample
 pub mod GetLaws
 pub mod GetNumbers
 pub mod DrainLaws

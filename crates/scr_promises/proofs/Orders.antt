@@ -4,7 +4,7 @@ use Rattle.std.specs.Prelude.{filter, flat_map, map}
 use Rattle.std.specs.List.{AllPairs, Contains}
 use Rattle.std.proofs.lemmas.List.Elements.{All-contains_itself}
 use Rattle.std.proofs.lemmas.List.Kept.{AllPairs-cons}
-use Rattle.component_state.proofs.Apart.{in_either, in_first, in_none, in_rest, kept_was}
+use Rattle.component_state.proofs.Apart.{in_either, in_first, in_rest, kept_was}
 use Rattle.scr_laws.proofs.Listed.{joined_was, mapped_was}
 
 module _ {X : Type 0} (R : X → X → Type 0) where
@@ -34,7 +34,8 @@ module _ {X : Type 0} (R : X → X → Type 0) where
   pub all_pairs : (xs : List X) → AreOrdered xs → AllPairs R xs
   all_pairs [] ordered = λ i j d lt within. absurd (omega arith)
   all_pairs (x ∷ xs) ordered =
-      AllPairs-cons R x xs (λ k d within. ordered.0 (get_or xs k d) (All-contains_itself xs k d within)) (all_pairs xs ordered.1)
+      AllPairs-cons R x xs (λ k d within. ordered.0 (get_or xs k d) (All-contains_itself xs k d within))
+      (all_pairs xs ordered.1)
 
 module _ {X Y : Type 0} (R : X → X → Type 0) (S : Y → Y → Type 0) where
   -- lists behind one another
@@ -44,10 +45,13 @@ module _ {X Y : Type 0} (R : X → X → Type 0) (S : Y → Y → Type 0) where
   ordered_flat f [] ordered each across = tt
   ordered_flat f (x ∷ xs) ordered each across =
       ordered_join S (f x) (flat_map f xs) (each x (in_first x xs))
-      (ordered_flat f xs ordered.1 (λ y h. each y (in_rest x xs y h)) (λ a b h k. across a b (in_rest x xs a h) (in_rest x xs b k)))
-      (λ p q h k. let b = joined_was f xs q k in across x b.0 (in_first x xs) (in_rest x xs b.0 b.1.0) (ordered.0 b.0 b.1.0) p q h b.1.1)
+      (ordered_flat f xs ordered.1 (λ y h. each y (in_rest x xs y h))
+      (λ a b h k. across a b (in_rest x xs a h) (in_rest x xs b k)))
+      (λ p q h k. let b = joined_was f xs q k in across x b.0 (in_first x xs) (in_rest x xs b.0 b.1.0)
+      (ordered.0 b.0 b.1.0) p q h b.1.1)
 
-  pub ordered_map : (f : X → Y) (xs : List X) → AreOrdered R xs → ((a b : X) → R a b → S (f a) (f b)) → AreOrdered S (map f xs)
+  pub ordered_map : (f : X → Y) (xs : List X) → AreOrdered R xs → ((a b : X) → R a b → S (f a) (f b))
+      → AreOrdered S (map f xs)
   ordered_map f [] ordered each = tt
   ordered_map f (x ∷ xs) ordered each = (
     λ y h. let b = mapped_was f xs y h in subst (λ z. S (f x) z) b.1.1 (each x b.0 (ordered.0 b.0 b.1.0)),
