@@ -73,10 +73,16 @@ pub mod DueLeft
 pub mod NoneDue
 pub mod ChangeLaws
 pub mod EventLaws
+pub mod EventOrder
 pub mod EventTruths
+pub mod EventsDue
+pub mod Orders
+pub mod Rising
+pub mod ServicePairs
 pub mod ListenerSteps
 pub mod RowsAt
 pub mod Statuses
+mod ToldExample
 pub mod GetLaws
 pub mod GetNumbers
 pub mod DrainLaws

@@ -35,7 +35,7 @@ with_row r given = go (same_properties given r.properties)
   where
     go : (b : Bool) → IsSameService r (cond b r (record r { properties = given; revision = r.revision + 1 }))
     go true = itself r
-    go false = record { number = refl; bundle = refl; interfaces = refl; direct = refl; properties = λ e. absurd (omega (arith, e)) }
+    go false = record { number = refl; bundle = refl; interfaces = refl; direct = refl; later = omega arith; properties = λ e. absurd (omega (arith, e)) }
 
 renewed_same : (p : OpenPeriod) (o : Option Component) → IsSamePeriod p (option_map_or (period_with_properties p) o p)
 renewed_same p None = own_row p

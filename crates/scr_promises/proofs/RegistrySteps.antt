@@ -18,7 +18,7 @@ abbrev pub number_of : ServiceRow → ℕ
 number_of r = r.id
 
 pub itself : (r : ServiceRow) → IsSameService r r
-itself r = record { number = refl; bundle = refl; interfaces = refl; direct = refl; properties = λ e. refl }
+itself r = record { number = refl; bundle = refl; interfaces = refl; direct = refl; later = omega arith; properties = λ e. refl }
 
 -- a service that was there before a step
 pub record WasDirect (t : Registered) (x : ServiceRow) : Type 0 where
@@ -35,11 +35,11 @@ pub record IsRegistered (step : Step) (t : Registered) (x : ServiceRow) : Type 0
 pub was_there : (t : Registered) (x : ServiceRow) → Contains t.rows x → WasDirect t x
 was_there t x h = record { was = x; there = h; same = itself x }
 
-set_same : (given : List Property) (service : ℕ) (r : ServiceRow) → IsSameService r (cond (has_number service r) (set_row given r) r)
+pub set_same : (given : List Property) (service : ℕ) (r : ServiceRow) → IsSameService r (cond (has_number service r) (set_row given r) r)
 set_same given service r = go (has_number service r)
   where
     go : (b : Bool) → IsSameService r (cond b (set_row given r) r)
-    go true = record { number = refl; bundle = refl; interfaces = refl; direct = refl; properties = λ e. absurd (omega (arith, e)) }
+    go true = record { number = refl; bundle = refl; interfaces = refl; direct = refl; later = omega arith; properties = λ e. absurd (omega (arith, e)) }
     go false = itself r
 
 -- each is an earlier one, or the one that is registered

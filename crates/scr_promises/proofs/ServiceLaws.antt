@@ -165,7 +165,7 @@ module _ (limit : ℕ) (entry : Entry Step) (past : History) (legal : IsLegal li
   unfolding world_of world_after_entry world_after_step
   left_from r h on = kept_from (λ (x : ServiceRow). not (is_registered then x.id) && is_service_held then x.id) (w.unregistered_held ++ registered_services w) r h on
 
-  opened_is : entry.opened ≡ opened_from (given_so_far + 1) (opening (stage_of entry.step w) then.open_periods)
+  pub opened_is : entry.opened ≡ opened_from (given_so_far + 1) (opening (stage_of entry.step w) then.open_periods)
   unfolding stage_of stage_in world_after_step
   opened_is = legal.0.opened
 

@@ -26,7 +26,7 @@ use Rattle.scr_world.specs.declared.step.Step.{Step}
 use Rattle.scr_world.specs.declared.world.World.{World}
 
 -- how each one opens
-opened_by : (next : ℕ) (ones : List Component) (o : Opened) → Contains (opened_from next ones) o → (n : ℕ) × (c : Component) × Contains ones c × (o ≡ opened_one n c)
+pub opened_by : (next : ℕ) (ones : List Component) (o : Opened) → Contains (opened_from next ones) o → (n : ℕ) × (c : Component) × Contains ones c × (o ≡ opened_one n c)
 opened_by next [] o h = absurd (in_none o h)
 opened_by next (c ∷ cs) o h = elim (in_cases (opened_one next c) (opened_from (next_after next c) cs) o h) [
   | inl same ↦ (next, c, in_first c cs, sym same)

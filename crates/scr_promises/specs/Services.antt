@@ -15,12 +15,13 @@ pub record HaveOwnNumbers (w : World) : Type 0 where
   pub one : HasOneOfEach (λ (r : ServiceRow). r.id) (known_services w)
   pub given : (r : ServiceRow) → Contains (known_services w) r → r.id ≤ w.registry.numbered
 
--- a service at two times: its bundle and its interfaces are the same, and its properties where its revision is
+-- a service at two times: its bundle and its interfaces are the same, its revision doesn't fall, and where it stays so do its properties
 pub record IsSameService (old new : ServiceRow) : Type 0 where
   pub number : new.id ≡ old.id
   pub bundle : new.bundle ≡ old.bundle
   pub interfaces : new.interfaces ≡ old.interfaces
   pub direct : new.direct ≡ old.direct
+  pub later : old.revision ≤ new.revision
   pub properties : new.revision ≡ old.revision → new ≡ old
 
 -- services of two worlds that have one number are one service
