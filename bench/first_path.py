@@ -43,6 +43,8 @@ def lines(bundles, count):
 
 
 def main():
+    if not all(word.isdecimal() for word in sys.argv[1:]) or len(sys.argv) > 3:
+        sys.exit("usage: first_path.py [BUNDLES [LINES]]")
     bundles = int(sys.argv[1]) if len(sys.argv) > 1 else 100
     count = int(sys.argv[2]) if len(sys.argv) > 2 else 400
     for line in lines(bundles, count):
