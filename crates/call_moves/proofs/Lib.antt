@@ -3,3 +3,4 @@ pub mod Lengths
 pub mod Feeding
 pub mod Agreements
 pub mod Recursions
+pub mod Steps

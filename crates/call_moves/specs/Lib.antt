@@ -1,3 +1,4 @@
 pub mod Evaluations
 pub mod Recursion
 pub mod Fronts
+pub mod Progress

@@ -9,5 +9,5 @@
 mod laws;
 mod nested_call;
 
-pub use laws::{note_further_fronts, note_moves, note_other_worlds, note_recursion};
+pub use laws::{note_further_fronts, note_moves, note_other_worlds, note_recursion, note_steps};
 pub use nested_call::NestedCall;
