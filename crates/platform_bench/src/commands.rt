@@ -24,9 +24,14 @@ pub(crate) fn command_often(alloc: Global, counts: CommandCounts) -> Result<u64>
         turns: 1_000_000,
     };
     let mut core = Core::new(alloc, limits)?;
-    let bundle = start(alloc, &mut core, counts.components)?;
-    register_many(alloc, &mut core, bundle, counts.services)?;
-    come_and_go(alloc, &mut core, bundle, counts.steps)?;
-    configure_often(alloc, &mut core, counts.commands)?;
+    command_all(alloc, &mut core, counts)
+}
+
+// Does it all on this core.
+fn command_all(alloc: Global, core: &mut Core, counts: CommandCounts) -> Result<u64> {
+    let bundle = start(alloc, core, counts.components)?;
+    register_many(alloc, core, bundle, counts.services)?;
+    come_and_go(alloc, core, bundle, counts.steps)?;
+    configure_often(alloc, core, counts.commands)?;
     Ok(core.journal().length())
 }

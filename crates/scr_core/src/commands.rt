@@ -5,6 +5,7 @@ ghost use Rattle.scr_world.specs.declared.command.Command.{Command};
 ghost use Rattle.scr_world.specs.declared.step.Step.TheVariants.{Command as Commanded};
 ghost use Rattle.std.specs.Prelude.{◌≡◌};
 
+use crate::generic::let_go;
 use crate::steps::boxed;
 use journal_core::Journal;
 use prop_map::List;
@@ -45,11 +46,17 @@ fn take_boxed(
     ensures answer { (c : Command) → step.value ≡ Commanded c → Commands journal.old.limit journal.old.entries c result journal.new.entries }
 {
     match judge(alloc, journal, state, &step) {
-        Err(fault) => Err(fault),
-        Ok(Judgement::Unchanged(reply)) => Ok(Accepted {
-            reply,
-            shut: List::of(Vec::new(alloc)),
-        }),
+        Err(fault) => {
+            let_go(step);
+            Err(fault)
+        }
+        Ok(Judgement::Unchanged(reply)) => {
+            let_go(step);
+            Ok(Accepted {
+                reply,
+                shut: List::of(Vec::new(alloc)),
+            })
+        }
         Ok(Judgement::Changes { reply, draft }) => {
             let shut = grow(alloc, journal, state, step, draft)?;
             Ok(Accepted { reply, shut })

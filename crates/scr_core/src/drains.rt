@@ -5,6 +5,7 @@ ghost use Rattle.std.specs.List.{list_any};
 ghost use Rattle.std.specs.Option.{option_copied};
 ghost use Rattle.std.specs.Prelude.{◌≡◌, OnErr, OnOk, find, option_map, true};
 
+use crate::generic::let_go;
 use crate::steps::boxed;
 use journal_core::{GateKey, Journal};
 use prop_map::OutOfMemory;
@@ -59,7 +60,13 @@ pub(crate) fn drain(
     // This lets the proof know that what is reserved has room.
     let _room = journal.room();
     let step = boxed(alloc, Step::Drained { instance })?;
-    let draft = turn_draft(alloc, state, &step)?;
+    let draft = match turn_draft(alloc, state, &step) {
+        Ok(draft) => draft,
+        Err(error) => {
+            let_go(step);
+            return Err(error);
+        }
+    };
     grow_still(alloc, journal, state, step, draft)?;
     Ok(())
 }

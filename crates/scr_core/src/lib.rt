@@ -10,6 +10,7 @@ mod calls;
 mod commands;
 mod drains;
 mod empty;
+mod generic;
 mod platform_core;
 mod readers;
 mod room;

@@ -1,9 +1,10 @@
 //! Steps in boxes: a step has room for any command.
 ghost use Rattle.std.specs.Prelude.{◌≡◌, IfOk};
 
+use crate::generic::in_box;
 use prop_map::OutOfMemory;
 use scr_world::Step;
-use std::alloc::{AllocError, Global};
+use std::alloc::Global;
 
 /// The step in a box.
 ///
@@ -12,8 +13,5 @@ use std::alloc::{AllocError, Global};
 pub(crate) fn boxed(alloc: Global, step: Step) -> Result<Box<Step>, OutOfMemory>
     ensures { IfOk result (λ b. b.value ≡ step) }
 {
-    match Box::new(alloc, step) {
-        Ok(step) => Ok(step),
-        Err(_) => Err(AllocError),
-    }
+    in_box(alloc, step)
 }

@@ -16,6 +16,7 @@ ghost use Rattle.scr_world.specs.TurnSteps.{name_in, work_under_way};
 ghost use Rattle.scr_world.specs.declared.step.Step.TheVariants.{End};
 ghost use Rattle.std.specs.Prelude.{◌≡◌, ◌<◌, IfOk, OnErr, OnOk, Some, true, vec_capacity, vec_len};
 
+use crate::generic::let_go;
 use crate::room::has_room;
 use crate::steps::boxed;
 use crate::turn::{Taken, Turn};
@@ -79,10 +80,24 @@ fn begin(
     ensures answer { TakesTurn limit journal.old.entries result journal.new.entries }
 {
     if !has_room(journal, needed_by(&step)) {
+        let_go(step);
         return Err(CoreFault::JournalFull);
     }
-    let prepared = prepare(alloc, own, state, &step)?;
-    lines.reserve(1)?;
+    let prepared = match prepare(alloc, own, state, &step) {
+        Ok(prepared) => prepared,
+        Err(_) => {
+            let_go(step);
+            return Err(CoreFault::OutOfMemory);
+        }
+    };
+    match lines.reserve(1) {
+        Ok(()) => {}
+        Err(_) => {
+            let_go(step);
+            let_go(prepared);
+            return Err(CoreFault::OutOfMemory);
+        }
+    }
     begin_prepared(alloc, limit, journal, state, lines, step, prepared)
 }
 
@@ -105,9 +120,17 @@ fn begin_prepared(
     ensures answer { TakesTurn limit journal.old.entries result journal.new.entries }
 {
     let Prepared { draft, work, line } = prepared;
-    grow_still(alloc, journal, state, step, draft)?;
-    lines.push_reserved(line);
-    Ok(Taken::Turn(Turn::new(work.number), work))
+    match grow_still(alloc, journal, state, step, draft) {
+        Ok(()) => {
+            lines.push_reserved(line);
+            Ok(Taken::Turn(Turn::new(work.number), work))
+        }
+        Err(_) => {
+            let_go(work);
+            let_go(line);
+            Err(CoreFault::OutOfMemory)
+        }
+    }
 }
 
 // What has to be ready before a turn begins.
@@ -123,10 +146,21 @@ fn prepare(
     ensures prepared { IfOk result (λ p. IsPrepared state.old step.now p) }
 {
     let line = line_of(alloc, own, &state.world, step)?;
-    let mut draft = turn_draft(alloc, state, step)?;
-    match work_after(alloc, own, &mut state.world, &mut draft, turn_of(step))? {
-        Some(work) => Ok(Prepared { draft, work, line }),
-        None => unreachable!(),
+    let mut draft = match turn_draft(alloc, state, step) {
+        Ok(draft) => draft,
+        Err(error) => {
+            let_go(line);
+            return Err(error);
+        }
+    };
+    match work_after(alloc, own, &mut state.world, &mut draft, turn_of(step)) {
+        Ok(Some(work)) => Ok(Prepared { draft, work, line }),
+        Ok(None) => unreachable!(),
+        Err(error) => {
+            let_go(line);
+            let_go(draft);
+            Err(error)
+        }
     }
 }
 
@@ -228,7 +262,13 @@ pub(crate) fn end(
     // This lets the proof know that what is reserved has room.
     let _room = journal.room();
     let step = boxed(alloc, Step::End { turn, outcome })?;
-    let draft = turn_draft(alloc, state, &step)?;
+    let draft = match turn_draft(alloc, state, &step) {
+        Ok(draft) => draft,
+        Err(error) => {
+            let_go(step);
+            return Err(error);
+        }
+    };
     let shut = grow_by_end(alloc, journal, state, step, turn, outcome, draft)?;
     end_turn(lines, turn, outcome);
     *making = known;
@@ -258,6 +298,7 @@ fn grow_by_end(
     ensures as_before { OnErr result (journal.new ≡ journal.old) }
 {
     if is_still_end(state, turn, outcome) {
+        let_go(step);
         return grow_still_end(alloc, journal, state, turn, outcome, draft);
     }
     grow(alloc, journal, state, step, draft)

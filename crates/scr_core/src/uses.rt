@@ -5,6 +5,7 @@ ghost use Rattle.scr_world.specs.declared.marks.Token.{Token};
 ghost use Rattle.std.specs.List.{list_any};
 ghost use Rattle.std.specs.Prelude.{◌≡◌, ◌==◌, IfOk, OnErr};
 
+use crate::generic::let_go;
 use crate::room::has_room;
 use crate::steps::boxed;
 use crate::use_note::UseNote;
@@ -38,7 +39,13 @@ pub(crate) fn get(
     }
     let place = journal.length();
     let step = boxed(alloc, Step::Got { bundle, service })?;
-    let draft = turn_draft(alloc, state, &step)?;
+    let draft = match turn_draft(alloc, state, &step) {
+        Ok(draft) => draft,
+        Err(_) => {
+            let_go(step);
+            return Err(CoreFault::OutOfMemory);
+        }
+    };
     grow_still(alloc, journal, state, step, draft)?;
     Ok(UseNote::new(Token {
         place,
@@ -79,7 +86,13 @@ pub(crate) fn release(
     // This lets the proof know that what is reserved has room.
     let _room = journal.room();
     let step = boxed(alloc, Step::Released { place: note.place })?;
-    let draft = turn_draft(alloc, state, &step)?;
+    let draft = match turn_draft(alloc, state, &step) {
+        Ok(draft) => draft,
+        Err(error) => {
+            let_go(step);
+            return Err(error);
+        }
+    };
     grow_still(alloc, journal, state, step, draft)?;
     Ok(true)
 }

@@ -17,4 +17,4 @@ returns-then-not-has_room-clause-answer c =
     (no_room c.args.journal.now c.args.state.now c.requires.keeps.state c.args.step.value c.requires.next full)
 
 pub begin_prepared-requires-clause-next : goal.begin_prepared-requires-clause-next
-begin_prepared-requires-clause-next c = subst (λ (s : State). next_begin s.world ≡ Some c.args.step.value) (sym c.in_ok-prepared.ensures.state) c.requires.next
+begin_prepared-requires-clause-next c = subst (λ (s : State). next_begin s.world ≡ Some c.args.step.value) (sym c.in-Ok.ensures.state) c.requires.next

@@ -11,19 +11,19 @@ grow_still-requires-clause-shuts c = next_still c.args.state.now.world c.args.st
 pub grow_still-requires-clause-may : goal.grow_still-requires-clause-may
 grow_still-requires-clause-may c = next_may c.args.state.now.world c.args.step.value c.requires.next
 
-pub returns-clause-keeps : goal.returns-clause-keeps
-returns-clause-keeps c = record {
-  its_limit = c.in_ok-grow_still.ensures.limit ∙ c.requires.keeps.its_limit;
-  state = c.in_ok-grow_still.ensures.keeps;
+pub returns-in-Ok-clause-keeps : goal.returns-in-Ok-clause-keeps
+returns-in-Ok-clause-keeps c = record {
+  its_limit = c.in-Ok.ensures.limit ∙ c.requires.keeps.its_limit;
+  state = c.in-Ok.ensures.keeps;
   told = c.push_reserved.ensures.items
       ∙ begun_lines c.args.journal.now.limit c.args.journal.now.entries c.grow_still.new.journal.entries c.args.step.value c.args.state.now.world c.args.prepared.line c.args.lines.now.items
-      c.requires.keeps.state.world c.requires.prepared.line c.requires.keeps.told c.in_ok-grow_still.ensures.grown;
+      c.requires.keeps.state.world c.requires.prepared.line c.requires.keeps.told c.in-Ok.ensures.grown;
 }
 
-pub returns-clause-answer : goal.returns-clause-answer
-returns-clause-answer c = (
+pub returns-in-Ok-clause-answer : goal.returns-in-Ok-clause-answer
+returns-in-Ok-clause-answer c = (
   c.new.ensures,
-  next_number c.args.journal.now c.args.state.now c.requires.keeps.state c.args.step.value c.requires.next c.args.prepared c.requires.prepared c.grow_still.new.journal.entries c.in_ok-grow_still.ensures.grown,
+  next_number c.args.journal.now c.args.state.now c.requires.keeps.state c.args.step.value c.requires.next c.args.prepared c.requires.prepared c.grow_still.new.journal.entries c.in-Ok.ensures.grown,
   subst (λ l. Takes l c.args.journal.now.entries c.args.prepared.work c.grow_still.new.journal.entries) c.requires.keeps.its_limit
-      (taken c.args.journal.now c.args.state.now c.requires.keeps.state c.args.step.value c.requires.next c.args.prepared c.requires.prepared c.grow_still.new.journal.entries c.in_ok-grow_still.ensures.grown),
+      (taken c.args.journal.now c.args.state.now c.requires.keeps.state c.args.step.value c.requires.next c.args.prepared c.requires.prepared c.grow_still.new.journal.entries c.in-Ok.ensures.grown),
 )

@@ -10,18 +10,18 @@ use Rattle.scr_core.proofs.turns.prepare.Goals as goal
 
 pub unreachable-requires : goal.unreachable-requires
 unreachable-requires c =
-    has_work c.requires.kept.journal c.args.state.now c.requires.kept.keeps c.args.step.now c.requires.next c.in_ok-draft.draft c.in_ok-draft.ensures
-    (sym c.in-None.is ∙ c.in_ok-work.ensures.work ∙ ap (λ n. work_under_way (with_draft c.in_ok-draft.draft c.args.state.now.world) n) c.turn_of.ensures)
+    has_work c.requires.kept.journal c.args.state.now c.requires.kept.keeps c.args.step.now c.requires.next c.in-Ok.draft c.in-Ok.ensures
+    (sym c.in-Ok-None.field-0-is ∙ c.in-Ok-None.ensures.work ∙ ap (λ n. work_under_way (with_draft c.in-Ok.draft c.args.state.now.world) n) c.turn_of.ensures)
 
-pub returns-clause-prepared : goal.returns-clause-prepared
-returns-clause-prepared c =
-    let p : Prepared = record { draft = c.work_after.new.draft; work = c.in-Some.work; line = c.in_ok-line.line } in
+pub returns-in-Ok-Some-clause-prepared : goal.returns-in-Ok-Some-clause-prepared
+returns-in-Ok-Some-clause-prepared c =
+    let p : Prepared = record { draft = c.work_after.new.draft; work = c.in-Ok-Some.work; line = c.in_ok-line.line } in
     let told =
-    ap (λ (m : World). work_under_way m (turn_of c.args.step.now)) c.in_ok-work.ensures.draft.world
-    ∙ ap (λ n. work_under_way (with_draft c.in_ok-draft.draft c.args.state.now.world) n) (sym c.turn_of.ensures)
-    ∙ sym c.in_ok-work.ensures.work ∙ c.in-Some.is in
+    ap (λ (m : World). work_under_way m (turn_of c.args.step.now)) c.in-Ok-Some.ensures.draft.world
+    ∙ ap (λ n. work_under_way (with_draft c.in-Ok.draft c.args.state.now.world) n) (sym c.turn_of.ensures)
+    ∙ sym c.in-Ok-Some.ensures.work ∙ c.in-Ok-Some.field-0-is in
     prepared c.requires.kept.journal c.args.state.now c.requires.kept.keeps c.args.step.now c.requires.next p
-    (drafted_alike c.args.state.now c.args.step.now c.in_ok-draft.draft c.work_after.new.draft c.in_ok-work.ensures.draft c.in_ok-draft.ensures) told c.in_ok-line.ensures
+    (drafted_alike c.args.state.now c.args.step.now c.in-Ok.draft c.work_after.new.draft c.in-Ok-Some.ensures.draft c.in-Ok.ensures) told c.in_ok-line.ensures
 
 pub work_after-requires : goal.work_after-requires
-work_after-requires c = record { room = c.in_ok-draft.ensures.room }
+work_after-requires c = record { room = c.in-Ok.ensures.room }
