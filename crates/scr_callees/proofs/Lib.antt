@@ -1,0 +1,3 @@
+pub mod HeldNames
+pub mod Providing
+pub mod Reaching
