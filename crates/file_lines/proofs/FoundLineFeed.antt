@@ -1,5 +1,5 @@
 -- The first line feed, as the search of bytes finds it.
-use Rattle.std.proofs.Common.{◌≡◌, ◌<◌, ◌≤◌, ◌+◌, ℕ, suc, List, [], ◌∷◌, ◌++◌, length, ap, sym, ◌∙◌, subst, arith, true, false, take, drop, None, Some, get_or, take-append-drop, add-one, drop-cons, length-take, take_all}
+use Rattle.std.proofs.Common.{◌≡◌, ◌<◌, ◌≤◌, ℕ, suc, List, ◌∷◌, ◌++◌, length, ap, sym, ◌∙◌, subst, arith, true, false, take, drop, None, Some, get_or, take-append-drop, add-one, drop-cons, length-take, take_all}
 use Rattle.std.specs.declared.option.Option.{Option}
 use Rattle.std.proofs.lemmas.Bool.{eqb-true, false_from_ne_true}
 use Rattle.std.proofs.lemmas.List.{get_or-take, get_or_default}

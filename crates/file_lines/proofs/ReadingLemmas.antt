@@ -1,5 +1,5 @@
 -- What was read ahead, and the first line feed.
-use Rattle.std.proofs.Common.{◌≡◌, ◌<◌, ◌≤◌, ◌+◌, ℕ, List, [], ◌∷◌, ◌++◌, length, ap, sym, ◌∙◌, refl, arith, Bool, true, false, take, drop, append_assoc, append-nil, None, Some, length-drop, take-append-drop, take-add}
+use Rattle.std.proofs.Common.{◌≡◌, ◌≤◌, ◌+◌, ℕ, List, [], ◌∷◌, ◌++◌, length, ap, sym, ◌∙◌, refl, arith, true, false, take, drop, append_assoc, None, Some, length-drop, take-append-drop, take-add}
 use Rattle.std.specs.declared.option.Option.{Option}
 use Rattle.std.specs.Option.{option_map}
 use Rattle.std.proofs.lemmas.List.{drop-drop}

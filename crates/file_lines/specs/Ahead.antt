@@ -21,6 +21,10 @@ not_yet_read is_ended left = if is_ended then Some [] else left
 abbrev pub to_come : Bool → List ℕ → Option (List ℕ) → Option (List ℕ)
 to_come is_ended ahead left = prepend_known ahead (not_yet_read is_ended left)
 
+-- the same of a source with what was read ahead, by what the source has left
+abbrev pub coming : {In : Type 0} → (In → Option (List ℕ)) → ReadAhead In → Option (List ℕ)
+coming left ahead = to_come ahead.is_ended ahead.bytes (left ahead.source)
+
 -- what a read adds behind the bytes that are pending
 abbrev pub Fills : Option (List ℕ) → Option (List ℕ) → ℕ → ℕ → List ℕ → List ℕ → FillStep → Type 0
 Fills left left' number number' pending pending' Filled =

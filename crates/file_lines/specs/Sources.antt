@@ -1,7 +1,8 @@
 -- The source of lines that may name files. Our own.
-use Rattle.std.specs.Prelude.{◌≡◌, ℕ, List, [], ◌∷◌, Bool, true, false, Option, Some, None, option_map}
+use Rattle.std.specs.Prelude.{◌≡◌, ℕ, ◌-◌, ◌^◌, List, [], ◌∷◌, Bool, true, false, Option, Some, None, option_map}
 use Rattle.std.specs.List.{slice_split}
 use Rattle.std.specs.Io.KnownBytes.{prepend_known}
+use Rattle.file_lines.specs.Ahead.{to_come}
 use Rattle.file_lines.specs.Files.{Shelf}
 use Rattle.file_lines.specs.HandedLines.{handed_behind, handed_on, is_line_feed, path_in}
 
@@ -18,6 +19,11 @@ pub record LineInput (In F : Type 0) : Type 0 where
   pub number : ℕ
   pub fault_count : ℕ
 
+-- a source of lines over this one and these files, of which nothing was read
+abbrev pub new_input : {In F : Type 0} → In → F → LineInput In F
+new_input source files =
+    record { source = source; files = files; ready = []; ahead = []; is_within = false; is_ended = false; number = 2 ^ 64 - 1; fault_count = 0 }
+
 -- what a source hands on of bytes to come, where the files and those bytes are told
 abbrev pub told_on : Option Shelf → Option (List ℕ) → Option (List ℕ)
 told_on None left = None
@@ -27,6 +33,14 @@ told_on (Some shelf) left = option_map (handed_on shelf) left
 abbrev pub left_to_hand : Option Shelf → List ℕ → Bool → Option (List ℕ) → Option (List ℕ)
 left_to_hand None ready is_within coming = None
 left_to_hand (Some shelf) ready is_within coming = prepend_known ready (option_map (handed_behind shelf is_within) coming)
+
+-- the bytes to come of a source of lines, by what the other source has left
+abbrev pub coming_in : {In F : Type 0} → (In → Option (List ℕ)) → LineInput In F → Option (List ℕ)
+coming_in left input = to_come input.is_ended input.ahead (left input.source)
+
+-- what a source of lines has left to hand on, by what the other source has left and the files tell
+abbrev pub left_in : {In F : Type 0} → (In → Option (List ℕ)) → (F → Option Shelf) → LineInput In F → Option (List ℕ)
+left_in left told input = left_to_hand (told input.files) input.ready input.is_within (coming_in left input)
 
 -- the first of these lines names no file
 abbrev pub FirstNamesNone : List (List ℕ) → Type 0

@@ -1,7 +1,7 @@
 //! What was read ahead, up to the end of a line.
 ghost use Rattle.std.specs.Prelude.{◌≡◌, ◌≤◌, [], drop, false, length, take};
 ghost use Rattle.std.specs.Io.KnownBytes.{Keeps};
-ghost use Rattle.file_lines.specs.Ahead.{EndsLine, FirstLineFeed, NoLineFeed, to_come};
+ghost use Rattle.file_lines.specs.Ahead.{EndsLine, FirstLineFeed, NoLineFeed, coming, to_come};
 
 use crate::pending::{FillStep, Pending};
 use crate::prompt::Prompt;
@@ -79,10 +79,10 @@ impl<In, P> Ahead<In, P> {
 }
 
 impl<In: Source, P: Prompt> Ahead<In, P> {
-    /// Reads up to the end of the line that the bytes begin or go on with, or up to more bytes than these. What may still
-    /// come stays the same.
+    /// Reads up to the end of the line that the bytes begin or go on with, or up to more bytes than these. What may
+    /// still come stays the same.
     pub(crate) fn line_end(&mut self, most: usize) -> LineEnd
-        ensures coming { Keeps (to_come self.old.is_ended self.old.bytes (In.left self.old.source)) (to_come self.new.is_ended self.new.bytes (In.left self.new.source)) }
+        ensures coming { Keeps (coming In.left self.old) (coming In.left self.new) }
         ensures end { EndsLine most self.new.bytes self.new.is_ended result }
     {
         if most > 0 && !self.ended && self.bytes.as_slice().is_empty() {
@@ -98,7 +98,8 @@ fn read_to_line_end<In: Source>(
     ended: &mut bool,
     most: usize,
 ) -> LineEnd
-    ensures coming { Keeps (to_come ended.old bytes.old (In.left input.old)) (to_come ended.new bytes.new (In.left input.new)) }
+    ensures coming { Keeps (to_come ended.old bytes.old (In.left input.old))
+        (to_come ended.new bytes.new (In.left input.new)) }
     ensures end { EndsLine most bytes.new ended.new result }
 {
     let mut searched = 0usize;

@@ -12,7 +12,8 @@ pub(crate) fn handed_line<F: LineFiles>(
     files: &mut F,
     part: &[u8],
 ) -> Result<Vec<u8>, AllocError>
-    ensures text { IfSome (F.told files.old) (λ shelf. IfOk result (λ text. text.items ≡ handed_line shelf part.now)) }
+    ensures text { IfSome (F.told files.old)
+        (λ shelf. IfOk result (λ text. text.items ≡ handed_line shelf part.now)) }
     ensures told { F.told files.new ≡ F.told files.old }
     ensures unread { path_in part.now ≡ None → files.new ≡ files.old }
 {
@@ -33,7 +34,8 @@ fn replaced<F: LineFiles>(
     line: &[u8],
     path: &str,
 ) -> Result<Option<Vec<u8>>, AllocError>
-    ensures text { IfSome (F.told files.old) (λ shelf. IfOk result (λ text. option_map (λ v. v.items) text ≡ with_file shelf line.now path.now)) }
+    ensures text { IfSome (F.told files.old) (λ shelf. IfOk result
+        (λ text. option_map (λ v. v.items) text ≡ with_file shelf line.now path.now)) }
     ensures told { F.told files.new ≡ F.told files.old }
 {
     let (front, _) = line.split_at(line.len().saturating_sub(path.len() + 1));

@@ -1,7 +1,7 @@
 //! A source of lines that may name the file of their document: `install @FILE` and `update B @FILE`.
 //!
-//! [`FileLines`] stands over the program's input. It hands such a line on with the file's bytes in place of `@FILE`, and
-//! every other line as it is.
+//! [`FileLines`] stands over the program's input. It hands such a line on with the file's bytes in place of `@FILE`,
+//! and every other line as it is.
 #![tactic(auto)]
 
 mod ahead;

@@ -20,7 +20,8 @@ pub trait LineFiles {
         path: &str,
         most: usize,
     ) -> Result<Option<Vec<u8>>, AllocError>
-        ensures answer { IfOk result (λ found. IsAnswer (told self.old) path.now most (option_map (λ bytes. bytes.items) found)) }
+        ensures answer { IfOk result
+            (λ found. IsAnswer (told self.old) path.now most (option_map (λ bytes. bytes.items) found)) }
         ensures most { IfOk result (λ found. IfSome found (λ bytes. vec_len bytes ≤ most)) }
         ensures told { told self.new ≡ told self.old };
 }

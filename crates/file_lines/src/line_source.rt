@@ -1,10 +1,11 @@
 //! The source of lines that may name files.
-ghost use Rattle.std.specs.Prelude.{◌≡◌, ◌^◌, ◌-◌, ◌<◌, ◌≤◌, ◌++◌, ◌∷◌, [], IfOk, IfSome, IsNone, None, Some, false, length, take, true};
+ghost use Rattle.std.specs.Prelude.{◌≡◌, ◌<◌, ◌≤◌, ◌++◌, ◌∷◌, [], IfOk, IfSome, IsNone, None, Some};
+ghost use Rattle.std.specs.Prelude.{false, length, take, true};
 ghost use Rattle.std.specs.Io.KnownBytes.{IsAtEnd, Keeps};
 ghost use Rattle.fault_count.specs.Steps.{GivesBytes, LowersNumber, Rose, faults_after_read};
-ghost use Rattle.file_lines.specs.Ahead.{most_held, to_come};
+ghost use Rattle.file_lines.specs.Ahead.{coming, most_held, to_come};
 ghost use Rattle.file_lines.specs.HandedLines.{next_handed, path_in};
-ghost use Rattle.file_lines.specs.Sources.{NeedsNoFile, left_to_hand, told_on};
+ghost use Rattle.file_lines.specs.Sources.{NeedsNoFile, coming_in, left_in, left_to_hand, new_input, told_on};
 
 use crate::ahead::{Ahead, LINE_FEED, LineEnd};
 use crate::handed_line::handed_line;
@@ -42,15 +43,24 @@ impl<In, F, P> Model for FileLines<In, F, P> {
 
     ghost Value = { LineInput In F };
 
-    ghost view = { λ s. record { source = s.ahead.source; files = s.files; ready = s.ready; ahead = s.ahead.bytes; is_within = s.is_within; is_ended = s.ahead.is_ended; number = s.number; fault_count = s.faults } };
+    ghost view = { λ s. record {
+      source = s.ahead.source;
+      files = s.files;
+      ready = s.ready;
+      ahead = s.ahead.bytes;
+      is_within = s.is_within;
+      is_ended = s.ahead.is_ended;
+      number = s.number;
+      fault_count = s.faults;
+    } };
 }
 
 impl<In: Source, F: LineFiles, P: Prompt> FileLines<In, F, P> {
     /// A source over this one and these files. Nothing was read yet: what it hands on is made of all that the other one
     /// has left.
     pub fn new(alloc: Global, input: In, files: F, prompt: P) -> FileLines<In, F, P>
-        ensures made { result ≡ record { source = input; files = files; ready = []; ahead = []; is_within = false; is_ended = false; number = 2 ^ 64 - 1; fault_count = 0 } }
-        ensures left { left_to_hand (F.told files) [] false (to_come false [] (In.left input)) ≡ told_on (F.told files) (In.left input) }
+        ensures made { result ≡ new_input input files }
+        ensures left { left_in In.left F.told result ≡ told_on (F.told files) (In.left input) }
     {
         FileLines {
             alloc,
@@ -66,9 +76,9 @@ impl<In: Source, F: LineFiles, P: Prompt> FileLines<In, F, P> {
     // Gives bytes that are ready, and has the next ones ready where none are.
     fn give(&mut self, room: &mut [u8]) -> ReadStep
         requires { 0 < length room.old }
-        ensures bytes { GivesBytes (left_to_hand (F.told self.old.files) self.old.ready self.old.is_within (to_come self.old.is_ended self.old.ahead (In.left self.old.source)))
-            (left_to_hand (F.told self.new.files) self.new.ready self.new.is_within (to_come self.new.is_ended self.new.ahead (In.left self.new.source))) result room.new }
-        ensures unread { NeedsNoFile self.old.ready self.old.is_within (to_come self.old.is_ended self.old.ahead (In.left self.old.source)) → self.new.files ≡ self.old.files }
+        ensures bytes { GivesBytes (left_in In.left F.told self.old) (left_in In.left F.told self.new) result room.new }
+        ensures unread { NeedsNoFile self.old.ready self.old.is_within (coming_in In.left self.old)
+            → self.new.files ≡ self.old.files }
         ensures told { F.told self.new.files ≡ F.told self.old.files }
         ensures same { (self.new.number ≡ self.old.number) × (self.new.fault_count ≡ self.old.fault_count) }
     {
@@ -81,10 +91,11 @@ impl<In: Source, F: LineFiles, P: Prompt> FileLines<In, F, P> {
 
     // Has the next bytes ready where none are. False where a read failed or there was no memory.
     fn has_ready(&mut self) -> bool
-        ensures kept { Keeps (left_to_hand (F.told self.old.files) self.old.ready self.old.is_within (to_come self.old.is_ended self.old.ahead (In.left self.old.source)))
-            (left_to_hand (F.told self.new.files) self.new.ready self.new.is_within (to_come self.new.is_ended self.new.ahead (In.left self.new.source))) }
-        ensures end { result ≡ true → self.new.ready ≡ [] → IsAtEnd (left_to_hand (F.told self.new.files) [] self.new.is_within (to_come self.new.is_ended self.new.ahead (In.left self.new.source))) }
-        ensures unread { NeedsNoFile self.old.ready self.old.is_within (to_come self.old.is_ended self.old.ahead (In.left self.old.source)) → self.new.files ≡ self.old.files }
+        ensures kept { Keeps (left_in In.left F.told self.old) (left_in In.left F.told self.new) }
+        ensures end { result ≡ true → self.new.ready ≡ []
+            → IsAtEnd (left_to_hand (F.told self.new.files) [] self.new.is_within (coming_in In.left self.new)) }
+        ensures unread { NeedsNoFile self.old.ready self.old.is_within (coming_in In.left self.old)
+            → self.new.files ≡ self.old.files }
         ensures told { F.told self.new.files ≡ F.told self.old.files }
         ensures same { (self.new.number ≡ self.old.number) × (self.new.fault_count ≡ self.old.fault_count) }
     {
@@ -107,7 +118,7 @@ impl<In: Source, F: LineFiles, P: Prompt> FileLines<In, F, P> {
 }
 
 impl<In: Source, F: LineFiles, P: Prompt> Source for FileLines<In, F, P> {
-    ghost left = { λ s. left_to_hand (F.told s.files) s.ready s.is_within (to_come s.is_ended s.ahead (In.left s.source)) };
+    ghost left = { left_in In.left F.told };
 
     ghost number = { λ s. s.number };
 
@@ -115,13 +126,13 @@ impl<In: Source, F: LineFiles, P: Prompt> Source for FileLines<In, F, P> {
 
     fn read(&mut self, room: &mut [u8]) -> ReadStep
         requires { 0 < length room.old }
-        ensures bytes { GivesBytes (left_to_hand (F.told self.old.files) self.old.ready self.old.is_within (to_come self.old.is_ended self.old.ahead (In.left self.old.source)))
-            (left_to_hand (F.told self.new.files) self.new.ready self.new.is_within (to_come self.new.is_ended self.new.ahead (In.left self.new.source))) result room.new }
+        ensures bytes { GivesBytes (left_in In.left F.told self.old) (left_in In.left F.told self.new) result room.new }
         ensures number { LowersNumber self.old.number self.new.number result }
         ensures cause { result ≡ ReadStep.Failed → Rose self.old.fault_count self.new.fault_count }
         ensures later { self.old.fault_count ≤ self.new.fault_count }
         ensures faults { self.new.fault_count ≡ faults_after_read self.old.fault_count result }
-        ensures unread { NeedsNoFile self.old.ready self.old.is_within (to_come self.old.is_ended self.old.ahead (In.left self.old.source)) → self.new.files ≡ self.old.files }
+        ensures unread { NeedsNoFile self.old.ready self.old.is_within (coming_in In.left self.old)
+            → self.new.files ≡ self.old.files }
         ensures told { F.told self.new.files ≡ F.told self.old.files }
     {
         let most = usize::try_from(self.number)
@@ -152,13 +163,15 @@ fn next_text<In: Source, F: LineFiles, P: Prompt>(
     files: &mut F,
     is_within: &mut bool,
 ) -> Option<Vec<u8>>
-    ensures some { IfSome result (λ text. Keeps (left_to_hand (F.told files.old) [] is_within.old (to_come ahead.old.is_ended ahead.old.bytes (In.left ahead.old.source)))
-        (left_to_hand (F.told files.new) text.items is_within.new (to_come ahead.new.is_ended ahead.new.bytes (In.left ahead.new.source)))) }
-    ensures end { IfSome result (λ text. text.items ≡ [] → IsAtEnd (left_to_hand (F.told files.new) [] is_within.new (to_come ahead.new.is_ended ahead.new.bytes (In.left ahead.new.source)))) }
-    ensures none { IsNone result → Keeps (left_to_hand (F.told files.old) [] is_within.old (to_come ahead.old.is_ended ahead.old.bytes (In.left ahead.old.source)))
-        (left_to_hand (F.told files.new) [] is_within.new (to_come ahead.new.is_ended ahead.new.bytes (In.left ahead.new.source))) }
+    ensures some { IfSome result (λ text. Keeps
+        (left_to_hand (F.told files.old) [] is_within.old (coming In.left ahead.old))
+        (left_to_hand (F.told files.new) text.items is_within.new (coming In.left ahead.new))) }
+    ensures end { IfSome result (λ text. text.items ≡ []
+        → IsAtEnd (left_to_hand (F.told files.new) [] is_within.new (coming In.left ahead.new))) }
+    ensures none { IsNone result → Keeps (left_to_hand (F.told files.old) [] is_within.old (coming In.left ahead.old))
+        (left_to_hand (F.told files.new) [] is_within.new (coming In.left ahead.new)) }
     ensures told { F.told files.new ≡ F.told files.old }
-    ensures unread { NeedsNoFile [] is_within.old (to_come ahead.old.is_ended ahead.old.bytes (In.left ahead.old.source)) → files.new ≡ files.old }
+    ensures unread { NeedsNoFile [] is_within.old (coming In.left ahead.old) → files.new ≡ files.old }
 {
     match ahead.line_end(most_held(*is_within)) {
         LineEnd::LineFeed(at) => {
@@ -198,7 +211,8 @@ fn whole_line<F: LineFiles>(
     is_within: bool,
     part: &[u8],
 ) -> Option<Vec<u8>>
-    ensures text { IfSome result (λ text. IfSome (F.told files.old) (λ shelf. text.items ≡ next_handed shelf is_within part.now ++ 10 ∷ [])) }
+    ensures text { IfSome result (λ text. IfSome (F.told files.old)
+        (λ shelf. text.items ≡ next_handed shelf is_within part.now ++ 10 ∷ [])) }
     ensures some { IfSome result (λ text. 0 < length text.items) }
     ensures told { F.told files.new ≡ F.told files.old }
     ensures unread { (is_within ≡ false → path_in part.now ≡ None) → files.new ≡ files.old }
@@ -217,7 +231,8 @@ fn last_line<F: LineFiles>(
     is_within: bool,
     part: &[u8],
 ) -> Option<Vec<u8>>
-    ensures text { IfSome result (λ text. IfSome (F.told files.old) (λ shelf. text.items ≡ next_handed shelf is_within part.now)) }
+    ensures text { IfSome result (λ text. IfSome (F.told files.old)
+        (λ shelf. text.items ≡ next_handed shelf is_within part.now)) }
     ensures told { F.told files.new ≡ F.told files.old }
     ensures unread { (is_within ≡ false → path_in part.now ≡ None) → files.new ≡ files.old }
 {
@@ -243,7 +258,8 @@ fn next_handed<F: LineFiles>(
     is_within: bool,
     part: &[u8],
 ) -> Result<Vec<u8>, AllocError>
-    ensures text { IfSome (F.told files.old) (λ shelf. IfOk result (λ text. text.items ≡ next_handed shelf is_within part.now)) }
+    ensures text { IfSome (F.told files.old)
+        (λ shelf. IfOk result (λ text. text.items ≡ next_handed shelf is_within part.now)) }
     ensures told { F.told files.new ≡ F.told files.old }
     ensures unread { (is_within ≡ false → path_in part.now ≡ None) → files.new ≡ files.old }
 {

@@ -16,7 +16,8 @@ pub struct MemoryFile {
     pub bytes: Vec<u8>,
 }
 
-/// Files in memory, which tell what they hold and count how often one was read. Of two with the same path the first counts.
+/// Files in memory, which tell what they hold and count how often one was read. Of two with the same path the first
+/// counts.
 #[derive(Drop)]
 pub struct MemoryFiles {
     files: Vec<MemoryFile>,
@@ -74,7 +75,8 @@ fn held(
     file: Option<&MemoryFile>,
     most: usize,
 ) -> Result<Option<Vec<u8>>, AllocError>
-    ensures answer { IfOk result (λ found. option_map (λ bytes. bytes.items) found ≡ option_and_then (at_most most) (option_map (λ file. file.bytes.items) (option_copied file.entry))) }
+    ensures answer { IfOk result (λ found. option_map (λ bytes. bytes.items) found
+        ≡ option_and_then (at_most most) (option_map (λ file. file.bytes.items) (option_copied file.entry))) }
     ensures most { IfOk result (λ found. IfSome found (λ bytes. vec_len bytes ≤ most)) }
 {
     let Some(file) = file else {

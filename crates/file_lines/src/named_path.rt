@@ -3,7 +3,8 @@ ghost use Rattle.std.specs.Prelude.{◌≡◌, MatchOption, false, option_map, t
 ghost use Rattle.std.specs.Str.{is_utf8};
 ghost use Rattle.std.specs.Str.Lines.{strip_carriage_return};
 ghost use Rattle.file_lines.specs.HandedLines.{path_in};
-ghost use Rattle.file_lines.specs.NamedFiles.{before_sign, behind_sign, behind_word, first_word, path_behind, path_behind_number, path_behind_word, path_of};
+ghost use Rattle.file_lines.specs.NamedFiles.{before_sign, behind_sign, behind_word, first_word, path_behind};
+ghost use Rattle.file_lines.specs.NamedFiles.{path_behind_number, path_behind_word, path_of};
 
 use fault_count::decimal;
 use std::str;
@@ -28,7 +29,8 @@ pub(crate) fn path_in(part: &[u8]) -> Option<&str>
 
 // The bytes as a text, where they are one.
 fn as_text(bytes: &[u8]) -> Option<&str>
-    ensures { MatchOption result (is_utf8 bytes.now ≡ false) (λ text. (is_utf8 bytes.now ≡ true) × (text.now ≡ bytes.now)) }
+    ensures { MatchOption result (is_utf8 bytes.now ≡ false)
+        (λ text. (is_utf8 bytes.now ≡ true) × (text.now ≡ bytes.now)) }
 {
     match str::from_utf8(bytes) {
         Ok(text) => Some(text),

@@ -70,7 +70,8 @@ impl Pending {
 
     /// Reads a piece of a source behind them.
     pub(crate) fn fill<In: Source>(&mut self, input: &mut In) -> FillStep
-        ensures { Fills (In.left input.old) (In.left input.new) (In.number input.old) (In.number input.new) self.old self.new result }
+        ensures { Fills (In.left input.old) (In.left input.new) (In.number input.old) (In.number input.new)
+            self.old self.new result }
     {
         if self.forget_taken().is_err() {
             return FillStep::Failed;
@@ -92,7 +93,8 @@ impl Pending {
 
 // Reads a piece of a source behind these bytes. The memory for it is taken first, so nothing that was read is lost.
 fn read_behind<In: Source>(bytes: &mut Vec<u8>, input: &mut In) -> FillStep
-    ensures { Fills (In.left input.old) (In.left input.new) (In.number input.old) (In.number input.new) bytes.old.items bytes.new.items result }
+    ensures { Fills (In.left input.old) (In.left input.new) (In.number input.old) (In.number input.new)
+        bytes.old.items bytes.new.items result }
 {
     if bytes.reserve(PIECE).is_err() {
         return FillStep::Failed;

@@ -12,10 +12,10 @@ use std::alloc::Global;
 
 /// The component code of the gateway.
 ///
-/// A Create is refused where the class isn't one of the gateway's, an Activate and a Modified where a sensor has no text
-/// `reading`, or a store no text `folder`. A sensor answers its reading with its unit, and a store what it was given. The
-/// aggregator asks the best of its `sensors` and hands what it reads to its `store`. The page shows at its path `/` what its
-/// `aggregator` answers, and refuses every other path.
+/// A Create is refused where the class isn't one of the gateway's, an Activate and a Modified where a sensor has no
+/// text `reading`, or a store no text `folder`. A sensor answers its reading with its unit, and a store what it was
+/// given. The aggregator asks the best of its `sensors` and hands what it reads to its `store`. The page shows at its
+/// path `/` what its `aggregator` answers, and refuses every other path.
 #[derive(Clone, Copy, Debug, PartialEq, Eq, Drop)]
 pub struct Gateway;
 

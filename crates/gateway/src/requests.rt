@@ -28,7 +28,8 @@ pub(crate) fn begun(
     site: &Site,
     request: &str,
 ) -> Result<Next<Waiting>, KindFault>
-    ensures { Moves (λ work. asked work.site work.request work.reading) (asked site.now request.now None) (first_move class site.now.properties request.now) result }
+    ensures { Moves (λ work. asked work.site work.request work.reading) (asked site.now request.now None)
+        (first_move class site.now.properties request.now) result }
 {
     match class {
         Class::Thermometer => Ok(Next::Answer {
@@ -54,7 +55,8 @@ pub(crate) fn replied(
     request: Str,
     reply: &NestedReply,
 ) -> Result<Next<Waiting>, KindFault>
-    ensures { Moves (λ work. asked work.site work.request work.reading) (record (asked site request None) { replies = reply.now ∷ [] }) (second_move class reply.now) result }
+    ensures { Moves (λ work. asked work.site work.request work.reading)
+        (record (asked site request None) { replies = reply.now ∷ [] }) (second_move class reply.now) result }
 {
     match class {
         Class::Aggregator => match reply {
@@ -111,7 +113,8 @@ fn asks(
     request: &str,
     reference: &str,
 ) -> Result<Next<Waiting>, OutOfMemory>
-    ensures { IfOk result (λ next. IsMove (λ work. asked work.site work.request work.reading) (asked site.now request.now None) (Calls reference.now (codes "read")) next) }
+    ensures { IfOk result (λ next. IsMove (λ work. asked work.site work.request work.reading)
+        (asked site.now request.now None) (Calls reference.now (codes "read")) next) }
 {
     Ok(Next::Call {
         reference: Str::spell(alloc, reference)?,
@@ -131,7 +134,8 @@ fn keeps(
     request: Str,
     reading: &str,
 ) -> Result<Next<Waiting>, OutOfMemory>
-    ensures { IfOk result (λ next. IsMove (λ work. asked work.site work.request work.reading) (asked site request (Some reading.now)) (Calls (codes "store") reading.now) next) }
+    ensures { IfOk result (λ next. IsMove (λ work. asked work.site work.request work.reading)
+        (asked site request (Some reading.now)) (Calls (codes "store") reading.now) next) }
 {
     let reference = Str::spell(alloc, "store")?;
     let given = Str::spell(alloc, reading)?;
