@@ -8,6 +8,8 @@ mod callbacks;
 mod demonstrations;
 #[cfg(test)]
 mod due_callbacks;
+#[cfg(test)]
+mod gateway_code;
 mod memory_desk;
 #[cfg(test)]
 mod nested_calls;

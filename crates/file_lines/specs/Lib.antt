@@ -1,0 +1,5 @@
+pub mod Ahead
+pub mod Files
+pub mod HandedLines
+pub mod NamedFiles
+pub mod Sources
