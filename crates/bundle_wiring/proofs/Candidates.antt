@@ -79,7 +79,7 @@ set_any need (b ∷ bs) =
     list_any-append (λ (o : Placed). meets need o.offer) (offered b) rest
     ∙ (ap (λ x. x || some_placed rest need) (placed_any need b.0 0 b.1.offers) ∙ ap (λ x. list_any (meets need) b.1.offers || x) (set_any need bs))
 
-placed_candidate : (set : List Bundle) (need : WireNeed) → some_placed (all_placed set) need ≡ has_candidate set need
+pub placed_candidate : (set : List Bundle) (need : WireNeed) → some_placed (all_placed set) need ≡ has_candidate set need
 placed_candidate set need =
     let rest = flat_map offered set in
     list_any-append (λ (o : Placed). meets need o.offer) (placed_from 0 0 platform_offers) rest
@@ -116,11 +116,11 @@ kept_nothing : (M : Placed → Bool) (x : Placed) (xs : List Placed) (m : Bool) 
 kept_nothing M x xs true f h = absurd (cc)
 kept_nothing M x xs false f h = f h
 
-none_kept : (M : Placed → Bool) (xs : List Placed) → filter M xs ≡ [] → list_any M xs ≡ false
+pub none_kept : (M : Placed → Bool) (xs : List Placed) → filter M xs ≡ [] → list_any M xs ≡ false
 none_kept M [] e = refl
 none_kept M (x ∷ xs) e = kept_nothing M x xs (M x) (none_kept M xs) e
 
-kept_none : (M : Placed → Bool) (xs : List Placed) → list_any M xs ≡ false → filter M xs ≡ []
+pub kept_none : (M : Placed → Bool) (xs : List Placed) → list_any M xs ≡ false → filter M xs ≡ []
 kept_none M [] e = refl
 kept_none M (x ∷ xs) e =
     let parts = or_parts (M x) (list_any M xs) e in

@@ -11,3 +11,4 @@ pub mod Sets
 pub mod Stands
 pub mod VersionTexts
 pub mod WorkedWorlds
+pub mod WiredNeeds

@@ -62,7 +62,7 @@ missing bundles test g =
     (turned (is_met set) test (λ b. is_some (missing_need set b)) bundles
     (λ b e. found (λ (need : WireNeed). need.optional || has_candidate set need) b.1.needs ∙ ap not e) (met_is_test bundles test g))
 
-one_set : (bundles : List Bundle) (test other : Bundle → Bool) → IsGreatest bundles test → IsGreatest bundles other → filter test bundles ≡ filter other bundles
+pub one_set : (bundles : List Bundle) (test other : Bundle → Bool) → IsGreatest bundles test → IsGreatest bundles other → filter test bundles ≡ filter other bundles
 one_set bundles test other g h = same_kept test other bundles (both_ways test other bundles (h.greatest test g.consistent) (g.greatest other h.consistent))
 
 pub one_resolution : (bundles : List Bundle) (one other : Resolved) → IsResolution bundles one → IsResolution bundles other → one ≡ other

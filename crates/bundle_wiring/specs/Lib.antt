@@ -1,4 +1,5 @@
 pub mod Best
+pub mod ByNeed
 pub mod Faults
 pub mod Inside
 pub mod Placing

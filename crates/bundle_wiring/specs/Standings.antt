@@ -1,6 +1,7 @@
 -- Bundles that are struck out while others are left, and where each need stands. What only code and proofs need.
 use Rattle.std.specs.Prelude.{◌≡◌, ℕ, ◌+◌, ◌<◌, ◌≤◌, ◌&&◌, List, [], ◌∷◌, ◌++◌, length, Bool, true, false, not, IsTrue, Option, Some, None, is_none, option_map, map, filter, if◌then◌else◌, slice_get, slice_index_or, slice_set}
 use Rattle.std.specs.List.{list_any, position_or_len}
+use Rattle.bundle_wiring.specs.ByNeed.{Wired}
 use Rattle.bundle_wiring.specs.Placing.{placed_of}
 use Rattle.bundle_wiring.specs.Resolution.{Bundle, is_consistent, meets, wire_of}
 use Rattle.bundle_wiring.specs.declared.placed_offers.PlacedOffer.{PlacedOffer}
@@ -87,6 +88,17 @@ struck table left s = if is_lost left table s then slice_set left s.home false e
 -- the wire of a need of a bundle that is left
 abbrev pub wire_at : List Bool → List PlacedOffer → Standing → List Wire
 wire_at left table s = if is_left left s.home then wire_of s.from s.place (option_map placed_of (slice_get table s.at)) else []
+
+-- the bundle that makes the offer at a place, if there is one
+abbrev pub target_at : List PlacedOffer → ℕ → Option ℕ
+target_at table at = option_map (λ (o : PlacedOffer). o.to) (slice_get table at)
+
+abbrev pub wired_at : List PlacedOffer → Standing → Wired
+wired_at table s = (s.need, target_at table s.at)
+
+-- each need of a bundle, with the bundle of the first offer that counts
+abbrev pub stood_in : List Bool → List PlacedOffer → Bundle → List Wired
+stood_in left table bundle = map (λ (need : WireNeed). (need, target_at table (first_place left need table))) bundle.1.needs
 
 -- what is left contains each consistent set of the bundles
 abbrev pub HoldsConsistent : List Bundle → List Bool → Type 0

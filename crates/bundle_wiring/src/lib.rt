@@ -2,6 +2,7 @@
 //! of its bundle's needs and offers, the greatest set of bundles whose needs are met within it, and their wires.
 #![tactic(auto)]
 
+mod by_need;
 mod capabilities;
 mod clauses;
 mod fault;
@@ -21,8 +22,9 @@ mod version_text;
 mod wires;
 mod wiring;
 
+pub use by_need::{WiredNeed, wire_needs};
 pub use fault::WireFault;
-pub use laws::{note_missing_need, note_one_resolution};
+pub use laws::{note_missing_need, note_one_resolution, note_one_set, note_wired_to};
 pub use matching::matches_versioned;
 pub use reading::read_wiring;
 pub use resolved::{Resolved, Wire};

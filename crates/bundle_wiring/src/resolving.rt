@@ -59,13 +59,13 @@ fn numbers_of(
 
 /// Which bundles are left, and where each need stands.
 #[derive(Drop)]
-struct Settled<'b> {
-    left: Vec<bool>,
-    stands: Vec<Stand<'b>>,
+pub(crate) struct Settled<'b> {
+    pub(crate) left: Vec<bool>,
+    pub(crate) stands: Vec<Stand<'b>>,
 }
 
 // Bundles that lack a candidate are struck out, and the needs whose candidate was theirs look on, until none lacks one.
-fn settle<'b>(
+pub(crate) fn settle<'b>(
     alloc: Global,
     table: &[PlacedOffer],
     bundles: &'b [(u64, Wiring)],
@@ -82,7 +82,7 @@ fn settle<'b>(
     Ok(Settled { left, stands })
 }
 
-fn platform_offers(alloc: Global) -> Result<Vec<Offer>, OutOfMemory>
+pub(crate) fn platform_offers(alloc: Global) -> Result<Vec<Offer>, OutOfMemory>
     ensures { IfOk result (λ offers. offers.items ≡ platform_offers) }
 {
     let mut offers = Vec::new(alloc);

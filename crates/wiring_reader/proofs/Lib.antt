@@ -1,0 +1,3 @@
+pub mod OneTelling
+pub mod Pairs
+pub mod Places

@@ -1,0 +1,8 @@
+use Rattle.std.proofs.Common.{◌≡◌, ◌++◌, drop, map}
+use Rattle.bundle_wiring.specs.ByNeed.{wired_of}
+use Rattle.wiring_reader.specs.Lines.{paired, resolved_wires}
+use Rattle.wiring_reader.proofs.lines.push_wires.Given as goal
+
+abbrev pub invariant-loop-place : goal.invariant-loop-place
+invariant-loop-place l =
+    l.lines.items ++ paired resolved_wires (drop l.place l.heads) (map (map wired_of) (drop l.place l.wired)) ≡ l.initial.lines.items ++ paired resolved_wires l.heads (map (map wired_of) l.wired)
