@@ -4,43 +4,35 @@
 
 use demonstration_kinds::Demonstration;
 use fault_count::{StdSink, StdSource};
-use platform_shell::{Platform, Status, run_script};
-use scr_core::Limits;
+use platform_shell::{Status, run_program};
 use std::io::ErrorKind;
 use std::process::ExitCode;
+use std::rt::Env;
 use std::{env, io};
 
-// The greatest limits of a platform.
-const LIMITS: Limits = Limits {
-    journal: 4_194_304,
-    turns: 1_000_000,
-};
-
 fn main(rt: HostRuntime) -> ExitCode {
-    let alloc = rt.alloc();
-    let all = match env::args(&rt) {
+    run_program(
+        rt.alloc(),
+        Demonstration,
+        given_words(&rt),
+        &mut StdSource::new(rt.reader()),
+        &mut StdSink::new(io::writer(&rt)),
+    )
+}
+
+// The words of the command line behind the name of the program, or how it ends where they can't be read.
+fn given_words(rt: &(impl Env + AllocGlobal)) -> Result<Vec<String>, Status> {
+    let all = match env::args(rt) {
         Ok(all) => all,
-        Err(fault) => return ended(status_without_words(fault.kind())),
+        Err(fault) => return Err(status_without_words(fault.kind())),
     };
-    let mut words = Vec::new(alloc);
+    let mut words = Vec::new(rt.alloc());
     for word in all.skip(1) {
         if words.push(word).is_err() {
-            return ended(Status::NoMemory);
+            return Err(Status::NoMemory);
         }
     }
-    let mut texts = Vec::new(alloc);
-    for word in &words {
-        if texts.push(word.as_str()).is_err() {
-            return ended(Status::NoMemory);
-        }
-    }
-    let Ok(mut platform) = Platform::new(alloc, Demonstration, LIMITS) else {
-        return ended(Status::NoMemory);
-    };
-    let mut input = StdSource::new(rt.reader());
-    let mut output = StdSink::new(io::writer(&rt));
-    let words = texts.as_slice();
-    ended(run_script(alloc, &mut platform, words, &mut input, &mut output))
+    Ok(words)
 }
 
 // How the program ends where the words of the command line can't be read. Words that aren't UTF-8 are no form.
@@ -49,8 +41,4 @@ fn status_without_words(fault: ErrorKind) -> Status {
         ErrorKind::OutOfMemory => Status::NoMemory,
         _ => Status::Usage { at: 0 },
     }
-}
-
-fn ended(status: Status) -> ExitCode {
-    ExitCode::from(status.code())
 }

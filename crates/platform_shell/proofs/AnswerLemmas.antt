@@ -1,5 +1,5 @@
 -- Lemmas on a line that ends the run.
-use Rattle.std.proofs.Common.{◌≡◌, ℕ, List, subst, sym, refl, Bool, false, Ok, Err, inl, inr}
+use Rattle.std.proofs.Common.{◌≡◌, ℕ, List, subst, sym, refl, false, Ok, Err, inl, inr}
 use Rattle.std.specs.declared.option.Option.{Option}
 use Rattle.fault_count.specs.Steps.{Rose}
 use Rattle.platform_hall.specs.Cores.{CoreView}
@@ -7,6 +7,7 @@ use Rattle.shell_lang.specs.ShellLines.{Asked, shell_line, is_quit}
 use Rattle.turn_runner.specs.declared.settle_fault.SettleFault.{SettleFault}
 use Rattle.turn_runner.specs.declared.settle_fault.SettleFault.TheVariants.{Unsettled as StillDue, JournalFull as NoRoom, OutOfMemory}
 use Rattle.platform_shell.specs.declared.line_input.LineStep.TheVariants.{Line as OfLine}
+use Rattle.platform_shell.specs.declared.form.Form.{Form}
 use Rattle.platform_shell.specs.declared.status.Status.{Status}
 use Rattle.platform_shell.specs.declared.status.Status.TheVariants.{Done, Usage, ReadFault, WriteFault, NoMemory, JournalFull, LineTooLong, Unsettled}
 use Rattle.platform_shell.specs.Answers.{AnswersLine}
@@ -67,13 +68,13 @@ reads_unanswered (LineTooLong line) s asked now later w w' count answer = refl
 reads_unanswered Unsettled s asked now later w w' count answer = refl
 
 -- the cause of the end is the sink's failure, or stands with what ran
-pub cause_unanswered : (status : Status) (s : Setting) (asked : Asked) (now later : CoreView) (w w' : Option (List ℕ)) (manual : Bool) (reads : Type 0) (count count' : ℕ) → AnswersLine s asked (Err status) now later w w'
-    → count' ≡ write_faults_after count status → HasCause status (Ok manual) reads (Rose count count')
-cause_unanswered Done s asked now later w w' manual reads count count' answer is = tt
-cause_unanswered (Usage at) s asked now later w w' manual reads count count' answer is = absurd answer
-cause_unanswered ReadFault s asked now later w w' manual reads count count' answer is = absurd answer
-cause_unanswered WriteFault s asked now later w w' manual reads count count' answer is = rose_next count count' is
-cause_unanswered NoMemory s asked now later w w' manual reads count count' answer is = tt
-cause_unanswered JournalFull s asked now later w w' manual reads count count' answer is = tt
-cause_unanswered (LineTooLong line) s asked now later w w' manual reads count count' answer is = tt
-cause_unanswered Unsettled s asked now later w w' manual reads count count' answer is = tt
+pub cause_unanswered : (status : Status) (s : Setting) (asked : Asked) (now later : CoreView) (w w' : Option (List ℕ)) (form : Form) (reads : Type 0) (count count' : ℕ) → AnswersLine s asked (Err status) now later w w'
+    → count' ≡ write_faults_after count status → HasCause status (Ok form) reads (Rose count count')
+cause_unanswered Done s asked now later w w' form reads count count' answer is = tt
+cause_unanswered (Usage at) s asked now later w w' form reads count count' answer is = absurd answer
+cause_unanswered ReadFault s asked now later w w' form reads count count' answer is = absurd answer
+cause_unanswered WriteFault s asked now later w w' form reads count count' answer is = rose_next count count' is
+cause_unanswered NoMemory s asked now later w w' form reads count count' answer is = tt
+cause_unanswered JournalFull s asked now later w w' form reads count count' answer is = tt
+cause_unanswered (LineTooLong line) s asked now later w w' form reads count count' answer is = tt
+cause_unanswered Unsettled s asked now later w w' form reads count count' answer is = tt

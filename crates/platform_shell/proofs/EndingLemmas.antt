@@ -6,6 +6,7 @@ use Rattle.std.specs.declared.option.Option.{Option}
 use Rattle.fault_count.specs.Steps.{Rose, next_count}
 use Rattle.turn_runner.specs.declared.settle_fault.SettleFault.{SettleFault}
 use Rattle.turn_runner.specs.declared.settle_fault.SettleFault.TheVariants.{Unsettled as StillDue, JournalFull as NoRoom, OutOfMemory}
+use Rattle.platform_shell.specs.declared.form.Form.{Form}
 use Rattle.platform_shell.specs.declared.status.Status.{Status}
 use Rattle.platform_shell.specs.declared.status.Status.TheVariants.{Done, Usage, ReadFault, WriteFault, NoMemory, JournalFull, LineTooLong, Unsettled}
 use Rattle.platform_shell.specs.Lines.{Line, is_too_long, lines_of}
@@ -41,25 +42,25 @@ cut_off : (s : Setting) (bytes : List ℕ) (before after : CoreView) (written wr
 cut_off s bytes before after written written' status fault ran cut = (ran.lines, ran.others, ran.between, after, ran.commands, ran.later, ran.replies, ran.first, ran.ran, cut)
 
 -- a run without another cause came to its end
-ends_or_lacks : (s : Setting) (bytes : List ℕ) (before after : CoreView) (written written' : Option (List ℕ)) (status : Status) (manual : Bool) (R W : Type 0)
-    → HasRun s bytes before after written written' status → HasCause status (Ok manual) R W → (R → ⊥) → (W → ⊥)
+ends_or_lacks : (s : Setting) (bytes : List ℕ) (before after : CoreView) (written written' : Option (List ℕ)) (status : Status) (form : Form) (R W : Type 0)
+    → HasRun s bytes before after written written' status → HasCause status (Ok form) R W → (R → ⊥) → (W → ⊥)
     → (IsCutOff s before (script_lines (lines_of bytes)) NoRoom → ⊥) → (IsCutOff s before (script_lines (lines_of bytes)) StillDue → ⊥) → (status ≡ NoMemory) ⊎ Ends bytes status
-ends_or_lacks s bytes before after written written' Done manual R W ran cause reads writes room turns = inr (at_end s bytes before after written written' Done ran tt)
-ends_or_lacks s bytes before after written written' (Usage at) manual R W ran cause reads writes room turns = absurd cc
-ends_or_lacks s bytes before after written written' ReadFault manual R W ran cause reads writes room turns = absurd (reads cause)
-ends_or_lacks s bytes before after written written' WriteFault manual R W ran cause reads writes room turns = absurd (writes cause)
-ends_or_lacks s bytes before after written written' NoMemory manual R W ran cause reads writes room turns = inl refl
-ends_or_lacks s bytes before after written written' JournalFull manual R W ran cause reads writes room turns =
+ends_or_lacks s bytes before after written written' Done form R W ran cause reads writes room turns = inr (at_end s bytes before after written written' Done ran tt)
+ends_or_lacks s bytes before after written written' (Usage at) form R W ran cause reads writes room turns = absurd cc
+ends_or_lacks s bytes before after written written' ReadFault form R W ran cause reads writes room turns = absurd (reads cause)
+ends_or_lacks s bytes before after written written' WriteFault form R W ran cause reads writes room turns = absurd (writes cause)
+ends_or_lacks s bytes before after written written' NoMemory form R W ran cause reads writes room turns = inl refl
+ends_or_lacks s bytes before after written written' JournalFull form R W ran cause reads writes room turns =
     absurd (room (cut_off s bytes before after written written' JournalFull NoRoom ran ran.stops.0))
-ends_or_lacks s bytes before after written written' (LineTooLong line) manual R W ran cause reads writes room turns = inr (at_end s bytes before after written written' (LineTooLong line) ran tt)
-ends_or_lacks s bytes before after written written' Unsettled manual R W ran cause reads writes room turns =
+ends_or_lacks s bytes before after written written' (LineTooLong line) form R W ran cause reads writes room turns = inr (at_end s bytes before after written written' (LineTooLong line) ran tt)
+ends_or_lacks s bytes before after written written' Unsettled form R W ran cause reads writes room turns =
     absurd (turns (cut_off s bytes before after written written' Unsettled StillDue ran ran.stops.0))
 
 -- where neither end fails
-pub run_ends_script : (s : Setting) (left written written' : Option (List ℕ)) (before after : CoreView) (status : Status) (manual : Bool) (R W : Type 0) → HasRunOver s left before after written written' status
-    → HasCause status (Ok manual) R W → (R → ⊥) → (W → ⊥) → EndsScript s left before status
-run_ends_script s left written written' before after status manual R W (bytes, told, ran) cause reads writes =
-    (bytes, told, λ room turns. ends_or_lacks s bytes before after written written' status manual R W ran cause reads writes room turns)
+pub run_ends_script : (s : Setting) (left written written' : Option (List ℕ)) (before after : CoreView) (status : Status) (form : Form) (R W : Type 0) → HasRunOver s left before after written written' status
+    → HasCause status (Ok form) R W → (R → ⊥) → (W → ⊥) → EndsScript s left before status
+run_ends_script s left written written' before after status form R W (bytes, told, ran) cause reads writes =
+    (bytes, told, λ room turns. ends_or_lacks s bytes before after written written' status form R W ran cause reads writes room turns)
 
 -- a line that is cut off is no failure of the sink
 pub no_write_fault_cut : (count : ℕ) (fault : SettleFault) → write_faults_after count (status_of fault) ≡ count

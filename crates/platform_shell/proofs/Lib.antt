@@ -14,3 +14,8 @@ pub mod ReadNames
 pub mod LineNames
 pub mod OwnNames
 pub mod NamesKept
+pub mod Mapped
+pub mod Replaying
+pub mod Counting
+pub mod Loading
+pub mod Programs

@@ -139,10 +139,10 @@ grew_ran s first (line ∷ lines) before after commands replies (between, told, 
     grew_same before after (commands_of before (shell_line line) ++ later) commands (sym all)
     (grew_trans before between after (commands_of before (shell_line line)) later (grew_line s first (shell_line line) before between told runs) (grew_ran s first lines between after later rest ran))
 
-grew_stays : (before after : CoreView) (commands : List Command) → Stays before after commands → Grew before after commands
+pub grew_stays : (before after : CoreView) (commands : List Command) → Stays before after commands → Grew before after commands
 grew_stays before after commands (same, none) = grew_none before after commands none (grew_not before after same)
 
-grew_cuts_first : (s : Setting) (others : List (List ℕ)) (fault : SettleFault) (before after : CoreView) (commands : List Command) → CutsFirst s others fault before after commands → Grew before after commands
+pub grew_cuts_first : (s : Setting) (others : List (List ℕ)) (fault : SettleFault) (before after : CoreView) (commands : List Command) → CutsFirst s others fault before after commands → Grew before after commands
 grew_cuts_first s [] fault before after commands cut = absurd cut
 grew_cuts_first s (line ∷ lines) fault before after commands cut = grew_cuts s (shell_line line) fault before after commands cut
 

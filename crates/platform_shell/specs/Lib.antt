@@ -1,5 +1,6 @@
 pub mod Lines
 pub mod Reading
+pub mod Forms
 pub mod Statuses
 pub mod Asks
 pub mod Cuts
@@ -7,3 +8,8 @@ pub mod Rests
 pub mod Carries
 pub mod Runs
 pub mod Answers
+pub mod Loads
+pub mod LoadLines
+pub mod Replays
+pub mod FormRuns
+pub mod Programs

@@ -1,9 +1,9 @@
--- How a run ends, and the words that ask for one. Our own form.
-use Rattle.std.specs.Prelude.{◌≡◌, ℕ, List, [], ◌∷◌, Bool, true, false, codes, Result, Ok, Err, if◌then◌else◌}
-use Rattle.std.specs.Str.{bytes_eq}
+-- How a run ends. Our own form.
+use Rattle.std.specs.Prelude.{◌≡◌, ℕ, Result, Err}
 use Rattle.fault_count.specs.Steps.{next_count}
 use Rattle.turn_runner.specs.declared.settle_fault.SettleFault.{SettleFault}
 use Rattle.turn_runner.specs.declared.settle_fault.SettleFault.TheVariants.{Unsettled as StillDue, JournalFull as NoRoom, OutOfMemory}
+use Rattle.platform_shell.specs.declared.form.Form.{Form}
 use Rattle.platform_shell.specs.declared.status.Status.{Status}
 use Rattle.platform_shell.specs.declared.status.Status.TheVariants.{Done, Usage, ReadFault, WriteFault, NoMemory, JournalFull, LineTooLong, Unsettled}
 
@@ -18,21 +18,6 @@ code_of JournalFull = 5
 code_of (LineTooLong line) = 6
 code_of Unsettled = 7
 
--- nothing follows `script --manual`
-abbrev pub after_manual : List (List ℕ) → Result Bool ℕ
-after_manual [] = Ok true
-after_manual (word ∷ words) = Err 2
-
--- what may follow `script`
-abbrev pub after_script : List (List ℕ) → Result Bool ℕ
-after_script [] = Ok false
-after_script (word ∷ words) = if bytes_eq word (codes "--manual") then after_manual words else Err 1
-
--- whether the words are `script --manual`, where they are that or `script`; else the first word with which no form continues, or the number of words
-abbrev pub form_of : List (List ℕ) → Result Bool ℕ
-form_of [] = Err 0
-form_of (word ∷ words) = if bytes_eq word (codes "script") then after_script words else Err 0
-
 -- the statuses of a run that came to an end of its script
 abbrev pub IsEnding : Status → Type 0
 IsEnding Done = Unit {0}
@@ -40,7 +25,7 @@ IsEnding (LineTooLong line) = Unit {0}
 IsEnding _ = ⊥
 
 -- the cause of a status: words that are no form, a source that failed, a sink that failed; the others' stands with what ran
-abbrev pub HasCause : Status → Result Bool ℕ → Type 0 → Type 0 → Type 0
+abbrev pub HasCause : Status → Result Form ℕ → Type 0 → Type 0 → Type 0
 HasCause (Usage at) form read_failed write_failed = form ≡ Err at
 HasCause ReadFault form read_failed write_failed = read_failed
 HasCause WriteFault form read_failed write_failed = write_failed

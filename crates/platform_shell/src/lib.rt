@@ -1,20 +1,34 @@
 //! The shell of the platform: lines in, replies out.
 //!
-//! [`run_script`] reads the lines of a source, has the [`Platform`] carry out what they ask, and writes the replies.
+//! [`run_script`] runs what the words of a command line ask for: the lines of a source, each with its reply, or those of a
+//! load. [`run_program`] is the whole of the program over given words and ends.
 #![tactic(auto)]
 
 mod asked;
+mod form;
+mod form_run;
+mod form_words;
+mod journal_replay;
 mod line_answer;
 mod line_ask;
 mod line_input;
 mod line_run;
+mod load_answers;
+mod load_counts;
+mod load_line;
+mod load_run;
 mod notes;
+mod program_run;
 mod readings;
 mod reply_output;
 mod script_run;
 mod status;
 
+pub use form::{Form, LoadNumbers, ScriptOptions};
+pub use form_run::run_script;
+pub use form_words::form_of;
+pub use load_run::run_load;
 pub use notes::note_own_names;
 pub use platform_hall::Platform;
-pub use script_run::run_script;
+pub use program_run::run_program;
 pub use status::Status;

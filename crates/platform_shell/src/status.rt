@@ -1,13 +1,13 @@
-//! How a run ends, and the words that ask for one.
-ghost use Rattle.std.specs.Prelude.{◌≡◌, map};
-ghost use Rattle.platform_shell.specs.Statuses.{after_script, code_of, form_of};
+//! How a run ends.
+ghost use Rattle.std.specs.Prelude.{◌≡◌};
+ghost use Rattle.platform_shell.specs.Statuses.{code_of};
 
 use turn_runner::SettleFault;
 
 /// How a run ends.
 #[derive(Clone, Copy, Debug, PartialEq, Eq)]
 pub enum Status {
-    /// The input was read to `quit` or to its end.
+    /// The input was read to `quit` or to its end, or a load ran through.
     Done,
     /// The words are no form.
     Usage {
@@ -61,28 +61,5 @@ impl From<SettleFault> for Status {
             SettleFault::JournalFull => Status::JournalFull,
             SettleFault::OutOfMemory => Status::NoMemory,
         }
-    }
-}
-
-// Whether the words are `script --manual`, where they are that or `script`; else the first word with which no form continues, or
-// the number of words.
-pub(crate) fn form_of(words: &[&str]) -> Result<bool, u64>
-    ensures { result ≡ form_of (map (λ word. word.now) words.now) }
-{
-    match words {
-        [word, rest @ ..] if *word == "script" => form_behind(rest),
-        _ => Err(0),
-    }
-}
-
-// What follows `script`.
-fn form_behind(words: &[&str]) -> Result<bool, u64>
-    ensures { result ≡ after_script (map (λ word. word.now) words.now) }
-{
-    match words {
-        [] => Ok(false),
-        [word] if *word == "--manual" => Ok(true),
-        [word, _, ..] if *word == "--manual" => Err(2),
-        _ => Err(1),
     }
 }

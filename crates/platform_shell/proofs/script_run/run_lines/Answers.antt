@@ -2,6 +2,7 @@ use Rattle.std.proofs.Common.{◌≡◌, ◌∙◌, ap, sym, subst, refl, inl, f
 use Rattle.std.specs.declared.option.Option.{Option}
 use Rattle.fault_count.specs.Steps.{Rose, next_count}
 use Rattle.shell_lang.specs.ShellLines.{Asked, shell_line, is_quit}
+use Rattle.platform_shell.specs.declared.form.Form.TheVariants.{Script}
 use Rattle.platform_shell.specs.declared.status.Status.TheVariants.{NoMemory, ReadFault}
 use Rattle.platform_shell.specs.Answers.{AnswersLine}
 use Rattle.platform_shell.specs.Asks.{Setting}
@@ -72,7 +73,7 @@ pub returns-in-Err-clause-cause : goal.returns-in-Err-clause-cause
 returns-in-Err-clause-cause g c =
     let s : Setting = record { is_manual = c.args.manual; refuses = g.K.Kinds.refuses } in
     let count = g.Out.Sink.fault_count c.args.output.now in
-    cause_unanswered c.in-Err.status s c.in-Asked.asked c.loop-line.platform c.answer_line.new.platform (g.Out.Sink.written c.loop-line.output) (g.Out.Sink.written c.answer_line.new.output) c.args.manual
+    cause_unanswered c.in-Err.status s c.in-Asked.asked c.loop-line.platform c.answer_line.new.platform (g.Out.Sink.written c.loop-line.output) (g.Out.Sink.written c.answer_line.new.output) (Script (record { manual = c.args.manual }))
     (Rose (g.In.Source.fault_count c.args.input.now) (g.In.Source.fault_count c.next_line.new.input)) count (g.Out.Sink.fault_count c.answer_line.new.output)
     c.in-Err.ensures.answered (c.in-Err.ensures.faults ∙ ap (λ n. write_faults_after n c.in-Err.status) c.loop-line.invariant.writes)
 
