@@ -63,7 +63,7 @@ fn counts_of<K: Kinds + Drop>(
         refused: answered.refused,
         records: journal.length(),
         turns: turns_in(journal.entries()),
-        satisfied: replay.open.len() as u64,
+        satisfied: replay.open.as_slice().len() as u64,
         active: active_among(replay.living.as_slice()),
     })
 }

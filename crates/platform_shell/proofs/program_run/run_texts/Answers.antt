@@ -9,7 +9,7 @@ returns-in-Ok g c =
     let input' : EndView = record { bytes = g.In.Source.left c.run_script.new.input; faults = g.In.Source.fault_count c.run_script.new.input } in
     let output : EndView = record { bytes = g.Out.Sink.written c.args.output.now; faults = g.Out.Sink.fault_count c.args.output.now } in
     let output' : EndView = record { bytes = g.Out.Sink.written c.run_script.new.output; faults = g.Out.Sink.fault_count c.run_script.new.output } in
-    run_new g.K.Kinds.refuses _ _ c.in-Ok.platform c.run_script.new.platform input input' output output' c.run_script.result refl c.in-Ok.ensures (record {
+    run_new g.K.Kinds.refuses _ _ c.in-Ok.platform c.run_script.new.platform input input' output output' c.run_script.result refl c.in-Ok.ensures.ok (record {
       run = c.run_script.ensures.run;
       cause = c.run_script.ensures.cause;
       fault = c.run_script.ensures.fault;

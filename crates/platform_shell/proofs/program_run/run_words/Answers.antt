@@ -1,6 +1,6 @@
-use Rattle.std.proofs.Common.{◌≡◌, ℕ, List, map, subst}
-use Rattle.std.specs.Prelude.{string_bytes}
-use Rattle.platform_shell.specs.Programs.{EndView, RunsNew}
+use Rattle.std.proofs.Common.{◌∙◌, ap, map}
+use Rattle.platform_shell.specs.Programs.{EndView}
+use Rattle.platform_shell.proofs.Programs.{run_same}
 use Rattle.platform_shell.proofs.program_run.run_words.Goals as goal
 
 pub returns-in-Ok : goal.returns-in-Ok
@@ -9,6 +9,4 @@ returns-in-Ok g c =
     let input' : EndView = record { bytes = g.In.Source.left c.run_texts.new.input; faults = g.In.Source.fault_count c.run_texts.new.input } in
     let output : EndView = record { bytes = g.Out.Sink.written c.args.output.now; faults = g.Out.Sink.fault_count c.args.output.now } in
     let output' : EndView = record { bytes = g.Out.Sink.written c.run_texts.new.output; faults = g.Out.Sink.fault_count c.run_texts.new.output } in
-    let P : List (List ℕ) → Type 0 = λ words. RunsNew g.K.Kinds.refuses words input input' output output' c.run_texts.result in
-    let same : map (λ (word : _). word.now) c.as_slice.result.now ≡ map string_bytes c.args.words.now = cc in
-    subst P same c.run_texts.ensures
+    run_same g.K.Kinds.refuses _ _ input input' output output' c.run_texts.result (ap (map (λ word. word.now)) c.as_slice.ensures.value ∙ c.in-Ok.ensures) c.run_texts.ensures
