@@ -1,11 +1,11 @@
-mod Logs
-mod Appends
+pub mod Logs
+pub mod Appends
 mod Sites
 mod Kept
 mod Changes
 mod Stretches
 mod Sends
-mod Counts
+pub mod Counts
 mod Told
-mod Turning
+pub mod Turning
 mod Placed

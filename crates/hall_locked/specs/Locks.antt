@@ -1,6 +1,6 @@
 -- What lies under the lock of a hall, as contracts see it, and what its calls do. Our own; callbacks are OSGi
 -- Compendium 8, chapter 112, component life cycle.
-use Rattle.std.specs.Prelude.{◌≡◌, ℕ, ◌==◌, List, ◌++◌, Option, Some, None, length, map, count_by}
+use Rattle.std.specs.Prelude.{◌≡◌, ℕ, ◌==◌, List, [], ◌∷◌, ◌++◌, Option, Some, None, length, map, count_by}
 use Rattle.std.specs.List.{Contains}
 use Rattle.journal_core.specs.declared.entry.Entry.{Entry}
 use Rattle.journal_core.specs.declared.entry.GateKey.{GateKey}
@@ -15,6 +15,7 @@ use Rattle.scr_core.specs.Cores.{CoreView}
 use Rattle.scr_world.specs.Calls.{Drains, next_drain}
 use Rattle.scr_world.specs.Legal.{is_under_way}
 use Rattle.scr_world.specs.TurnSteps.{class_in}
+use Rattle.scr_world.specs.declared.command.Limits.{Limits}
 use Rattle.scr_world.specs.declared.instance.Instance.{Instance}
 use Rattle.scr_world.specs.declared.step.Step.{Step}
 use Rattle.scr_world.specs.declared.world.World.{World}
@@ -38,6 +39,12 @@ pub record AppendsFor {O : Type 0} (owner : ℕ) (before after : LockedView O) :
   pub entries : List (Entry Step)
   pub journal : after.core.journal ≡ before.core.journal ++ entries
   pub log : log_of after ≡ log_of before ++ owned_by owner entries
+
+-- ---- what it is tied to
+
+-- limits as numbers
+abbrev pub limits_code : Limits → List ℕ
+limits_code limits = limits.journal ∷ limits.turns ∷ []
 
 -- ---- what it keeps for passes
 

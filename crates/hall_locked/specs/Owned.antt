@@ -8,6 +8,10 @@ module _ {E : Type 0} where
   owned (o ∷ os) [] = []
   owned (o ∷ os) (e ∷ es) = (o, e) ∷ owned os es
 
+  -- the entries of a history, without their owners
+  abbrev pub entries_in : List (ℕ × E) → List E
+  entries_in log = map (λ (x : ℕ × E). x.1) log
+
 -- the owners once one more is written down, where there are fewer than so many
 abbrev pub owners_up_to : ℕ → ℕ → List ℕ → List ℕ
 owners_up_to count owner os = if nat_lt (length os) count then os ++ owner ∷ [] else os

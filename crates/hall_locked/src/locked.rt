@@ -9,17 +9,19 @@ ghost use Rattle.scr_world.specs.Legal.{IsLegal};
 ghost use Rattle.scr_world.specs.Steps.{history_of};
 ghost use Rattle.scr_world.specs.declared.reply.CoreFault.TheVariants.{OutOfMemory as NoMemory};
 ghost use Rattle.std.specs.Arc.{arc_value};
-ghost use Rattle.std.specs.Prelude.{◌≡◌, ℕ, [], Ok, Err, IfErr, IfOk, MatchResult, OnErr, OnOk, false, is_some};
+ghost use Rattle.std.specs.List.{find};
+ghost use Rattle.std.specs.Option.{option_copied};
+ghost use Rattle.std.specs.Prelude.{◌≡◌, ◌==◌, ◌&&◌, ℕ, [], Ok, Err, IfErr, IfOk, MatchResult, OnErr, OnOk, false, is_some, length, nat_lt};
 ghost use Rattle.turn_runner.specs.Outcomes.{IsRunOf};
 
-use crate::owed::{Owed, owed_by};
+use crate::owed::{Owed, owed_by, owed_since};
 use crate::owners::note_owner;
 use crate::part::Part;
-use crate::parts::{keep, tell_site};
+use crate::parts::{keep, part_of, tell_site};
 use crate::room::{let_go, room_in};
 use crate::turns::{put_again, take_out};
 use front_lock::Grows;
-use journal_core::Entry;
+use journal_core::{Entry, Journal};
 use prop_map::OutOfMemory;
 use scr_core::{Accepted, Command, Core, CoreFault, Limits, Step, Taken, Turn};
 use std::alloc::{AllocError, Global};
@@ -55,8 +57,7 @@ impl<O> Model for Locked<O> {
 }
 
 impl<O> Grows for Locked<O> {
-    ghost use Rattle.hall_locked.specs.Locks.{log_of, turns_kept};
-    ghost use Rattle.std.specs.Prelude.{[]};
+    ghost use Rattle.hall_locked.specs.Locks.{limits_code, log_of, turns_kept};
 
     type Entry = Entry<Step>;
 
@@ -64,7 +65,7 @@ impl<O> Grows for Locked<O> {
 
     ghost kept = { λ l. turns_kept l };
 
-    ghost tie = { λ l. [] };
+    ghost tie = { λ l. limits_code l.core.limits };
 
     fn length(&self) -> u64 {
         self.core.journal().length()
@@ -107,8 +108,16 @@ impl<O: Drop> Locked<O> {
         self.core.note_legal();
     }
 
+    /// What is kept for an instance: `None` where nothing is. Its object can be shared with whoever tells it of a
+    /// callback outside the lock.
+    pub fn part(&self, instance: u64) -> Option<&Part<O>>
+        ensures { option_copied result ≡ find (λ part. part.instance == instance) self.now.parts }
+    {
+        part_of(self.parts.as_slice(), instance)
+    }
+
     /// Takes a command for this owner, and answers as the core does. The entry of a command that changes something is
-    /// the owner's.
+    /// the owner's, and then drains may be owed; a command that changes nothing owes none.
     ///
     /// # Errors
     /// Those of [`scr_core::Core::command`]. A refused command leaves all as it was.
@@ -122,18 +131,20 @@ impl<O: Drop> Locked<O> {
         ensures appended { AppendsFor owner self.old self.new }
         ensures turns { self.new.turns ≡ self.old.turns }
         ensures parts { self.new.parts ≡ self.old.parts }
-        ensures owed { IfOk result (λ r. is_some r.1 ≡ has_drain self.new.core) }
+        ensures owed { IfOk result (λ r. is_some r.1 ≡ (nat_lt (length self.old.core.journal) (length self.new.core.journal) && has_drain self.new.core)) }
         ensures refused { OnErr result (self.new ≡ self.old) }
+        ensures limits { self.new.core.limits ≡ self.old.core.limits }
     {
         if self.owners.reserve(1).is_err() {
             let_go(command);
             return Err(CoreFault::OutOfMemory);
         }
         self.core.note_legal();
+        let entries = self.core.journal().length();
         match self.core.command(alloc, command) {
             Ok(accepted) => {
                 note_owner(&self.core, &mut self.owners, owner);
-                Ok((accepted, owed_by(&self.core)))
+                Ok((accepted, owed_since(&self.core, entries)))
             }
             Err(fault) => Err(fault),
         }
@@ -156,6 +167,7 @@ impl<O: Drop> Locked<O> {
         ensures parts { self.new.parts ≡ self.old.parts }
         ensures owed { IfOk result (λ left. is_some left ≡ has_drain self.new.core) }
         ensures err { OnErr result (self.new ≡ self.old) }
+        ensures limits { self.new.core.limits ≡ self.old.core.limits }
     {
         owed.spend();
         if self.owners.reserve(1).is_err() {
@@ -187,6 +199,7 @@ impl<O: Drop> Locked<O> {
         ensures turns { self.new.turns ≡ with_begun owner result self.old.turns }
         ensures parts { self.new.parts ≡ parts_begun self.new.core result self.old.parts }
         ensures refused { OnErr result (self.new ≡ self.old) }
+        ensures limits { self.new.core.limits ≡ self.old.core.limits }
     {
         if room_in(&mut self.owners, &mut self.turns).is_err() {
             return Err(CoreFault::OutOfMemory);
@@ -228,6 +241,7 @@ impl<O: Drop> Locked<O> {
         ensures owed { IfOk result (λ left. is_some left ≡ has_drain self.new.core) }
         ensures err { OnErr result (self.new ≡ self.old) }
         ensures back { IfErr result (λ e. e.0 ≡ ran) }
+        ensures limits { self.new.core.limits ≡ self.old.core.limits }
     {
         if room_in(&mut self.owners, &mut self.parts).is_err() {
             return Err((ran, AllocError));
@@ -252,5 +266,24 @@ impl<O: Drop> Locked<O> {
                 Err((ran, error))
             }
         }
+    }
+
+    /// The journal, with the owner of each entry. The tokens and the parts are let go. It takes no memory.
+    pub fn into_journal(self) -> (Journal<Step>, Vec<u64>)
+        ensures entries { (result.0.entries ≡ self.core.journal) × (result.1.items ≡ self.owners) }
+        ensures limit { result.0.limit ≡ self.core.limits.journal }
+        ensures many { length result.1.items ≡ length result.0.entries }
+        ensures legal { IsLegal self.core.limits.journal (history_of self.core.journal) }
+    {
+        self.core.note_legal();
+        let Locked {
+            core,
+            owners,
+            turns,
+            parts,
+        } = self;
+        let_go(turns);
+        let_go(parts);
+        (core.into_journal(), owners)
     }
 }

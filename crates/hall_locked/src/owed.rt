@@ -1,6 +1,6 @@
 //! Drains that are still to be posted.
 ghost use Rattle.platform_hall.specs.Platforms.{has_drain};
-ghost use Rattle.std.specs.Prelude.{◌≡◌, is_some};
+ghost use Rattle.std.specs.Prelude.{◌≡◌, ◌&&◌, is_some, length, nat_lt};
 
 use scr_core::Core;
 
@@ -24,5 +24,16 @@ pub(crate) fn owed_by(core: &Core) -> Option<Owed>
     match core.next_drain() {
         Some(_) => Some(Owed { posts: () }),
         None => None,
+    }
+}
+
+// What is owed where the journal has more than so many entries; nothing otherwise.
+pub(crate) fn owed_since(core: &Core, entries: u64) -> Option<Owed>
+    ensures { is_some result ≡ (nat_lt entries (length core.now.journal) && has_drain core.now) }
+{
+    if entries < core.journal().length() {
+        owed_by(core)
+    } else {
+        None
     }
 }

@@ -2,7 +2,8 @@
 ghost use Rattle.hall_locked.specs.Locks.{parts_of};
 ghost use Rattle.hall_locked.specs.Parts.{ArePartsLeft, ArePartsWith, parts_but, parts_told};
 ghost use Rattle.std.specs.Arc.{arc_value};
-ghost use Rattle.std.specs.List.{position};
+ghost use Rattle.std.specs.List.{find, position};
+ghost use Rattle.std.specs.Option.{option_copied};
 ghost use Rattle.std.specs.Prelude.{◌≡◌, ◌==◌, ◌<◌, ◌≤◌, Some, vec_capacity, vec_len};
 
 use crate::part::Part;
@@ -15,6 +16,13 @@ fn place_of<O>(parts: &[Part<O>], instance: u64) -> Option<usize>
     ensures { result ≡ position (λ part. part.instance == instance) parts.now }
 {
     parts.iter().position(|part| part.instance == instance)
+}
+
+// The part of this instance, the first one.
+pub(crate) fn part_of<O>(parts: &[Part<O>], instance: u64) -> Option<&Part<O>>
+    ensures { option_copied result ≡ find (λ part. part.instance == instance) parts.now }
+{
+    parts.iter().find(|part| part.instance == instance)
 }
 
 // Tells the part of a turn's instance, if there is one, what the instance is told of itself.
