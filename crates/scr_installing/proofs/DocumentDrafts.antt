@@ -1,13 +1,10 @@
 -- The draft of a command that changes what the bundles hold.
 use Rattle.std.proofs.Common.{◌≡◌, ◌∙◌, ◌+◌, List, ap, refl, true}
-use Rattle.scr_judgements.specs.Asked.{IsAskedAfter}
-use Rattle.scr_judgements.specs.declared.asked.Asked.{Asked}
+use Rattle.scr_judgements.specs.Asked.{is_command}
 use Rattle.scr_installing.specs.Described.{AreDescribed}
 use Rattle.scr_installing.specs.Drafting.{changes_documents, is_of_documents, tables_with}
 use Rattle.scr_installing.specs.declared.described.Described.{Described}
-use Rattle.scr_judgements.proofs.Drafted.{drafted}
-use Rattle.scr_judgements.specs.Drafting.{AreTablesAfter, command_draft}
-use Rattle.scr_state.specs.Keeps.{IsDraft}
+use Rattle.scr_judgements.specs.Drafting.{AreTablesAfter, AreTablesBy}
 use Rattle.scr_state.specs.declared.state.State.{State}
 use Rattle.scr_world.specs.Levels.{levels_of}
 use Rattle.scr_world.specs.Tables.{configurations_by_command, descriptions_of, documents_by, documents_by_command, registry_by_command, uses_by_command}
@@ -50,11 +47,19 @@ module _ (s : State) (documents : List Contents) (described : Described) (are : 
   after_command (ConfigureFactory factory name properties) is held = absurd cc
   after_command (Unconfigure pid) is held = absurd cc
 
-  pub documents_drafted : (step : Step) → changes_documents step ≡ true → documents ≡ documents_by step (s.world.bundles.numbered + 1) s.world.documents → (asked : Asked) → IsAskedAfter step s.world asked
-      → IsDraft s step (command_draft s.world asked (tables_with documents described))
-  documents_drafted (Commanded command) is held asked known = drafted s command asked (tables_with documents described) known (after_command command is held)
-  documents_drafted (Begin turn instance configuration consumer callback chosen) is held asked known = absurd cc
-  documents_drafted (End turn outcome) is held asked known = absurd cc
-  documents_drafted (Drained instance) is held asked known = absurd cc
-  documents_drafted (Got bundle service) is held asked known = absurd cc
-  documents_drafted (Released place) is held asked known = absurd cc
+  pub documents_tables : (step : Step) → changes_documents step ≡ true → documents ≡ documents_by step (s.world.bundles.numbered + 1) s.world.documents → AreTablesBy s step (tables_with documents described)
+  unfolding AreTablesBy
+  documents_tables (Commanded command) is held = after_command command is held
+  documents_tables (Begin turn instance configuration consumer callback chosen) is held = absurd cc
+  documents_tables (End turn outcome) is held = absurd cc
+  documents_tables (Drained instance) is held = absurd cc
+  documents_tables (Got bundle service) is held = absurd cc
+  documents_tables (Released place) is held = absurd cc
+
+pub documents_commands : (step : Step) → changes_documents step ≡ true → is_command step ≡ true
+documents_commands (Commanded command) is = refl
+documents_commands (Begin turn instance configuration consumer callback chosen) is = absurd cc
+documents_commands (End turn outcome) is = absurd cc
+documents_commands (Drained instance) is = absurd cc
+documents_commands (Got bundle service) is = absurd cc
+documents_commands (Released place) is = absurd cc

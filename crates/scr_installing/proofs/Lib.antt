@@ -3,4 +3,5 @@ mod DocumentDrafts
 mod IdleBundles
 mod Installs
 mod LevelsAre
+mod RestingBundles
 mod Updates

@@ -1,20 +1,20 @@
 //! The draft of a command that changes what the bundles hold.
-ghost use Rattle.prop_map.specs.Words.{has};
 ghost use Rattle.scr_installing.specs.Described.{AreDescribed};
 ghost use Rattle.scr_installing.specs.Drafting.{changes_documents, tables_with};
-ghost use Rattle.scr_state.specs.Keeps.{IsDraft};
+ghost use Rattle.scr_judgements.specs.Lasting.{AsksAsBefore};
+ghost use Rattle.scr_state.specs.Keeps.{IsDraft, IsKept};
 ghost use Rattle.scr_world.specs.Tables.{descriptions_of, documents_by};
-ghost use Rattle.scr_world.specs.Worlds.{satisfied_in};
-ghost use Rattle.std.specs.Prelude.{◌≡◌, ◌+◌, ℕ, IfOk, true};
+ghost use Rattle.std.specs.Prelude.{◌≡◌, ◌+◌, IfOk, true};
 
 use crate::described::Described;
 use prop_map::{List, OutOfMemory};
-use scr_judgements::{TablesAfter, asked_after, command_draft};
+use scr_judgements::{TablesAfter, draft_as_before};
 use scr_state::{Draft, State};
 use scr_world::{Contents, Step};
 use std::alloc::Global;
 
-/// The draft of an install, update or uninstall, of what the bundles hold after it and of the descriptions in that.
+/// The draft of an install, update or uninstall, of what the bundles hold after it and of the descriptions in that. Its
+/// bundle isn't ACTIVE, so nothing is asked for anew.
 ///
 /// # Errors
 /// Only want of memory.
@@ -25,22 +25,15 @@ pub(crate) fn documents_draft(
     documents: List<Contents>,
     described: Described,
 ) -> Result<Draft, OutOfMemory>
-    requires satisfied { (number : ℕ) → has state.now.satisfied number ≡ has (satisfied_in state.now.world) number }
+    requires kept { IsKept state.now }
     requires command { changes_documents step.now ≡ true }
     requires documents { documents ≡ documents_by step.now (state.now.world.bundles.numbered + 1) state.now.world.documents }
     requires described { AreDescribed (descriptions_of documents) described }
+    requires asks { AsksAsBefore step.now state.now.world }
     ensures { IfOk result (λ draft. IsDraft state.now step.now draft) }
 {
-    let asked = asked_after(
-        alloc,
-        &state.world,
-        state.satisfied.as_slice(),
-        step,
-        documents.as_slice(),
-        state.world.configurations.rows(),
-    )?;
     let tables = tables_with(documents, described);
-    Ok(command_draft(&state.world, asked, tables))
+    draft_as_before(alloc, state, step, tables)
 }
 
 fn tables_with(documents: List<Contents>, described: Described) -> TablesAfter

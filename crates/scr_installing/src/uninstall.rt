@@ -1,10 +1,11 @@
 //! The uninstall of a bundle (OSGi Core 8, chapter 4, "Uninstalling Bundles").
 ghost use Rattle.scr_installing.specs.Described.{AreDescribed};
+ghost use Rattle.scr_installing.specs.Idle.{idle_refusal};
 ghost use Rattle.scr_judgements.specs.Judgements.{Judges};
 ghost use Rattle.scr_state.specs.Keeps.{IsDraft, IsKept, Keeps};
 ghost use Rattle.scr_world.specs.declared.command.Command.TheVariants.{Uninstall};
 ghost use Rattle.scr_world.specs.declared.step.Step.TheVariants.{Command as Commanded};
-ghost use Rattle.std.specs.Prelude.{◌≡◌, IfOk};
+ghost use Rattle.std.specs.Prelude.{◌≡◌, IfOk, None};
 
 use crate::described::{Described, descriptions_in, with_levels};
 use crate::documents::documents_without;
@@ -53,6 +54,7 @@ fn uninstall_draft(
 ) -> Result<Draft, OutOfMemory>
     requires kept { IsKept state.now }
     requires command { step.now ≡ Commanded (Uninstall bundle) }
+    requires idle { idle_refusal state.now.world bundle ≡ None }
     ensures { IfOk result (λ draft. IsDraft state.now (Commanded (Uninstall bundle)) draft) }
 {
     let documents = documents_without(alloc, state.world.documents.as_slice(), bundle)?;

@@ -1,10 +1,11 @@
--- Commands that leave what is asked for.
+-- Commands that leave what is asked for, and those after which the same is asked for.
 use Rattle.std.proofs.Common.{◌≡◌, List, [], ap, sym, ◌∙◌, refl, true, ◌||◌}
 use Rattle.std.specs.Prelude.{◌==◌, length}
 use Rattle.std.specs.List.{list_any}
 use Rattle.component_state.specs.declared.component.Component.{Component}
 use Rattle.component_state.specs.ComponentConfigurations.{components_after, new_components}
 use Rattle.scr_judgements.specs.Asked.{is_command, leaves_asked}
+use Rattle.scr_judgements.specs.Lasting.{AsksAsBefore}
 use Rattle.scr_laws.proofs.Asking.{forgetting_stays}
 use Rattle.scr_laws.proofs.Histories.{asking_leaves}
 use Rattle.scr_laws.specs.Askeds.{IsAsked, asked_in}
@@ -49,20 +50,30 @@ remembers_living is c e = ap (λ b. b || list_any (λ (i : Instance). i.origin.c
 none_new : (w : World) → IsAsked w → new_components (counted_components w) (asked_in w) ≡ []
 none_new w asked = (forgetting_stays (asked_in w) w.components asked.components (is_counted w.instances) (λ c h lives. remembers_living w.instances c lives)).complete
 
-pub left_components : (step : Step) (w : World) → leaves_asked step ≡ true → IsAsked w → counted_components w ≡ components_by step w
-left_components (Commanded command) w e asked =
-    sym (ap (λ these. components_after w.entries w.components_numbered these (counted_components w)) (still_asks command w e) ∙ asking_leaves w asked w.entries w.components_numbered)
-left_components (Begin turn instance configuration consumer callback chosen) w e asked = absurd cc
-left_components (End turn outcome) w e asked = absurd cc
-left_components (Drained instance) w e asked = absurd cc
-left_components (Got bundle service) w e asked = absurd cc
-left_components (Released place) w e asked = absurd cc
+pub leaving_asks : (step : Step) (w : World) → leaves_asked step ≡ true → AsksAsBefore step w
+leaving_asks (Commanded command) w e = still_asks command w e
+leaving_asks (Begin turn instance configuration consumer callback chosen) w e = absurd cc
+leaving_asks (End turn outcome) w e = absurd cc
+leaving_asks (Drained instance) w e = absurd cc
+leaving_asks (Got bundle service) w e = absurd cc
+leaving_asks (Released place) w e = absurd cc
 
-pub left_added : (step : Step) (w : World) → leaves_asked step ≡ true → IsAsked w → components_added_by step w ≡ 0
-left_added (Commanded command) w e asked =
-    ap (λ these. length (new_components (counted_components w) these)) (still_asks command w e) ∙ ap length (none_new w asked)
-left_added (Begin turn instance configuration consumer callback chosen) w e asked = absurd cc
-left_added (End turn outcome) w e asked = absurd cc
-left_added (Drained instance) w e asked = absurd cc
-left_added (Got bundle service) w e asked = absurd cc
-left_added (Released place) w e asked = absurd cc
+-- ---- where the same is asked for, the component configurations are those that count
+
+pub left_components : (step : Step) (w : World) → is_command step ≡ true → AsksAsBefore step w → IsAsked w → counted_components w ≡ components_by step w
+left_components (Commanded command) w e same asked =
+    sym (ap (λ these. components_after w.entries w.components_numbered these (counted_components w)) same ∙ asking_leaves w asked w.entries w.components_numbered)
+left_components (Begin turn instance configuration consumer callback chosen) w e same asked = absurd cc
+left_components (End turn outcome) w e same asked = absurd cc
+left_components (Drained instance) w e same asked = absurd cc
+left_components (Got bundle service) w e same asked = absurd cc
+left_components (Released place) w e same asked = absurd cc
+
+pub left_added : (step : Step) (w : World) → is_command step ≡ true → AsksAsBefore step w → IsAsked w → components_added_by step w ≡ 0
+left_added (Commanded command) w e same asked =
+    ap (λ these. length (new_components (counted_components w) these)) same ∙ ap length (none_new w asked)
+left_added (Begin turn instance configuration consumer callback chosen) w e same asked = absurd cc
+left_added (End turn outcome) w e same asked = absurd cc
+left_added (Drained instance) w e same asked = absurd cc
+left_added (Got bundle service) w e same asked = absurd cc
+left_added (Released place) w e same asked = absurd cc

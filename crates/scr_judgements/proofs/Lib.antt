@@ -1,5 +1,7 @@
 mod Commands
 mod Leaving
+mod LastingDrafts
+mod Unchanged
 mod States
 mod Given
 mod Filling

@@ -1,14 +1,24 @@
 -- What a command makes of the component configurations and of what hangs on them. OSGi Compendium 8, chapter 112, "Component Configuration"; numbers and failures are our own.
-use Rattle.std.specs.Prelude.{◌≡◌, ◌+◌, ◌==◌, ◌&&◌, filter, length, nat_lt, not, Bool, true, false, Option, Some, None}
+use Rattle.std.specs.Prelude.{◌≡◌, ℕ, ◌+◌, ◌==◌, ◌&&◌, filter, length, nat_lt, not, Bool, true, false, Option, Some, None}
 use Rattle.bundle_life.specs.declared.bundle.BundleState.TheVariants.{Installed, Stopping, Active}
 use Rattle.scr_judgements.specs.declared.after.StateGiven.{StateGiven}
 use Rattle.scr_judgements.specs.declared.asked.Asked.{Asked}
+use Rattle.scr_world.specs.Legal.{IsLegal}
+use Rattle.scr_world.specs.Lists.{world_of}
+use Rattle.scr_world.specs.Steps.{History}
 use Rattle.scr_world.specs.Stepping.{components_added_by, components_by, failed_by, is_counted, periods_with}
 use Rattle.scr_world.specs.declared.command.Command.{Command}
 use Rattle.scr_world.specs.declared.command.Command.TheVariants.{Update, Start, Stop, Register, Unregister, SetProperties, Get, Unget, Listen, Unlisten}
 use Rattle.scr_world.specs.declared.step.Step.{Step}
 use Rattle.scr_world.specs.declared.step.Step.TheVariants.{Command as Commanded}
 use Rattle.scr_world.specs.declared.world.World.{World}
+
+-- a world is that of a legal history
+pub record IsOfLegal (w : World) : Type 0 where
+  pub limit : ℕ
+  pub past : History
+  pub legal : IsLegal limit past
+  pub is : w ≡ world_of past
 
 -- these are the component configurations after a step, and what hangs on them
 pub record IsAskedAfter (step : Step) (w : World) (asked : Asked) : Type 0 where

@@ -3,3 +3,4 @@ pub mod Given
 pub mod Drafting
 pub mod Judgements
 pub mod Changing
+pub mod Lasting

@@ -4,7 +4,7 @@ ghost use Rattle.bundle_life.specs.Lives.{in_state};
 ghost use Rattle.component_state.specs.ComponentConfigurations.{component_configurations};
 ghost use Rattle.config_admin.specs.declared.configuration.Configuration.{Configuration};
 ghost use Rattle.prop_map.specs.Words.{has};
-ghost use Rattle.scr_judgements.specs.Asked.{IsAskedAfter, is_command, state_given};
+ghost use Rattle.scr_judgements.specs.Asked.{IsAskedAfter, IsOfLegal, is_command, state_given};
 ghost use Rattle.scr_judgements.specs.Given.{rows_given};
 ghost use Rattle.scr_world.specs.Stepping.{component_configurations_by};
 ghost use Rattle.scr_world.specs.Tables.{bundle_rows, configurations_by, documents_by};
@@ -36,7 +36,7 @@ pub(crate) struct StateGiven {
 /// # Errors
 /// Only want of memory. That no number is left counts as such.
 #[tactic(auto, using(crate::proofs::Given::given_asks))]
-pub fn asked_after(
+pub(crate) fn asked_after(
     alloc: Global,
     world: &World,
     satisfied: &[u64],
@@ -45,6 +45,7 @@ pub fn asked_after(
     configurations: &[Configuration],
 ) -> Result<Asked, OutOfMemory>
     requires command { is_command step.now ≡ true }
+    requires legal { IsOfLegal world.now }
     requires satisfied { (number : ℕ) → has satisfied.now number ≡ has (satisfied_in world.now) number }
     requires documents { documents.now ≡ documents_by step.now (world.now.bundles.numbered + 1) world.now.documents }
     requires configurations { configurations.now ≡ configurations_by step.now world.now.configurations }

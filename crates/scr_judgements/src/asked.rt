@@ -1,14 +1,15 @@
 //! All that a command makes of the component configurations and of what hangs on them.
 ghost use Rattle.component_state.specs.ComponentConfigurations.{component_configurations};
 ghost use Rattle.prop_map.specs.Words.{has};
-ghost use Rattle.scr_judgements.specs.Asked.{IsAskedAfter, is_command, leaves_asked};
+ghost use Rattle.scr_judgements.specs.Asked.{IsAskedAfter, IsOfLegal, is_command};
+ghost use Rattle.scr_judgements.specs.Lasting.{AsksAsBefore};
 ghost use Rattle.scr_laws.specs.Askeds.{IsAsked};
 ghost use Rattle.scr_world.specs.Stepping.{component_configurations_by, components_added_by, components_by, counted_components};
 ghost use Rattle.scr_world.specs.Worlds.{satisfied_in};
 ghost use Rattle.std.specs.Prelude.{◌≡◌, ◌+◌, ◌-◌, ◌≤◌, ℕ, IfOk, map, true};
 
 use crate::counted::{copied, counted_components};
-use crate::open_and_failed::{failed_by_command, periods_with_command};
+use crate::open_and_failed::{failed_by_command, periods_asked};
 use component_state::{
     BundleView, Component, OpenPeriod, components_after, components_for_bundles,
 };
@@ -35,7 +36,7 @@ pub struct Asked {
 ///
 /// # Errors
 /// Only want of memory. That no number is left counts as such.
-pub fn asked_for_bundles<'w>(
+pub(crate) fn asked_for_bundles<'w>(
     alloc: Global,
     world: &World,
     satisfied: &[u64],
@@ -44,6 +45,7 @@ pub fn asked_for_bundles<'w>(
     configurations: &'w [Configuration],
 ) -> Result<Asked, OutOfMemory>
     requires command { is_command step.now ≡ true }
+    requires legal { IsOfLegal world.now }
     requires satisfied { (number : ℕ) → has satisfied.now number ≡ has (satisfied_in world.now) number }
     requires asks { component_configurations bundles.now configurations.now ≡ component_configurations_by step.now world.now }
     ensures { IfOk result (λ asked. IsAskedAfter step.now world.now asked) }
@@ -125,12 +127,13 @@ fn with_all_else(
     components_numbered: u64,
 ) -> Result<Asked, OutOfMemory>
     requires command { is_command step.now ≡ true }
+    requires legal { IsOfLegal world.now }
     requires satisfied { (number : ℕ) → has satisfied.now number ≡ has (satisfied_in world.now) number }
     requires components { components ≡ components_by step.now world.now }
     requires numbered { components_numbered ≡ world.now.components_numbered + components_added_by step.now world.now }
     ensures { IfOk result (λ asked. IsAskedAfter step.now world.now asked) }
 {
-    let open_periods = periods_with_command(alloc, world, step, components.as_slice())?;
+    let open_periods = periods_asked(alloc, world, step, components.as_slice())?;
     let failed = failed_by_command(alloc, world, satisfied, step, components.as_slice())?;
     Ok(Asked {
         components,
@@ -140,20 +143,18 @@ fn with_all_else(
     })
 }
 
-/// The same for a command that leaves what is asked for: nothing is asked anew, and those that ceased without an instance are
-/// forgotten.
-///
-/// # Errors
-/// Only want of memory.
-#[tactic(auto, using(crate::proofs::Leaving::left_components, crate::proofs::Leaving::left_added, crate::proofs::Leaving::leaving_commands))]
-pub fn asked_as_before(
+// The same for a command after which the same is asked for as before.
+#[tactic(auto, using(crate::proofs::Leaving::left_components, crate::proofs::Leaving::left_added))]
+pub(crate) fn asked_still(
     alloc: Global,
     world: &World,
     satisfied: &[u64],
     step: &Step,
 ) -> Result<Asked, OutOfMemory>
-    requires leaves { leaves_asked step.now ≡ true }
+    requires command { is_command step.now ≡ true }
+    requires asks { AsksAsBefore step.now world.now }
     requires asked { IsAsked world.now }
+    requires legal { IsOfLegal world.now }
     requires satisfied { (number : ℕ) → has satisfied.now number ≡ has (satisfied_in world.now) number }
     ensures { IfOk result (λ asked. IsAskedAfter step.now world.now asked) }
 {

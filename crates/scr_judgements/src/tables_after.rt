@@ -1,12 +1,12 @@
 //! What is asked for with the tables that a command changes.
-ghost use Rattle.prop_map.specs.Words.{has};
 ghost use Rattle.scr_judgements.specs.Asked.{IsAskedAfter};
 ghost use Rattle.scr_judgements.specs.Changing.{AreTablesBy};
-ghost use Rattle.scr_world.specs.Worlds.{satisfied_in};
+ghost use Rattle.scr_state.specs.Keeps.{IsKept};
 ghost use Rattle.std.specs.Option.{unwrap_or};
-ghost use Rattle.std.specs.Prelude.{◌≡◌, ℕ, IfOk};
+ghost use Rattle.std.specs.Prelude.{◌≡◌, IfOk};
 
-use crate::{Asked, TablesAfter, asked_after};
+use crate::after::asked_after;
+use crate::{Asked, TablesAfter};
 use config_admin::Configuration;
 use prop_map::OutOfMemory;
 use scr_state::State;
@@ -18,14 +18,14 @@ use std::alloc::Global;
 ///
 /// # Errors
 /// Only want of memory. That no number is left counts as such.
-#[tactic(auto, using(crate::proofs::Tables::by_commands, crate::proofs::Tables::documents_by_step, crate::proofs::Tables::configurations_by_step))]
+#[tactic(auto, using(crate::proofs::Unchanged::kept_legal, crate::proofs::Tables::by_commands, crate::proofs::Tables::documents_by_step, crate::proofs::Tables::configurations_by_step))]
 pub fn asked_with(
     alloc: Global,
     state: &State,
     step: &Step,
     tables: &TablesAfter,
 ) -> Result<Asked, OutOfMemory>
-    requires satisfied { (number : ℕ) → has state.now.satisfied number ≡ has (satisfied_in state.now.world) number }
+    requires kept { IsKept state.now }
     requires tables { AreTablesBy state.now step.now tables.now }
     ensures { IfOk result (λ asked. IsAskedAfter step.now state.now.world asked) }
 {

@@ -12,12 +12,12 @@ ghost use Rattle.use_counts.specs.declared.uses.Holder.TheVariants.{Shell};
 
 use crate::active::refusal_of_inactive;
 use crate::counted::Counted;
-use crate::drafts::{draft_with, uses_after};
+use crate::drafts::uses_after;
 use crate::registered::refusal_of_unregistered;
 use callback_orders::Outcome;
 use journal_core::Journal;
 use prop_map::{Copies, OutOfMemory};
-use scr_judgements::{Judgement, has_room_for_command};
+use scr_judgements::{Judgement, draft_with, has_room_for_command};
 use scr_state::State;
 use scr_world::{CoreFault, Failure, Reply, Step, World};
 use std::alloc::{AllocError, Global};

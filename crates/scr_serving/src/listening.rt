@@ -10,11 +10,10 @@ ghost use Rattle.scr_world.specs.declared.step.Step.TheVariants.{Command as Comm
 ghost use Rattle.std.specs.Prelude.{◌≡◌, ◌+◌, IfOk, length, nat_le};
 
 use crate::active::refusal_of_inactive;
-use crate::drafts::draft_with;
 use journal_core::Journal;
 use ldap_filter::Filter;
 use prop_map::OutOfMemory;
-use scr_judgements::{Judgement, TablesAfter, has_room_for_command};
+use scr_judgements::{Judgement, TablesAfter, draft_with, has_room_for_command};
 use scr_state::State;
 use scr_world::{CoreFault, Reply, Step, World};
 use service_listeners::Listeners;

@@ -11,10 +11,10 @@ ghost use Rattle.service_registry.specs.Registries.{registered};
 ghost use Rattle.std.specs.Prelude.{◌≡◌, ℕ, IfOk, List as Items, length, nat_le, true};
 
 use crate::active::refusal_of_inactive;
-use crate::drafts::{draft_with, services_after};
+use crate::drafts::services_after;
 use journal_core::Journal;
 use prop_map::{Copies, List, OutOfMemory, Properties, Str};
-use scr_judgements::{Judgement, has_room_for_command};
+use scr_judgements::{Judgement, draft_with, has_room_for_command};
 use scr_state::State;
 use scr_world::{CoreFault, Reply, Step, World};
 use service_registry::Registry;

@@ -6,9 +6,8 @@ ghost use Rattle.scr_world.specs.declared.command.Command.TheVariants.{Unlisten}
 ghost use Rattle.scr_world.specs.declared.step.Step.TheVariants.{Command as Commanded};
 ghost use Rattle.std.specs.Prelude.{◌≡◌};
 
-use crate::drafts::draft_with;
 use journal_core::Journal;
-use scr_judgements::{Judgement, TablesAfter, has_room_for_command};
+use scr_judgements::{Judgement, TablesAfter, draft_with, has_room_for_command};
 use scr_state::State;
 use scr_world::{CoreFault, Reply, Step, World};
 use std::alloc::Global;

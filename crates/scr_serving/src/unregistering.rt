@@ -6,11 +6,11 @@ ghost use Rattle.scr_world.specs.declared.step.Step.TheVariants.{Command as Comm
 ghost use Rattle.service_registry.specs.Registries.{unregistered};
 ghost use Rattle.std.specs.Prelude.{◌≡◌, IfOk};
 
-use crate::drafts::{draft_with, services_after};
+use crate::drafts::services_after;
 use crate::ownership::refusal_of_foreign;
 use journal_core::Journal;
 use prop_map::{Copies, OutOfMemory};
-use scr_judgements::{Judgement, has_room_for_command};
+use scr_judgements::{Judgement, draft_with, has_room_for_command};
 use scr_state::State;
 use scr_world::{CoreFault, Reply, Step};
 use service_registry::Registry;

@@ -2,9 +2,11 @@ use Rattle.std.proofs.Common.{◌∙◌, List, ap, refl, subst, sym}
 use Rattle.std.specs.Prelude.{map}
 use Rattle.std.proofs.lemmas.Result.{err_from_is_err_and}
 use Rattle.scr_installing.proofs.Allowing.{allowed_described, allowed_free, not_allowed}
+use Rattle.scr_installing.proofs.RestingBundles.{updated_asks}
 use Rattle.scr_installing.proofs.Updates.{update_refused}
 use Rattle.scr_installing.specs.Described.{AreDescribed}
 use Rattle.scr_judgements.proofs.Judged.{changed, no_memory_is, no_room}
+use Rattle.scr_judgements.specs.Lasting.{AsksAsBefore}
 use Rattle.scr_state.specs.Keeps.{IsDraft}
 use Rattle.scr_world.specs.Tables.{descriptions_of, replaced}
 use Rattle.scr_world.specs.declared.command.Command.TheVariants.{Update}
@@ -38,6 +40,11 @@ documents_draft-requires-clause-described c =
     subst (λ (documents : List Contents). AreDescribed (descriptions_of documents) c.in_ok-described.described)
     (sym (c.in_ok-documents.ensures ∙ ap (λ (documents : List Contents). map (replaced c.args.bundle c.args.doc.now) documents) c.as_slice.ensures))
     (allowed_described c.args.state.now.world (Update c.args.bundle c.args.doc.now) c.in_ok-described.described c.in_ok-described.ensures)
+
+pub documents_draft-requires-clause-asks : goal.documents_draft-requires-clause-asks
+documents_draft-requires-clause-asks c =
+    subst (λ (x : Step). AsksAsBefore x c.args.state.now.world) (sym c.requires.command)
+    (updated_asks c.args.state.now.world c.args.bundle c.args.doc.now c.in_ok-check_update.ensures)
 
 pub returns-in_err-draft : goal.returns-in_err-draft
 returns-in_err-draft c =

@@ -3,7 +3,7 @@ use Rattle.scr_judgements.proofs.Changed.{no_memory, tables_freely}
 use Rattle.scr_judgements.proofs.changing.change_freely.Goals as goal
 
 pub asked_with-requires : goal.asked_with-requires
-asked_with-requires c = record { satisfied = c.requires.keeps.satisfied; tables = tables_freely c.args.state.now c.args.step.now c.args.reply c.args.tables c.requires.changes }
+asked_with-requires c = record { kept = record { journal = c.args.journal.now; keeps = c.requires.keeps }; tables = tables_freely c.args.state.now c.args.step.now c.args.reply c.args.tables c.requires.changes }
 
 pub returns-in_err-asked : goal.returns-in_err-asked
 returns-in_err-asked c =
