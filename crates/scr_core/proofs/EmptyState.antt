@@ -12,7 +12,7 @@ use Rattle.scr_world.specs.Tables.{descriptions_of}
 use Rattle.scr_world.specs.Worlds.{empty_world, satisfied_in}
 use Rattle.scr_world.specs.declared.world.World.{World}
 
-first_world : world_of [] ≡ empty_world
+pub first_world : world_of [] ≡ empty_world
 unfolding world_of
 first_world = refl
 

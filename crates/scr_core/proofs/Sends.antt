@@ -1,9 +1,13 @@
 -- A core may go to another thread. What holds no filter is `Send` by its generated proof. A filter is a tree, for which none is generated, so the types
 -- that hold one are taken in turn.
-use denote.Param.Send.{IsSend, sendable, plain_send, struct_send}
+use denote.Param.Send.{IsSend, IsSync, sendable, plain_send, struct_send}
 use denote.Struct.Declared.{shape}
 use Rattle.bundle_doc.proofs.document.BundleDoc.TheSendSync as document
 use Rattle.bundle_life.proofs.table.Bundles.TheSendSync as bundles
+use Rattle.bundle_wiring.proofs.fault.WireFault.TheSendSync as wire_fault
+use Rattle.bundle_wiring.proofs.wiring.Offer.TheSendSync as offer
+use Rattle.bundle_wiring.specs.contracts.wiring.WireNeed as WireNeed
+use Rattle.bundle_wiring.specs.contracts.wiring.Wiring as Wiring
 use Rattle.callback_orders.proofs.callback.Callback.TheSendSync as callback
 use Rattle.callback_orders.proofs.callback.Outcome.TheSendSync as outcome
 use Rattle.component_dto.proofs.description.Description.TheSendSync as description
@@ -12,10 +16,13 @@ use Rattle.component_state.proofs.open_period.OpenPeriod.TheSendSync as open_per
 use Rattle.component_state.proofs.origin.Choice.TheSendSync as choice
 use Rattle.config_admin.proofs.table.Configurations.TheSendSync as configurations
 use Rattle.journal_core.proofs.journal.Journal.TheSendSync as journal
+use Rattle.kept_wirings.specs.contracts.kept_wirings.KeptWirings as KeptWirings
 use Rattle.ldap_filter.proofs.node.Node.TheLaws.TheKnot as node
 use Rattle.ldap_filter.specs.contracts.filter.Filter as Filter
+use Rattle.osgi_version.proofs.range.VersionRange.TheSendSync as range
 use Rattle.prop_map.proofs.list.List.TheSendSync as list
 use Rattle.prop_map.proofs.properties.Properties.TheSendSync as properties
+use Rattle.prop_map.proofs.shared.Shared.TheSendSync as shared
 use Rattle.prop_map.proofs.text.Str.TheSendSync as text
 use Rattle.scr_core.specs.contracts.platform_core.Core as Core
 use Rattle.scr_dues.proofs.making.Making.TheSendSync as making
@@ -40,6 +47,20 @@ use Rattle.use_counts.proofs.table.UseCounts.TheSendSync as uses
 
 filter_send : IsSend Filter.the_row
 filter_send = search (crosses, node.crosses, sendable) depth 60 fits 20000
+
+filter_sync : IsSync Filter.the_row
+filter_sync = search (crosses, node.crosses, sendable) depth 60 fits 20000
+
+-- ---- needs and offers
+
+need_send : IsSend WireNeed.the_row
+need_send = search (filter_send, filter_sync, range.the_send, range.the_sync, text.the_send, shared.the_send, sendable) depth 60 fits 20000
+
+wiring_send : IsSend Wiring.the_row
+wiring_send = search (need_send, offer.the_send, list.the_send, sendable) depth 60 fits 20000
+
+wirings_send : IsSend (KeptWirings.the_field).row
+wirings_send = search (wiring_send, wire_fault.the_field_send, Vec-send, sendable) depth 60 fits 20000
 
 -- ---- the world
 
@@ -85,4 +106,4 @@ step_send = search (command_send, callback.the_field_send, outcome.the_field_sen
 -- ---- the core
 
 pub core_send : IsSend Core.the_row
-core_send = search (limits.the_field_send, journal.the_send, step_send, state_send, own.the_send, turn_line.the_send, making.the_field_send, Vec-send, sendable) depth 60 fits 20000
+core_send = search (limits.the_field_send, journal.the_send, step_send, state_send, own.the_send, turn_line.the_send, making.the_field_send, wirings_send, Vec-send, sendable) depth 60 fits 20000

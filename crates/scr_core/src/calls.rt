@@ -30,7 +30,13 @@ impl Core {
         ensures limits { self.new.limits ≡ self.old.limits }
     {
         self.making = Making::none();
-        take_command(alloc, &mut self.journal, &mut self.state, command)
+        take_command(
+            alloc,
+            &mut self.journal,
+            &mut self.state,
+            &mut self.wirings,
+            command,
+        )
     }
 
     /// Takes the first due turn, which begins. The turn stands for the work beside it and is to be given to

@@ -1,4 +1,5 @@
 //! Commands.
+ghost use Rattle.kept_wirings.specs.KeptRows.{AreKept};
 ghost use Rattle.scr_state.specs.Keeps.{Keeps};
 ghost use Rattle.scr_world.specs.Calls.{Commands};
 ghost use Rattle.scr_world.specs.declared.command.Command.{Command};
@@ -7,10 +8,11 @@ ghost use Rattle.std.specs.Prelude.{◌≡◌};
 
 use crate::generic::let_go;
 use crate::steps::boxed;
+use crate::wirings::grow_wired;
 use journal_core::Journal;
+use kept_wirings::KeptWirings;
 use prop_map::List;
 use scr_commands::judge;
-use scr_growth::grow;
 use scr_judgements::Judgement;
 use scr_state::State;
 use scr_world::{Accepted, Command, CoreFault, Step};
@@ -21,15 +23,18 @@ pub(crate) fn take_command(
     alloc: Global,
     journal: &mut Journal<Step>,
     state: &mut State,
+    wirings: &mut KeptWirings,
     command: Command,
 ) -> Result<Accepted, CoreFault>
     requires keeps { Keeps journal.old state.old }
+    requires wirings { AreKept state.old.world.documents wirings.old }
     ensures keeps { Keeps journal.new state.new }
+    ensures wirings { AreKept state.new.world.documents wirings.new }
     ensures limit { journal.new.limit ≡ journal.old.limit }
     ensures answer { Commands journal.old.limit journal.old.entries command result journal.new.entries }
 {
     let step = boxed(alloc, Step::Command(command))?;
-    take_boxed(alloc, journal, state, step)
+    take_boxed(alloc, journal, state, wirings, step)
 }
 
 // Takes the command of a step.
@@ -37,11 +42,14 @@ fn take_boxed(
     alloc: Global,
     journal: &mut Journal<Step>,
     state: &mut State,
+    wirings: &mut KeptWirings,
     step: Box<Step>,
 ) -> Result<Accepted, CoreFault>
     requires keeps { Keeps journal.old state.old }
+    requires wirings { AreKept state.old.world.documents wirings.old }
     requires command { (c : Command) × (step.value ≡ Commanded c) }
     ensures keeps { Keeps journal.new state.new }
+    ensures wirings { AreKept state.new.world.documents wirings.new }
     ensures limit { journal.new.limit ≡ journal.old.limit }
     ensures answer { (c : Command) → step.value ≡ Commanded c → Commands journal.old.limit journal.old.entries c result journal.new.entries }
 {
@@ -58,7 +66,7 @@ fn take_boxed(
             })
         }
         Ok(Judgement::Changes { reply, draft }) => {
-            let shut = grow(alloc, journal, state, step, draft)?;
+            let shut = grow_wired(alloc, journal, state, wirings, step, draft)?;
             Ok(Accepted { reply, shut })
         }
     }

@@ -21,6 +21,7 @@ mod turn_lines;
 mod turns;
 mod use_note;
 mod uses;
+mod wirings;
 
 pub use platform_core::Core;
 pub use scr_readers::{

@@ -7,6 +7,7 @@ ghost use Rattle.std.specs.Prelude.{◌≡◌, [], IfErr, IfOk};
 
 use crate::empty::empty_state;
 use journal_core::Journal;
+use kept_wirings::KeptWirings;
 use scr_dues::{Making, OwnRows};
 use scr_state::State;
 use scr_world::{CoreFault, Limits, Step, TurnLine};
@@ -15,9 +16,9 @@ use std::marker::Model;
 
 /// The core of a platform. Contracts see its limits and the entries of its journal, the oldest first.
 ///
-/// Beside the journal it keeps the world that the journal says, what follows from it, the turns so far, and how far an instance
-/// in the making is. So no command, no turn and no question reads the journal again. It waits for nobody, calls no component code,
-/// and appends at most one entry in a call.
+/// Beside the journal it keeps the world that the journal says, what follows from it, the turns so far, how far an instance in the
+/// making is, and what the manifests say of needs and offers. So no command, no turn and no question reads the journal again. It
+/// waits for nobody, calls no component code, and appends at most one entry in a call.
 #[derive(Drop)]
 pub struct Core {
     pub(crate) limits: Limits,
@@ -26,10 +27,12 @@ pub struct Core {
     pub(crate) own: OwnRows,
     pub(crate) lines: Vec<TurnLine>,
     pub(crate) making: Making,
+    pub(crate) wirings: KeptWirings,
 }
 
 impl Model for Core {
     ghost use Rattle.scr_core.specs.Cores.{AreWithinGreatest, CoreView};
+    ghost use Rattle.kept_wirings.specs.KeptRows.{AreKept};
     ghost use Rattle.scr_core.specs.Keeping.{KeepsAll};
     ghost use Rattle.scr_dues.specs.Makings.{IsThatFar};
 
@@ -42,7 +45,7 @@ impl Model for Core {
 
     ghost view = { λ c. record { limits = c.limits; journal = c.journal.entries } };
 
-    ghost invariant = { λ c. KeepsAll c.limits.journal c.journal c.state c.lines.items × AreWithinGreatest c.limits × IsThatFar c.state.world c.making };
+    ghost invariant = { λ c. KeepsAll c.limits.journal c.journal c.state c.lines.items × AreWithinGreatest c.limits × IsThatFar c.state.world c.making × AreKept c.state.world.documents c.wirings };
 }
 
 impl Core {
@@ -60,6 +63,7 @@ impl Core {
         let journal = Journal::new(alloc, limits.journal);
         let lines = Vec::new(alloc);
         let making = Making::none();
+        let wirings = KeptWirings::new(alloc);
         Ok(Core {
             limits,
             journal,
@@ -67,6 +71,7 @@ impl Core {
             own,
             lines,
             making,
+            wirings,
         })
     }
 

@@ -1,5 +1,6 @@
 //! What a core tells, by its journal.
 ghost use Rattle.ldap_filter.specs.declared.filter.Filter.{Filter};
+ghost use Rattle.kept_wirings.specs.KeptRows.{AreKept};
 ghost use Rattle.scr_readers.specs.Events.{events_told, has_listener};
 ghost use Rattle.scr_readers.specs.ComponentViews.{component_view};
 ghost use Rattle.scr_world.specs.Calls.{next_drain, world_at};
@@ -15,6 +16,7 @@ use crate::Core;
 use crate::turn_lines::copied;
 use bundle_life::BundleEvent;
 use journal_core::GateKey;
+use kept_wirings::KeptWirings;
 use ldap_filter::Filter;
 use prop_map::{List, OutOfMemory};
 use scr_readers::ComponentView;
@@ -33,6 +35,14 @@ impl Core {
         ensures { IfOk result (λ lines. lines ≡ bundle_lines (world_at self.now.journal)) }
     {
         scr_readers::bundle_lines(alloc, &self.state.world)
+    }
+
+    /// What the manifests of the installed bundles say of their needs and offers, by number, as it was read at the install or the
+    /// last update of each. It takes no memory.
+    pub fn wirings(&self) -> &KeptWirings
+        ensures { AreKept (world_at self.now.journal).documents result.now }
+    {
+        &self.wirings
     }
 
     /// The registered services but for that of the platform, by number.

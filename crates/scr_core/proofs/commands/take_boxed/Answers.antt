@@ -6,20 +6,20 @@ use Rattle.scr_judgements.specs.declared.judgement.Judgement.TheVariants.{Change
 use Rattle.scr_world.specs.declared.step.Step.{Step}
 use Rattle.scr_core.proofs.commands.take_boxed.Goals as goal
 
-pub grow-requires-clause-may : goal.grow-requires-clause-may
-grow-requires-clause-may c =
+pub grow_wired-requires-clause-may : goal.grow_wired-requires-clause-may
+grow_wired-requires-clause-may c =
     let it = subst (λ (x : Judgement). JudgesStep c.args.journal.now.limit c.args.state.now c.deref.result.now (Ok x)) c.in-Ok-Changes.field-0-is c.in-Ok-Changes.ensures.judged in
     let here = subst (λ (x : Step). JudgesStep c.args.journal.now.limit c.args.state.now x (Ok (Changes c.in-Ok-Changes.reply c.in-Ok-Changes.draft))) c.deref.ensures it in
     step_may c.args.journal.now c.args.state.now c.requires.keeps c.args.step.value c.requires.command.0 c.requires.command.1 c.in-Ok-Changes.reply c.in-Ok-Changes.draft here
 
-pub grow-requires-clause-room : goal.grow-requires-clause-room
-grow-requires-clause-room c =
+pub grow_wired-requires-clause-room : goal.grow_wired-requires-clause-room
+grow_wired-requires-clause-room c =
     let it = subst (λ (x : Judgement). JudgesStep c.args.journal.now.limit c.args.state.now c.deref.result.now (Ok x)) c.in-Ok-Changes.field-0-is c.in-Ok-Changes.ensures.judged in
     let here = subst (λ (x : Step). JudgesStep c.args.journal.now.limit c.args.state.now x (Ok (Changes c.in-Ok-Changes.reply c.in-Ok-Changes.draft))) c.deref.ensures it in
     step_room c.args.journal.now c.args.state.now c.requires.keeps c.args.step.value c.requires.command.0 c.requires.command.1 c.in-Ok-Changes.reply c.in-Ok-Changes.draft here
 
-pub grow-requires-clause-draft : goal.grow-requires-clause-draft
-grow-requires-clause-draft c =
+pub grow_wired-requires-clause-draft : goal.grow_wired-requires-clause-draft
+grow_wired-requires-clause-draft c =
     let it = subst (λ (x : Judgement). JudgesStep c.args.journal.now.limit c.args.state.now c.deref.result.now (Ok x)) c.in-Ok-Changes.field-0-is c.in-Ok-Changes.ensures.judged in
     let here = subst (λ (x : Step). JudgesStep c.args.journal.now.limit c.args.state.now x (Ok (Changes c.in-Ok-Changes.reply c.in-Ok-Changes.draft))) c.deref.ensures it in
     step_drafted c.args.journal.now c.args.state.now c.requires.keeps c.args.step.value c.requires.command.0 c.requires.command.1 c.in-Ok-Changes.reply c.in-Ok-Changes.draft here
@@ -40,4 +40,4 @@ returns-in_ok-shut-in-Ok-Changes-clause-answer c = λ command is.
     let it = subst (λ (x : Judgement). JudgesStep c.args.journal.now.limit c.args.state.now c.deref.result.now (Ok x)) c.in-Ok-Changes.field-0-is c.in-Ok-Changes.ensures.judged in
     let here = subst (λ (x : Step). JudgesStep c.args.journal.now.limit c.args.state.now x (Ok (Changes c.in-Ok-Changes.reply c.in-Ok-Changes.draft))) c.deref.ensures it in
     step_changed c.args.journal.now c.args.state.now c.requires.keeps c.args.step.value command is c.in-Ok-Changes.reply c.in-Ok-Changes.draft here
-    c.in_ok-shut-in-Ok-Changes.shut c.grow.new.journal.entries c.in_ok-shut-in-Ok-Changes.ensures.shut c.in_ok-shut-in-Ok-Changes.ensures.grown
+    c.in_ok-shut-in-Ok-Changes.shut c.grow_wired.new.journal.entries c.in_ok-shut-in-Ok-Changes.ensures.shut c.in_ok-shut-in-Ok-Changes.ensures.grown

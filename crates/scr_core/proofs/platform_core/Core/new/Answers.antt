@@ -7,6 +7,7 @@ use Rattle.scr_state.specs.Keeps.{Keeps}
 use Rattle.scr_world.specs.Steps.{history_of}
 use Rattle.scr_world.specs.TurnLines.{turn_lines}
 use Rattle.scr_world.specs.declared.step.Step.{Step}
+use Rattle.scr_core.proofs.WiredJournals.{first_kept}
 use Rattle.scr_core.proofs.platform_core.Core.new.Goals as goal
 
 pub invariant_of-result : goal.invariant_of-result
@@ -18,4 +19,5 @@ invariant_of-result c = (
   },
   c.requires.within,
   subst (λ (m : Making). IsThatFar c.in_ok-state.state.world m) (sym c.none-making.ensures) (nothing_far c.in_ok-state.state.world),
+  first_kept c.args.limits.journal c.in_ok-state.state c.new-wirings.result (c.in_ok-state.ensures c.args.limits.journal) c.new-wirings.ensures,
 )

@@ -1,0 +1,5 @@
+pub mod Places
+pub mod DocumentWirings
+pub mod WiringRows
+pub mod KeptRows
+pub mod WiringChanges
