@@ -1,5 +1,5 @@
 -- What the needs and offers that are kept have to do with documents. Our own.
-use Rattle.std.specs.Prelude.{◌≡◌, ◌<◌, List, map, vec_capacity, vec_len}
+use Rattle.std.specs.Prelude.{◌≡◌, ◌<◌, ℕ, List, map, vec_capacity, vec_len}
 use Rattle.kept_wirings.specs.WiringRows.{WiringRow, fault_in, part_in, rows_of}
 use Rattle.kept_wirings.specs.declared.kept_wirings.KeptWirings.{KeptWirings}
 use Rattle.kept_wirings.specs.declared.wiring_changes.WiringChange.{WiringChange}

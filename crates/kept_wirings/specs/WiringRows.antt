@@ -1,5 +1,5 @@
 -- What is kept of bundles, a row for each. Our own.
-use Rattle.std.specs.Prelude.{◌==◌, ℕ, List, [], ◌∷◌, map, Option, Result}
+use Rattle.std.specs.Prelude.{◌≡◌, ◌==◌, ℕ, List, [], ◌∷◌, map, Option, Result}
 use Rattle.bundle_wiring.specs.Resolution.{Bundle}
 use Rattle.bundle_wiring.specs.declared.fault.WireFault.{WireFault}
 use Rattle.bundle_wiring.specs.declared.wiring.Wiring.{Wiring}

@@ -1,5 +1,5 @@
 -- What is kept of the manifests' needs and offers in the world of a journal that has grown.
-use Rattle.std.proofs.Common.{◌≡◌, ◌≤◌, ◌+◌, ◌∙◌, ap, arith, sym, refl, subst, ℕ, List, [], ◌∷◌, Bool, true, false, Result, Ok, Err}
+use Rattle.std.proofs.Common.{◌≡◌, ◌≤◌, ◌+◌, ◌∙◌, ap, arith, sym, refl, subst, ℕ, List, [], ◌∷◌, Bool, true, false, Result, Ok, Err, Some}
 use Rattle.std.specs.List.{Contains}
 use Rattle.std.specs.Result.{IfOk, OnErr, OnOk}
 use Rattle.std.proofs.lemmas.Bool.{ne_eqb}

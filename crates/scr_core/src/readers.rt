@@ -20,7 +20,7 @@ use kept_wirings::KeptWirings;
 use ldap_filter::Filter;
 use prop_map::{List, OutOfMemory};
 use scr_readers::ComponentView;
-use scr_world::{BundleLine, ComponentLine, CoreFault, HeldLine, TurnLine};
+use scr_world::{BundleLine, ComponentLine, Contents, CoreFault, HeldLine, TurnLine};
 use service_listeners::ServiceEvent;
 use service_registry::ServiceRow;
 use std::alloc::Global;
@@ -35,6 +35,13 @@ impl Core {
         ensures { IfOk result (λ lines. lines ≡ bundle_lines (world_at self.now.journal)) }
     {
         scr_readers::bundle_lines(alloc, &self.state.world)
+    }
+
+    /// What each installed bundle holds, by number: its document among it. It takes no memory.
+    pub fn documents(&self) -> &[Contents]
+        ensures { result.now ≡ (world_at self.now.journal).documents }
+    {
+        self.state.world.documents.as_slice()
     }
 
     /// What the manifests of the installed bundles say of their needs and offers, by number, as it was read at the install or the

@@ -1,5 +1,5 @@
-//! The draft of a command after which the same component configurations are asked for as before it (OSGi Compendium 8,
-//! chapter 112, "Component Configuration").
+//! The draft of a command after which the same component configurations are asked for as before it (OSGi Compendium 8, chapter
+//! 112, "Component Configuration").
 ghost use Rattle.prop_map.specs.Words.{has};
 ghost use Rattle.scr_judgements.specs.Asked.{is_command, leaves_asked};
 ghost use Rattle.scr_judgements.specs.Drafting.{AreTablesBy};
@@ -19,8 +19,7 @@ use scr_state::{Draft, RowChange, State};
 use scr_world::{Instance, Step, World};
 use std::alloc::Global;
 
-/// The draft of a command that touches neither bundles nor documents nor configurations, after which these are the
-/// tables.
+/// The draft of a command that touches neither bundles nor documents nor configurations, after which these are the tables.
 ///
 /// # Errors
 /// Only want of memory.
@@ -39,8 +38,8 @@ pub fn draft_with(
     draft_as_before(alloc, state, step, tables)
 }
 
-/// The draft of a command after which the same is asked for as before it, and these are the tables. It says none for
-/// component configurations and open periods, but where the command forgets some that ceased without an instance.
+/// The draft of a command after which the same is asked for as before it, and these are the tables. It says none for component
+/// configurations and open periods, but where the command forgets some that ceased without an instance.
 ///
 /// # Errors
 /// Only want of memory.

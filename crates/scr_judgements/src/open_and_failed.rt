@@ -30,8 +30,8 @@ pub fn periods_with_command(
     with_present_properties(alloc, components, world.open_periods.as_slice())
 }
 
-/// The same where the component configurations are those after it: what is open stays where the command changed the
-/// properties of none.
+/// The same where the component configurations are those after it: what is open stays where the command changed the properties of
+/// none.
 ///
 /// # Errors
 /// As those of `periods_with_command`.

@@ -1,3 +1,4 @@
 pub mod OneTelling
 pub mod Pairs
 pub mod Places
+pub mod KeptParts

@@ -9,7 +9,8 @@ use Rattle.bundle_wiring.specs.declared.wiring.WireNeed.{WireNeed}
 use Rattle.bundle_wiring.specs.declared.wiring.Wiring.{Wiring}
 use Rattle.bundle_wiring.proofs.MissingNeeds.{missing as missing_law, one_set}
 use Rattle.scr_world.specs.declared.contents.Contents.{Contents}
-use Rattle.wiring_reader.specs.Parts.{bundle_of, bundles_of, is_faulty, part_of, wiring_in}
+use Rattle.kept_wirings.specs.DocumentWirings.{part_of, wiring_in}
+use Rattle.wiring_reader.specs.Parts.{bundle_of, bundles_of, is_faulty}
 use Rattle.wiring_reader.specs.Telling.{TellsBundle, TellsNeeds, TellsPart, TellsWiring, bundle_line, is_resolved, line_by, need_lines, resolved_line, wiring_lines}
 use Rattle.wiring_reader.specs.declared.wiring_line.NeedLine.{NeedLine}
 use Rattle.wiring_reader.specs.declared.wiring_line.WiringLine.{WiringLine}

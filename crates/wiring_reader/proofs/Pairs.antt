@@ -1,5 +1,5 @@
 -- What the code makes of needs that are wired is what is told.
-use Rattle.std.proofs.Common.{◌≡◌, ◌∙◌, ◌<◌, ℕ, List, [], ◌∷◌, ◌++◌, length, get_or, map, flat_map, ap, refl, Bool, true, false, ◌&&◌, Option, Some, None, Ok, Err, Result}
+use Rattle.std.proofs.Common.{◌≡◌, ◌∙◌, ◌<◌, ℕ, List, [], ◌∷◌, ◌++◌, length, get_or, map, flat_map, ap, refl, sym, Bool, true, false, ◌&&◌, Option, Some, None, Ok, Err, Result}
 use Rattle.std.specs.Prelude.{◌||◌, filter, find, is_none, is_some, not, option_map, if◌then◌else◌}
 use Rattle.std.specs.List.{AllByRecursion}
 use Rattle.std.proofs.lemmas.List.Elements.{recursion_from_All}
@@ -13,16 +13,18 @@ use Rattle.bundle_wiring.proofs.MissingNeeds.{missing as missing_law}
 use Rattle.bundle_wiring.proofs.WiredNeeds.{wired_candidate}
 use Rattle.scr_world.specs.declared.contents.Contents.{Contents}
 use Rattle.wiring_reader.specs.Lines.{head_line, head_lines, is_missing, missing, need_line_of, paired, resolved_wires, wire_line_of}
-use Rattle.wiring_reader.specs.Parts.{bundle_of, bundles_of, head_of, is_faulty, part_of, wiring_in}
+use Rattle.kept_wirings.specs.DocumentWirings.{fault_of, part_of, wiring_in}
+use Rattle.wiring_reader.specs.Parts.{bundle_of, bundles_of, head_of, is_faulty}
 use Rattle.wiring_reader.specs.Telling.{TellsNeeds, TellsPart, TellsWiring, bundle_line, line_by, need_line, offer_line, resolved_line, wire_line, wire_lines}
 use Rattle.wiring_reader.specs.declared.parts.Head.{Head}
 use Rattle.wiring_reader.specs.declared.wiring_line.NeedLine.{NeedLine}
+use Rattle.wiring_reader.specs.declared.wiring_line.NeedLine.TheVariants.{Fault}
 use Rattle.wiring_reader.specs.declared.wiring_line.WiringLine.{WiringLine}
 use Rattle.wiring_reader.proofs.Places.{at_place, mapped_at}
 
 -- ---- lists
 
-map_twice : {A B C : Type 0} (g : B → C) (f : A → B) (xs : List A) → map g (map f xs) ≡ map (λ x. g (f x)) xs
+pub map_twice : {A B C : Type 0} (g : B → C) (f : A → B) (xs : List A) → map g (map f xs) ≡ map (λ x. g (f x)) xs
 map_twice g f [] = refl
 map_twice g f (x ∷ xs) = ap (λ ys. g (f x) ∷ ys) (map_twice g f xs)
 
@@ -137,6 +139,14 @@ part_at cs place d rows row bundles b lines low same (test, greatest, are) row_i
     let itself = mapped_at bundle_of cs bundles place b d same low b_is in
     part_told cs (get_or cs place d) (map wired_of row) lines test greatest row_told (is ∙ ap (λ (x : Bundle). map need_line_of (map wired_of row) ++ map offer_line x.1.offers) itself)
 
-pub needs_told : (cs : List Contents) (r : Result Wiring WireFault) (wiring : Wiring) (lines : List NeedLine) → r ≡ Ok wiring → TellsPart cs (part_of r) lines → TellsNeeds cs r lines
-needs_told cs (Ok other) wiring lines e h = h
-needs_told cs (Err fault) wiring lines e h = absurd (cc)
+-- of a bundle without a fault its part is told, of any other its fault
+pub needs_told : (cs : List Contents) (r : Result Wiring WireFault) (lines : List NeedLine) → fault_of r ≡ None → TellsPart cs (part_of r) lines → TellsNeeds cs r lines
+needs_told cs (Ok wiring) lines e h = h
+needs_told cs (Err fault) lines e h = absurd (cc)
+
+some_fault : (a b : WireFault) → Some a ≡ Some b → a ≡ b
+some_fault a b e = cc
+
+pub fault_told : (cs : List Contents) (r : Result Wiring WireFault) (fault : WireFault) (lines : List NeedLine) → fault_of r ≡ Some fault → lines ≡ Fault fault ∷ [] → TellsNeeds cs r lines
+fault_told cs (Ok wiring) fault lines e is = absurd (cc)
+fault_told cs (Err other) fault lines e is = is ∙ ap (λ (f : WireFault). Fault f ∷ []) (sym (some_fault other fault e))

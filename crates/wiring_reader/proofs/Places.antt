@@ -31,6 +31,12 @@ module _ {X : Type 0} (p : X → Bool) (xs : List X) where
         | inr h ↦ absurd (omega (arith, within, h.0))
       ]
 
+  pub found_low : (i : ℕ) → position p xs ≡ Some i → i < length xs
+  found_low i e =
+      let at = place_is (nat_lt (position_or_len p xs) (length xs)) i e in
+      let within = low (nat_lt (position_or_len p xs) (length xs)) i refl e in
+      omega (arith, at, within)
+
   pub found_nowhere : position p xs ≡ None → find p xs ≡ None
   found_nowhere e = find_at p xs ∙ slice_get_past xs (position_or_len p xs) (past (nat_lt (position_or_len p xs) (length xs)) refl e)
 

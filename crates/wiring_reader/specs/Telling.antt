@@ -8,7 +8,8 @@ use Rattle.bundle_wiring.specs.declared.wiring.WireNeed.{WireNeed}
 use Rattle.bundle_wiring.specs.declared.wiring.Wiring.{Wiring}
 use Rattle.scr_world.specs.Tables.{contents_of}
 use Rattle.scr_world.specs.declared.contents.Contents.{Contents}
-use Rattle.wiring_reader.specs.Parts.{bundles_of, wiring_in}
+use Rattle.kept_wirings.specs.DocumentWirings.{wiring_in}
+use Rattle.wiring_reader.specs.Parts.{bundles_of}
 use Rattle.wiring_reader.specs.declared.wiring_line.NeedLine.{NeedLine}
 use Rattle.wiring_reader.specs.declared.wiring_line.NeedLine.TheVariants.{Wire as WiredNeed, Missing, Optional, Offers, Fault}
 use Rattle.wiring_reader.specs.declared.wiring_line.WiringLine.{WiringLine}

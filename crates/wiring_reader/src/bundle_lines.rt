@@ -1,23 +1,24 @@
 //! The wiring of one bundle (OSGi Core 8, chapter 3 "Module Layer", "Resolving Process").
 ghost use Rattle.bundle_wiring.specs.ByNeed.{wired_of};
+ghost use Rattle.kept_wirings.specs.DocumentWirings.{part_of, wiring_in};
+ghost use Rattle.kept_wirings.specs.KeptRows.{AreKept};
 ghost use Rattle.scr_world.specs.declared.contents.Contents.{Contents};
-ghost use Rattle.std.specs.Prelude.{◌≡◌, ◌==◌, ◌<◌, ◌++◌, [], ◌∷◌, length, map, position, slice_index_or, IfOk, OnOk};
+ghost use Rattle.std.specs.Prelude.{◌≡◌, ◌==◌, ◌<◌, ◌++◌, [], ◌∷◌, List, length, map, position, slice_index_or, IfOk, OnOk};
 ghost use Rattle.wiring_reader.specs.Lines.{need_line_of};
-ghost use Rattle.wiring_reader.specs.Parts.{part_of, wiring_in};
+ghost use Rattle.wiring_reader.specs.Parts.{bundles_of};
 ghost use Rattle.wiring_reader.specs.Telling.{TellsBundle, TellsNeeds, TellsPart, offer_line, unwired_line};
 ghost use Rattle.wiring_reader.specs.declared.wiring_line.NeedLine.TheVariants.{Fault};
 
 use crate::NeedLine;
-use crate::parts::parts_of;
-use crate::reading::wiring_in;
-use bundle_wiring::{Offer, WireFault, WireNeed, WiredNeed, wire_needs};
+use bundle_wiring::{Offer, WireFault, WireNeed, WiredNeed, Wiring, wire_needs};
+use kept_wirings::{KeptWirings, wirings_of};
 use prop_map::{Copies, List, OutOfMemory};
 use scr_world::Contents;
-use std::alloc::{AllocError, Global};
+use std::alloc::Global;
 
 /// The wiring of the bundle of a number, among the bundles with these documents: for each of its needs to whom it is
 /// wired, or would be if the bundle resolved, or that it has no candidate; then each of its offers. Where its manifest
-/// is faulty, the first fault alone. `None` exactly where there is no such bundle.
+/// is faulty, the first fault alone. `None` exactly where there is no such bundle. The manifests are read anew.
 ///
 /// # Errors
 /// Only want of memory.
@@ -28,8 +29,25 @@ pub fn bundle_wiring(
 ) -> Result<Option<List<NeedLine>>, OutOfMemory>
     ensures { IfOk result (λ told. TellsBundle documents.now bundle told) }
 {
+    let kept = wirings_of(alloc, documents)?;
+    kept_bundle_wiring(alloc, documents, &kept, bundle)
+}
+
+/// The same where this is kept of what the manifests say. None of them is read.
+///
+/// # Errors
+/// Only want of memory.
+pub fn kept_bundle_wiring(
+    alloc: Global,
+    documents: &[Contents],
+    kept: &KeptWirings,
+    bundle: u64,
+) -> Result<Option<List<NeedLine>>, OutOfMemory>
+    requires { AreKept documents.now kept.now }
+    ensures { IfOk result (λ told. TellsBundle documents.now bundle told) }
+{
     match place_of(documents, bundle) {
-        Some(place) => Ok(Some(lines_at(alloc, documents, place)?)),
+        Some(place) => Ok(Some(lines_at(alloc, kept, place)?)),
         None => Ok(None),
     }
 }
@@ -42,41 +60,50 @@ fn place_of(documents: &[Contents], bundle: u64) -> Option<usize>
         .position(|contents| contents.bundle == bundle)
 }
 
-fn lines_at(
-    alloc: Global,
-    documents: &[Contents],
-    place: usize,
-) -> Result<List<NeedLine>, OutOfMemory>
-    requires { place < length documents.now }
-    ensures { IfOk result (λ lines. (c : Contents) → TellsNeeds documents.now (wiring_in (slice_index_or documents.now place c)) lines) }
+fn lines_at(alloc: Global, kept: &KeptWirings, place: usize) -> Result<List<NeedLine>, OutOfMemory>
+    requires bundles { place < length kept.now.bundles.items }
+    requires faults { place < length kept.now.faults.items }
+    ensures { IfOk result (λ lines. (cs : List Contents) (c : Contents) → AreKept cs kept.now → TellsNeeds cs (wiring_in (slice_index_or cs place c)) lines) }
 {
-    match wiring_in(alloc, &documents[place]) {
-        Ok(_) => part_lines(alloc, documents, place),
-        Err(WireFault::OutOfMemory) => Err(AllocError),
-        Err(fault) => fault_line(alloc, fault),
+    match &kept.faults[place] {
+        Some(fault) => fault_line(alloc, fault),
+        None => part_lines(alloc, kept.bundles.as_slice(), place),
     }
 }
 
 // A faulty manifest's first fault.
-fn fault_line(alloc: Global, fault: WireFault) -> Result<List<NeedLine>, OutOfMemory>
-    ensures { IfOk result (λ lines. lines ≡ Fault fault ∷ []) }
+fn fault_line(alloc: Global, fault: &WireFault) -> Result<List<NeedLine>, OutOfMemory>
+    ensures { IfOk result (λ lines. lines ≡ Fault fault.now ∷ []) }
 {
+    let fault = copy_of(alloc, fault)?;
     let mut lines = Vec::new(alloc);
     lines.push(NeedLine::Fault { fault })?;
     Ok(List::of(lines))
 }
 
+fn copy_of(alloc: Global, fault: &WireFault) -> Result<WireFault, OutOfMemory>
+    ensures { IfOk result (λ copy. copy ≡ fault.now) }
+{
+    match fault {
+        WireFault::BadClause { at } => Ok(WireFault::BadClause { at: *at }),
+        WireFault::BadVersion { at } => Ok(WireFault::BadVersion { at: *at }),
+        WireFault::BadFilter { at } => Ok(WireFault::BadFilter { at: *at }),
+        WireFault::DuplicateImport { package } => Ok(WireFault::DuplicateImport {
+            package: package.copy(alloc)?,
+        }),
+        WireFault::OutOfMemory => Ok(WireFault::OutOfMemory),
+    }
+}
+
 // The needs and the offers of the part that the bundle at a place takes.
 fn part_lines(
     alloc: Global,
-    documents: &[Contents],
+    bundles: &[(u64, Wiring)],
     place: usize,
 ) -> Result<List<NeedLine>, OutOfMemory>
-    requires { place < length documents.now }
-    ensures { IfOk result (λ lines. (c : Contents) → TellsPart documents.now (part_of (wiring_in (slice_index_or documents.now place c))) lines) }
+    requires { place < length bundles.now }
+    ensures { IfOk result (λ lines. (cs : List Contents) (c : Contents) → bundles.now ≡ bundles_of cs → TellsPart cs (part_of (wiring_in (slice_index_or cs place c))) lines) }
 {
-    let parts = parts_of(alloc, documents)?;
-    let bundles = parts.bundles.as_slice();
     let wired = wire_needs(alloc, bundles)?;
     let rows = wired.as_slice();
     let lines = lines_of(

@@ -1,9 +1,10 @@
 //! Laws of what is told of wiring.
 ghost use Rattle.bundle_wiring.specs.Resolution.{Bundle, IsGreatest};
+ghost use Rattle.kept_wirings.specs.DocumentWirings.{wiring_in};
 ghost use Rattle.scr_world.specs.declared.contents.Contents.{Contents};
 ghost use Rattle.std.specs.List.{All};
 ghost use Rattle.std.specs.Prelude.{◌≡◌, ◌&&◌, ℕ, List, Bool, Option, filter, not};
-ghost use Rattle.wiring_reader.specs.Parts.{bundle_of, bundles_of, is_faulty, wiring_in};
+ghost use Rattle.wiring_reader.specs.Parts.{bundle_of, bundles_of, is_faulty};
 ghost use Rattle.wiring_reader.specs.Telling.{TellsBundle, TellsWiring, bundle_line, is_resolved};
 ghost use Rattle.wiring_reader.specs.declared.wiring_line.NeedLine.{NeedLine};
 ghost use Rattle.wiring_reader.specs.declared.wiring_line.WiringLine.{WiringLine};

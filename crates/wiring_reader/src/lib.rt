@@ -8,11 +8,10 @@ mod laws;
 mod lines;
 mod missing;
 mod parts;
-mod reading;
 mod wires;
 mod wiring_line;
 
-pub use bundle_lines::bundle_wiring;
+pub use bundle_lines::{bundle_wiring, kept_bundle_wiring};
 pub use laws::{note_one_bundle_wiring, note_one_wiring, note_resolved};
-pub use lines::wiring_lines;
+pub use lines::{kept_wiring_lines, wiring_lines};
 pub use wiring_line::{NeedLine, WiringLine};

@@ -1,14 +1,16 @@
 //! The wiring of all bundles (OSGi Core 8, chapter 3 "Module Layer", "Resolving Process").
 ghost use Rattle.bundle_wiring.specs.ByNeed.{wired_of};
+ghost use Rattle.kept_wirings.specs.KeptRows.{AreKept};
 ghost use Rattle.std.specs.Prelude.{◌≡◌, ◌++◌, length, map, option_map, IfOk, OnOk};
 ghost use Rattle.wiring_reader.specs.Lines.{head_line, head_lines, paired, resolved_wires};
 ghost use Rattle.wiring_reader.specs.Telling.{TellsWiring};
 
 use crate::WiringLine;
 use crate::missing::missing;
-use crate::parts::{Head, parts_of};
+use crate::parts::{Head, heads_of};
 use crate::wires::push_resolved;
 use bundle_wiring::{WireNeed, WiredNeed, wire_needs};
+use kept_wirings::{KeptWirings, wirings_of};
 use prop_map::{Copies, List, OutOfMemory};
 use scr_world::Contents;
 use std::alloc::Global;
@@ -17,16 +19,32 @@ use std::alloc::Global;
 /// which need keeps it from it, or whether its manifest is faulty; then, by bundle and by need, each wire of the
 /// bundles that resolve. These are the greatest set in which each need that isn't optional has a candidate, among the
 /// bundles of the set and the platform; the state of a bundle doesn't count. A bundle without a manifest needs and
-/// offers nothing; one whose manifest is faulty takes no part.
+/// offers nothing; one whose manifest is faulty takes no part. The manifests are read anew.
 ///
 /// # Errors
 /// Only want of memory.
 pub fn wiring_lines(alloc: Global, documents: &[Contents]) -> Result<List<WiringLine>, OutOfMemory>
     ensures { IfOk result (λ lines. TellsWiring documents.now lines) }
 {
-    let parts = parts_of(alloc, documents)?;
-    let wired = wire_needs(alloc, parts.bundles.as_slice())?;
-    let lines = lines_of(alloc, parts.heads.as_slice(), wired.as_slice())?;
+    let kept = wirings_of(alloc, documents)?;
+    kept_wiring_lines(alloc, documents, &kept)
+}
+
+/// The same where this is kept of what the manifests say. None of them is read.
+///
+/// # Errors
+/// Only want of memory.
+pub fn kept_wiring_lines(
+    alloc: Global,
+    documents: &[Contents],
+    kept: &KeptWirings,
+) -> Result<List<WiringLine>, OutOfMemory>
+    requires { AreKept documents.now kept.now }
+    ensures { IfOk result (λ lines. TellsWiring documents.now lines) }
+{
+    let heads = heads_of(alloc, documents, kept.faults.as_slice())?;
+    let wired = wire_needs(alloc, kept.bundles.as_slice())?;
+    let lines = lines_of(alloc, heads.as_slice(), wired.as_slice())?;
     Ok(List::of(lines))
 }
 
