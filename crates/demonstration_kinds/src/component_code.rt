@@ -77,6 +77,8 @@ impl Kinds for Demonstration {
 
     ghost refuses = { λ _ properties told. refuses_told properties told };
 
+    ghost made = { λ _ _. Unit {0} };
+
     ghost hears = { λ _ _ _ _. Unit {0} };
 
     ghost next = { next };

@@ -26,6 +26,8 @@ impl Kinds for Gateway {
 
     ghost refuses = { refuses_told };
 
+    ghost made = { λ _ _. Unit {0} };
+
     ghost hears = { λ _ _ _ _. Unit {0} };
 
     ghost next = { next };

@@ -4,7 +4,7 @@ ghost use Rattle.kind_trait.specs.declared.kind_fault.KindFault.{KindFault};
 ghost use Rattle.kind_trait.specs.declared.nested_reply.NestedReply.{NestedReply};
 ghost use Rattle.turn_work.specs.declared.site.Site.{Site};
 ghost use Rattle.prop_map.specs.declared.properties.Property.{Property};
-ghost use Rattle.std.specs.Prelude.{ℕ, List, [], ◌∷◌, ◌++◌, ◌≡◌, Bool, Result, false};
+ghost use Rattle.std.specs.Prelude.{ℕ, List, [], ◌∷◌, ◌++◌, ◌≡◌, Bool, IfOk, Result, false};
 
 use crate::{KindFault, NestedReply, Next, Site};
 use std::alloc::Global;
@@ -29,6 +29,10 @@ pub trait Kinds {
     /// Whether an instance of a class with these properties refuses a callback.
     ghost refuses: { List ℕ → List Property → Told → Bool };
 
+    /// What it is that an object was made for the class and the properties of a site. Whoever knows nothing of the component code
+    /// knows this of an object alone that came from a `create` with just that site.
+    ghost made: { Self.Object → Site → Type 0 };
+
     /// What it is that an object of an instance is told something and answers. Whoever knows nothing of the component code knows
     /// this of an answer alone that came from a call with just that object.
     ghost hears: { Self.Object → Site → Told → Result (Unit {0}) KindFault → Type 0 };
@@ -41,7 +45,8 @@ pub trait Kinds {
 
     /// Makes an instance.
     fn create(&self, alloc: Global, site: &Site) -> Result<Self::Object, KindFault>
-        ensures { RefusedWhere (refuses site.now.class site.now.properties Create) result };
+        ensures refused { RefusedWhere (refuses site.now.class site.now.properties Create) result }
+        ensures made { IfOk result (λ object. made object site.now) };
 
     /// Tells an instance that it has a service for a reference from now on.
     fn bind(

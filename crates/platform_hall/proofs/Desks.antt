@@ -1,5 +1,5 @@
 -- What a desk keeps beside the core stays as its journal says, at each of its calls.
-use Rattle.std.proofs.Common.{◌≡◌, ◌<◌, ℕ, ◌+◌, List, [], ◌∷◌, ◌++◌, ap, sym, ◌∙◌, refl, cond, Bool, true, false, ◌&&◌, ◌||◌, Some, None, inl, inr, arith}
+use Rattle.std.proofs.Common.{◌≡◌, ◌<◌, ◌≤◌, ℕ, ◌+◌, List, [], ◌∷◌, ◌++◌, ap, sym, ◌∙◌, refl, cond, Bool, true, false, ◌&&◌, ◌||◌, Some, None, inl, inr, arith}
 use Rattle.std.specs.Prelude.{not, ◌==◌, option_and_then, option_map, if◌then◌else◌}
 use Rattle.std.specs.List.{list_any, sum_by}
 use Rattle.std.proofs.lemmas.Bool.{cases_eq, eqb-true, eq-eqb, ne_eqb}
@@ -9,7 +9,7 @@ use Rattle.callback_orders.specs.Grammar.{is_destroy}
 use Rattle.journal_core.specs.declared.entry.Entry.{Entry}
 use Rattle.turn_work.specs.declared.work.TurnWork.{TurnWork}
 use Rattle.platform_hall.specs.declared.held.Held.{Held}
-use Rattle.platform_hall.specs.Desks.{is_holder}
+use Rattle.platform_hall.specs.Desks.{holders_of, is_holder}
 use Rattle.turn_runner.specs.Outcomes.{has_object_after, is_destroy_of, makes_object, needs_object}
 use Rattle.scr_world.specs.declared.command.Limits.{Limits}
 use Rattle.scr_world.specs.declared.step.Step.{Step}
@@ -26,6 +26,7 @@ use Rattle.scr_world.specs.TurnSteps.{work_for}
 use Rattle.scr_world.specs.Worlds.{all_instances}
 use Rattle.platform_hall.specs.Desks.{IsDesk, tokens_of}
 use Rattle.platform_hall.specs.Platforms.{Begins, Ends, has_object, running, world}
+use Rattle.platform_hall.proofs.Alone.{alone_after, makes_anew, none_alone}
 use Rattle.platform_hall.proofs.Lists.{none_found}
 use Rattle.platform_hall.proofs.Settlings.{HasLegal, begins_as}
 use Rattle.platform_hall.proofs.Starts.{made_for, runs_as, runs_fits, runs_under_way}
@@ -66,12 +67,14 @@ module _ {O : Type 0} where
   empty_desk p turns held journal nothing nobody = record {
     tokens = λ n. ap (λ ts. tokens_of ts n) nothing ∙ sym (ap one_if (ap (λ j. is_under_way (world_at j) n) journal ∙ none_begun n));
     objects = λ n. ap (λ (hs : List (Held O)). is_holder hs n) nobody ∙ sym (ap (λ j. list_any (made_for n) (world_at j).instances) journal ∙ none_made n);
+    alone = λ n. none_alone held n nobody;
   }
 
   pub desk_alike : (before after : CoreView) (turns : List ℕ) (held : List (Held O)) → IsAlike (world before) (world after) → IsDesk before turns held → IsDesk after turns held
   desk_alike before after turns held alike desk = record {
     tokens = λ n. desk.tokens n ∙ ap one_if (sym (alike.under_way n));
     objects = λ n. desk.objects n ∙ sym (alike.objects n);
+    alone = desk.alone;
   }
 
   pub desk_begun : (before after : CoreView) (turns : List ℕ) (held : List (Held O)) (work : TurnWork) → HasLegal before → Begins before work after → IsDesk before turns held → IsDesk after (turns ++ work.number ∷ []) held
@@ -84,6 +87,7 @@ module _ {O : Type 0} where
             ∙ one_of_two (is_under_way (world before) n) (work.number == n) (λ same. ap (λ m. list_any (has_turn m) (all_instances (world before))) (sym (eqb-true work.number n same)) ∙ is.fresh)
             ∙ ap one_if (sym (is.under_way n));
         objects = λ n. desk.objects n ∙ sym (is.objects n);
+        alone = desk.alone;
       }
 
   -- one token less, and one more again
@@ -91,6 +95,7 @@ module _ {O : Type 0} where
   desk_back p turns rest held turn others desk = record {
     tokens = λ n. tokens_more rest turn n ∙ sym (others n) ∙ desk.tokens n;
     objects = desk.objects;
+    alone = desk.alone;
   }
 
 -- ---- a turn that is under way
@@ -136,8 +141,9 @@ module _ (before after : CoreView) (turn : ℕ) (outcome : Outcome) (work : Turn
   pub ended_desk : {O : Type 0} (turns rest : List ℕ) (held kept : List (Held O)) (made destroyed : Bool)
       → ((n : ℕ) → tokens_of turns n ≡ tokens_of rest n + one_if (turn == n))
       → ((n : ℕ) → is_holder kept n ≡ ((is_holder held n || (made && (work.instance == n))) && not (destroyed && (work.instance == n))))
+      → ((n : ℕ) → holders_of kept n ≤ holders_of held n + one_if (made && (work.instance == n)))
       → made ≡ makes_object work outcome → destroyed ≡ is_destroy work.callback → IsDesk before turns held → IsDesk after rest kept
-  ended_desk turns rest held kept made destroyed others keeps makes destroys desk = record {
+  ended_desk turns rest held kept made destroyed others keeps few makes destroys desk = record {
     tokens = λ n. elim (cases_eq turn n) [
       | inl same ↦ (
           let one : tokens_of turns n ≡ 1 = desk.tokens n ∙ ap one_if (ap (is_under_way (world before)) (sym same) ∙ running_under_way before turn work legal is) in
@@ -158,6 +164,8 @@ module _ (before after : CoreView) (turn : ℕ) (outcome : Outcome) (work : Turn
         ∙ ap (λ m. (has_object before n || (m && (work.instance == n))) && not (destroyed && (work.instance == n))) makes
         ∙ ap (λ d. (has_object before n || (makes_object work outcome && (work.instance == n))) && not (d && (work.instance == n))) destroys
         ∙ sym (ended_objects n);
+    alone = λ n. alone_after held kept made work.instance n (few n) (desk.alone n) (λ anew.
+        desk.objects work.instance ∙ running_fits before turn work legal is ∙ makes_anew work outcome (sym makes ∙ anew));
   }
 
   -- as a desk says it, of instances that aren't destroyed

@@ -10,8 +10,13 @@ pub mod Bounded
 pub mod Desks
 pub mod Taking
 pub mod Holders
+pub mod Alone
 pub mod Owners
 pub mod Seen
+pub mod Finishing
 pub mod Draining
 pub mod Results
 pub mod Commanding
+pub mod Using
+pub mod Objects
+pub mod Answering

@@ -145,10 +145,10 @@ module _ (refuses : List ℕ → List Property → Told → Bool) where
   pub settles_spans : (count : ℕ) (before after : CoreView) → Settles has_drain Begins Ends Posts refuses count before after → Spans before after count
   settles_spans count before after (start, posts, clear, ran) = spans_then before start after 0 count count (omega arith) (posts_spans before start posts) (turns_spans count start after ran)
 
-  cut_spans : (before after : CoreView) → IsCutOff Begins Ends Posts refuses before after → Spans before after 1
+  cut_spans : (before after : CoreView) → IsCutOff Begins Begins Ends Posts refuses before after → Spans before after 1
   cut_spans before after (inl (work, begins)) = begins_spans before after work begins
   cut_spans before after (inr (work, outcome, is, ends)) = turn_spans before after work outcome ends
 
   -- a settling that is cut off within a turn
-  pub settles_cut_spans : (count : ℕ) (before between after : CoreView) → Settles has_drain Begins Ends Posts refuses count before between → IsCutOff Begins Ends Posts refuses between after → Spans before after (count + 1)
+  pub settles_cut_spans : (count : ℕ) (before between after : CoreView) → Settles has_drain Begins Ends Posts refuses count before between → IsCutOff Begins Begins Ends Posts refuses between after → Spans before after (count + 1)
   settles_cut_spans count before between after settles cut = spans_then before between after count 1 (count + 1) refl (settles_spans count before between settles) (cut_spans between after cut)

@@ -2,3 +2,5 @@ pub mod Cores
 pub mod Platforms
 pub mod SettleBounds
 pub mod Desks
+pub mod Calls
+pub mod Callees

@@ -98,7 +98,7 @@ TakesCommand before command (Err fault) after = CoreTakes before command (Err fa
 
 -- what a settling of so many turns at most answers and does, where component code refuses so
 abbrev pub SettlesAs : (List ℕ → List Property → Told → Bool) → ℕ → CoreView → Result ℕ SettleFault → CoreView → Type 0
-SettlesAs refuses turns before answer after = IsSettled has_due has_room has_drain Begins Ends Posts refuses turns before answer after
+SettlesAs refuses turns before answer after = IsSettled has_due has_room has_drain Begins Begins Ends Posts refuses turns before answer after
 
 -- what the beginning of the first due turn answers and does: its number, under which it is under way, or nothing exactly where none is due
 abbrev pub BeginsTurn : CoreView → Result (Option ℕ) CoreFault → CoreView → Type 0

@@ -1,6 +1,6 @@
 //! The desk of a platform: turns come from its core and go back to it.
-ghost use Rattle.platform_hall.specs.Desks.{Owns};
-ghost use Rattle.platform_hall.specs.Platforms.{Begins, CoreTakes, Ends, Posts, has_drain, has_due, has_object, has_room, running, world};
+ghost use Rattle.platform_hall.specs.Desks.{DeskBegins, DeskEnds, DeskPosts, HandsOut, Owns};
+ghost use Rattle.platform_hall.specs.Platforms.{CoreTakes, has_drain, has_due, has_object, has_room, running, world};
 ghost use Rattle.scr_world.specs.declared.reply.CoreFault.TheVariants.{OutOfMemory as NoMemory};
 ghost use Rattle.scr_core.specs.Cores.{AreWithinGreatest};
 ghost use Rattle.scr_world.specs.Legal.{IsLegal};
@@ -10,8 +10,9 @@ ghost use Rattle.std.specs.Prelude.{◌≡◌, ◌⊎◌, ℕ, [], Some, None, f
 ghost use Rattle.turn_runner.specs.Outcomes.{IsMadeFor, IsRunOf, has_object_after, is_destroy_of, needs_object};
 
 use crate::drains::post_drains;
+use crate::heard::note_heard;
 use crate::held::Held;
-use crate::tokens::{held_object, keep, take_out};
+use crate::tokens::{keep, shared_object, take_out};
 use prop_map::OutOfMemory;
 use scr_core::{Accepted, Command, Core, CoreFault, Limits, Taken, Turn};
 use std::alloc::{AllocError, Global};
@@ -19,12 +20,13 @@ use std::marker::Model;
 use std::sync::Arc;
 use turn_runner::{Desk, DeskFault, Ran, TurnWork};
 
-/// A desk over the core. Contracts see what they see of the core, and the objects.
+/// A desk over the core. Contracts see what they see of the core, the objects, and the turns of which these heard.
 #[derive(Drop)]
 pub(crate) struct CoreDesk<O> {
-    core: Core,
-    turns: Vec<Turn>,
-    held: Vec<Held<O>>,
+    pub(crate) core: Core,
+    pub(crate) turns: Vec<Turn>,
+    pub(crate) held: Vec<Held<O>>,
+    pub(crate) told: Vec<u64>,
 }
 
 impl<O> Model for CoreDesk<O> {
@@ -36,7 +38,7 @@ impl<O> Model for CoreDesk<O> {
 
     ghost coded = { Prim.hlevel (codes, tree_code) };
 
-    ghost view = { λ d. record { core = d.core; held = d.held.items } };
+    ghost view = { λ d. record { core = d.core; held = d.held.items; told = d.told.items } };
 
     ghost invariant = { λ d. IsDesk d.core d.turns.items d.held.items };
 }
@@ -44,13 +46,14 @@ impl<O> Model for CoreDesk<O> {
 impl<O: Drop> CoreDesk<O> {
     pub(crate) fn new(alloc: Global, limits: Limits) -> Result<CoreDesk<O>, CoreFault>
         requires within { AreWithinGreatest limits }
-        ensures ok { IfOk result (λ desk. desk ≡ record { core = record { limits = limits; journal = [] }; held = [] }) }
+        ensures ok { IfOk result (λ desk. desk ≡ record { core = record { limits = limits; journal = [] }; held = []; told = [] }) }
         ensures err { IfErr result (λ fault. fault ≡ NoMemory) }
     {
         Ok(CoreDesk {
             core: Core::new(alloc, limits)?,
             turns: Vec::new(alloc),
             held: Vec::new(alloc),
+            told: Vec::new(alloc),
         })
     }
 
@@ -73,6 +76,7 @@ impl<O: Drop> CoreDesk<O> {
     // The work of a turn that is under way, for whose instance an object is there where the turn needs one.
     pub(crate) fn work(&self, alloc: Global, turn: u64) -> Result<Option<TurnWork>, OutOfMemory>
         ensures work { IfOk result (λ work. work ≡ running self.now.core turn) }
+        ensures number { (work : _) → running self.now.core turn ≡ Some work → work.number ≡ turn }
         ensures fits { (work : _) → running self.now.core turn ≡ Some work → has_object self.now.core work.instance ≡ needs_object work }
     {
         self.core.note_legal();
@@ -93,11 +97,13 @@ impl<O: Drop> Desk<O> for CoreDesk<O> {
 
     ghost owns = { Owns };
 
-    ghost begins = { λ before work after. Begins before.core work after.core };
+    ghost begins = { DeskBegins };
 
-    ghost ends = { λ before turn outcome after. Ends before.core turn outcome after.core };
+    ghost hands = { HandsOut };
 
-    ghost posts = { λ before after. Posts before.core after.core };
+    ghost ends = { DeskEnds };
+
+    ghost posts = { DeskPosts };
 
     fn take(&mut self, alloc: Global) -> Result<Option<TurnWork>, DeskFault> {
         self.turns.reserve(1)?;
@@ -118,11 +124,11 @@ impl<O: Drop> Desk<O> for CoreDesk<O> {
         self.core.due(alloc)
     }
 
-    fn object(&self, _alloc: Global, instance: u64) -> Result<Option<Arc<O>>, OutOfMemory> {
-        match held_object(self.held.as_slice(), instance) {
-            Some(one) => Ok(Some(Arc::try_clone(&one.object)?)),
-            None => Ok(None),
-        }
+    fn hand_out(&mut self, _alloc: Global, work: &TurnWork) -> Result<Option<Arc<O>>, OutOfMemory> {
+        self.told.reserve(1)?;
+        let object = shared_object(self.held.as_slice(), work.instance)?;
+        note_heard(&mut self.told, work);
+        Ok(object)
     }
 
     fn put_back(
@@ -132,7 +138,7 @@ impl<O: Drop> Desk<O> for CoreDesk<O> {
         ran: Ran<O>,
     ) -> Result<(), (Ran<O>, OutOfMemory)>
         requires { IsRunOf (running self.old.core number) ran.outcome (is_some ran.made) }
-        ensures ok { OnOk result (Ends self.old.core number ran.outcome self.new.core) }
+        ensures ok { OnOk result (DeskEnds self.old number ran.outcome self.new) }
         ensures ended { OnOk result (running self.new.core number ≡ None) }
         ensures objects { OnOk result ((instance : ℕ) → is_destroy_of (running self.old.core number) instance ≡ false → has_object self.new.core instance ≡ has_object_after (running self.old.core number) (is_some ran.made) (has_object self.old.core) instance) }
         ensures own { OnOk result ((instance : ℕ) (object : O) → Owns self.new instance object → Owns self.old instance object ⊎ IsMadeFor arc_value (running self.old.core number) ran.made instance object) }

@@ -1,12 +1,18 @@
 //! The platform of one thread: the core, the component code that its turns tell, and the objects of the instances.
 //!
-//! A [`Platform`] takes commands, runs the turns that are due, and posts the drains of gates that are shut: nobody is ever
-//! inside of one, since one thread makes one call at a time.
+//! A [`Platform`] takes commands, runs the turns that are due, calls services, and posts the drains of gates that are
+//! shut: nobody is inside of one then, since one thread makes one call at a time.
 #![tactic(auto)]
 
+mod call_answers;
+mod call_desk;
+mod call_faults;
+mod callees;
+mod calls;
 mod core_desk;
 mod drains;
 mod finish_fault;
+mod heard;
 mod held;
 mod notes;
 mod platform;

@@ -4,6 +4,7 @@ ghost use Rattle.scr_world.specs.declared.reply.CoreFault.TheVariants.{OutOfMemo
 ghost use Rattle.scr_core.specs.Cores.{AreWithinGreatest};
 ghost use Rattle.scr_world.specs.Legal.{IsLegal};
 ghost use Rattle.scr_world.specs.Steps.{history_of};
+ghost use Rattle.platform_hall.specs.Desks.{DeskSettles, FinishesHeard, SettlesHeard};
 ghost use Rattle.platform_hall.specs.Platforms.{BeginsTurn, FinishesTurn, SettlesAs, TakesCommand};
 ghost use Rattle.platform_hall.specs.SettleBounds.{SettlesWithin};
 
@@ -14,15 +15,15 @@ use kind_trait::Kinds;
 use scr_core::{Command, Core, CoreFault, Limits, Reply};
 use std::alloc::Global;
 use std::marker::Model;
-use turn_runner::{Desk, DeskFault, SettleFault, run_shared, settle};
+use turn_runner::{Desk, DeskFault, SettleFault, finish, settle};
 
 /// A platform of one thread. Contracts see its limits and the entries of its journal, the oldest first.
 ///
 /// Beside the core it keeps the component code and the objects that this made, one for each instance whose Create is done.
 #[derive(Drop)]
 pub struct Platform<K: Kinds> {
-    kinds: K,
-    desk: CoreDesk<K::Object>,
+    pub(crate) kinds: K,
+    pub(crate) desk: CoreDesk<K::Object>,
 }
 
 impl<K: Kinds> Model for Platform<K> {
@@ -44,7 +45,8 @@ fn settle_desk<K: Kinds>(
     kinds: &K,
     turns: u64,
 ) -> Result<u64, SettleFault>
-    ensures { SettlesAs K.refuses turns desk.old.core result desk.new.core }
+    ensures settles { SettlesAs K.refuses turns desk.old.core result desk.new.core }
+    ensures heard { DeskSettles K.made K.hears K.refuses turns desk.old result desk.new }
 {
     settle(alloc, desk, kinds, turns)
 }
@@ -80,7 +82,8 @@ impl<K: Kinds + Drop> Platform<K> {
     }
 
     /// Runs the turns that are due, one after the other, until none is due, and answers how many ran. The drains that are due
-    /// behind a turn are posted before the next one begins. Where the platform is calm and no creation or activation ends other than
+    /// behind a turn are posted before the next one begins. Each turn but a Create and a Destroy is heard of once, by the object that
+    /// is kept for its instance, and that object was made for the class and the properties of its Create. Where the platform is calm and no creation or activation ends other than
     /// Done, no component configuration closes, and at most as many turns run as the settle bound says.
     ///
     /// # Errors
@@ -88,7 +91,8 @@ impl<K: Kinds + Drop> Platform<K> {
     /// is due and the journal has no room for it. `OutOfMemory` comes also where a turn's outcome is NoMemory. The turns that ran
     /// stand.
     pub fn settle(&mut self, alloc: Global) -> Result<u64, SettleFault>
-        ensures { SettlesWithin K.refuses self.old result self.new }
+        ensures settles { SettlesWithin K.refuses self.old result self.new }
+        ensures heard { SettlesHeard K.made K.hears K.refuses self.old.limits.turns self.old result self.new }
     {
         let turns = self.desk.core().limits().turns;
         settle_desk(alloc, &mut self.desk, &self.kinds, turns)
@@ -110,25 +114,23 @@ impl<K: Kinds + Drop> Platform<K> {
         }
     }
 
-    /// Runs a turn that has begun, ends it, posts the drains that are due then, and answers the outcome.
+    /// Runs a turn that has begun, ends it, posts the drains that are due then, and answers the outcome. Unless it is a Create or a
+    /// Destroy, the object that is kept for its instance hears of it once.
     ///
     /// # Errors
     /// `NoTurn` exactly where no turn of this number is under way. Otherwise only want of memory, which may leave the turn ended and
     /// some of the drains posted.
     pub fn finish(&mut self, alloc: Global, turn: u64) -> Result<Outcome, FinishFault>
-        ensures { FinishesTurn K.refuses self.old turn result self.new }
+        ensures finishes { FinishesTurn K.refuses self.old turn result self.new }
+        ensures heard { IfOk result (λ outcome. FinishesHeard K.made K.hears self.old turn outcome self.new) }
     {
         let Some(work) = self.desk.work(alloc, turn)? else {
             return Err(FinishFault::NoTurn);
         };
-        let object = self.desk.object(alloc, work.instance)?;
-        let ran = run_shared(alloc, &self.kinds, object, &work);
-        let outcome = ran.outcome;
-        if self.desk.put_back(alloc, turn, ran).is_err() {
-            return Err(FinishFault::OutOfMemory);
+        match finish(alloc, &mut self.desk, &self.kinds, &work) {
+            Ok(outcome) => Ok(outcome),
+            Err(_) => Err(FinishFault::OutOfMemory),
         }
-        self.desk.post(alloc)?;
-        Ok(outcome)
     }
 
     /// The core, whose journal is legal.

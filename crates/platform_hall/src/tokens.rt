@@ -1,12 +1,13 @@
 //! What a desk keeps: the tokens of turns, and the objects of instances.
-ghost use Rattle.platform_hall.specs.Desks.{is_holder, object_of, tokens_of};
+ghost use Rattle.platform_hall.specs.Desks.{holders_of, is_holder, object_of, tokens_of};
 ghost use Rattle.std.specs.Arc.{arc_value};
 ghost use Rattle.std.specs.List.{find};
 ghost use Rattle.std.specs.Option.{option_copied};
-ghost use Rattle.std.specs.Prelude.{◌≡◌, ◌⊎◌, ◌==◌, ◌<◌, ◌+◌, ◌&&◌, ◌||◌, ℕ, Some, not, is_some, option_map, vec_len, vec_capacity, filter, length, slice_index};
+ghost use Rattle.std.specs.Prelude.{◌≡◌, ◌⊎◌, ◌==◌, ◌<◌, ◌≤◌, ◌+◌, ◌&&◌, ◌||◌, ℕ, Some, IfOk, MatchOption, not, is_some, option_map, vec_len, vec_capacity, filter, length, slice_index};
 ghost use Rattle.prop_map.specs.Words.{one_if};
 
 use crate::held::Held;
+use prop_map::OutOfMemory;
 use scr_core::Turn;
 use std::sync::Arc;
 
@@ -49,6 +50,20 @@ pub(crate) fn held_object<O>(held: &[Held<O>], instance: u64) -> Option<&Held<O>
     first_held(held, instance)
 }
 
+// The object of an instance, shared once more.
+pub(crate) fn shared_object<O>(
+    held: &[Held<O>],
+    instance: u64,
+) -> Result<Option<Arc<O>>, OutOfMemory>
+    ensures has { IfOk result (λ object. is_some object ≡ is_holder held.now instance) }
+    ensures own { IfOk result (λ object. MatchOption object (Unit {0}) (λ o. object_of held.now instance ≡ Some (arc_value o))) }
+{
+    match held_object(held, instance) {
+        Some(one) => Ok(Some(Arc::try_clone(&one.object)?)),
+        None => Ok(None),
+    }
+}
+
 // Lets the object of an instance go.
 pub(crate) fn let_go<O: Drop>(held: &mut Vec<Held<O>>, instance: u64)
     ensures { held.new.items ≡ filter (λ one. not (one.instance == instance)) held.old.items }
@@ -59,6 +74,7 @@ pub(crate) fn let_go<O: Drop>(held: &mut Vec<Held<O>>, instance: u64)
 fn keep_made<O: Drop>(held: &mut Vec<Held<O>>, instance: u64, made: Option<Arc<O>>)
     requires { vec_len held.old < vec_capacity held.old }
     ensures holders { (n : ℕ) → is_holder held.new.items n ≡ (is_holder held.old.items n || (is_some made && (instance == n))) }
+    ensures few { (n : ℕ) → holders_of held.new.items n ≤ holders_of held.old.items n + one_if (is_some made && (instance == n)) }
     ensures own { (n : ℕ) (object : O) → object_of held.new.items n ≡ Some object → (object_of held.old.items n ≡ Some object) ⊎ ((instance ≡ n) × (option_map (λ m. arc_value m) made ≡ Some object)) }
 {
     if let Some(object) = made {
@@ -75,6 +91,7 @@ pub(crate) fn keep<O: Drop>(
 )
     requires { vec_len held.old < vec_capacity held.old }
     ensures holders { (n : ℕ) → is_holder held.new.items n ≡ ((is_holder held.old.items n || (is_some made && (instance == n))) && not (is_destroyed && (instance == n))) }
+    ensures few { (n : ℕ) → holders_of held.new.items n ≤ holders_of held.old.items n + one_if (is_some made && (instance == n)) }
     ensures own { (n : ℕ) (object : O) → object_of held.new.items n ≡ Some object → (object_of held.old.items n ≡ Some object) ⊎ ((instance ≡ n) × (option_map (λ m. arc_value m) made ≡ Some object)) }
 {
     keep_made(held, instance, made);

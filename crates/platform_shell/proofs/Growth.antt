@@ -161,7 +161,7 @@ grew_turns refuses (suc count) before after (between, turns, (work, turn, drain)
 grew_settles : (refuses : List ℕ → List Property → Told → Bool) (count : ℕ) (before after : CoreView) → Settles has_drain Begins Ends Posts refuses count before after → Grew before after []
 grew_settles refuses count before after (start, posts, drain, turns) = grew_behind before start after [] (grew_posts before start posts) (grew_turns refuses count start after turns)
 
-grew_cut_off : (refuses : List ℕ → List Property → Told → Bool) (before after : CoreView) → IsCutOff Begins Ends Posts refuses before after → Grew before after []
+grew_cut_off : (refuses : List ℕ → List Property → Told → Bool) (before after : CoreView) → IsCutOff Begins Begins Ends Posts refuses before after → Grew before after []
 grew_cut_off refuses before after (inl (work, begins)) = grew_begins before after work begins
 grew_cut_off refuses before after (inr (work, outcome, is, ends)) = grew_turn before after work outcome ends
 

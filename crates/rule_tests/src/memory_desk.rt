@@ -1,5 +1,5 @@
 //! A desk in memory, for tests.
-ghost use Rattle.std.specs.Prelude.{◌≡◌, ◌⊎◌, ◌==◌, ◌<◌, ◌&&◌, ◌||◌, ℕ, [], Some, None, not, false, true, is_some, option_map, vec_len, vec_capacity, OnOk, OnErr, IfErr};
+ghost use Rattle.std.specs.Prelude.{◌≡◌, ◌⊎◌, ◌==◌, ◌<◌, ◌&&◌, ◌||◌, ℕ, [], Some, None, not, false, true, is_some, option_map, vec_len, vec_capacity, IfOk, MatchOption, OnOk, OnErr, IfErr};
 ghost use Rattle.rule_tests.specs.Desktops.{Begins, EndsAs, Posts, is_due, is_holder, fits, object_of, with_number};
 ghost use Rattle.std.specs.Arc.{arc_value};
 ghost use Rattle.std.specs.List.{find};
@@ -72,6 +72,17 @@ fn held_object<O>(held: &[Held<O>], instance: u64) -> Option<&Held<O>>
     first_held(held, instance)
 }
 
+// The object of an instance, shared once more.
+fn shared_object<O>(held: &[Held<O>], instance: u64) -> Result<Option<Arc<O>>, OutOfMemory>
+    ensures has { IfOk result (λ object. is_some object ≡ is_holder held.now instance) }
+    ensures own { IfOk result (λ object. MatchOption object (Unit {0}) (λ o. object_of held.now instance ≡ Some (arc_value o))) }
+{
+    match held_object(held, instance) {
+        Some(one) => Ok(Some(Arc::try_clone(&one.object)?)),
+        None => Ok(None),
+    }
+}
+
 // Keeps the object that a turn of the instance made.
 #[tactic(auto, using(crate::proofs::Holders::holder_more))]
 fn keep<O: Drop>(held: &mut Vec<Held<O>>, instance: u64, made: Option<Arc<O>>)
@@ -140,6 +151,8 @@ impl<O: Drop> Desk<O> for MemoryDesk<O> {
 
     ghost begins = { Begins };
 
+    ghost hands = { λ before _ after. after ≡ before };
+
     ghost ends = { EndsAs };
 
     ghost posts = { Posts };
@@ -165,11 +178,8 @@ impl<O: Drop> Desk<O> for MemoryDesk<O> {
         Ok(self.is_due())
     }
 
-    fn object(&self, _alloc: Global, instance: u64) -> Result<Option<Arc<O>>, OutOfMemory> {
-        match held_object(self.held.as_slice(), instance) {
-            Some(one) => Ok(Some(Arc::try_clone(&one.object)?)),
-            None => Ok(None),
-        }
+    fn hand_out(&mut self, _alloc: Global, work: &TurnWork) -> Result<Option<Arc<O>>, OutOfMemory> {
+        shared_object(self.held.as_slice(), work.instance)
     }
 
     fn put_back(

@@ -42,6 +42,8 @@ impl Kinds for Watching {
 
     ghost refuses = { λ _ _ _. false };
 
+    ghost made = { λ object site. object.class ≡ site.class };
+
     ghost hears = { λ _ _ _ _. Unit {0} };
 
     ghost next = { λ _ _ _ _. Answers [] };

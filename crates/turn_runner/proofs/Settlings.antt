@@ -15,6 +15,7 @@ pub record Known (S : Type 0) : Type 1 where
   pub has_room : S → Bool
   pub has_drain : S → Bool
   pub begins : S → TurnWork → S → Type 0
+  pub starts : S → TurnWork → S → Type 0
   pub ends : S → ℕ → Outcome → S → Type 0
   pub posts : S → S → Type 0
 
@@ -24,6 +25,7 @@ pub record Follows {S V : Type 0} (view : S → V) (known : Known S) (kept : Kno
   pub room : (s : S) → known.has_room s ≡ kept.has_room (view s)
   pub drain : (s : S) → known.has_drain s ≡ kept.has_drain (view s)
   pub begins : (before : S) (work : TurnWork) (after : S) → known.begins before work after → kept.begins (view before) work (view after)
+  pub starts : (before : S) (work : TurnWork) (after : S) → known.starts before work after → kept.starts (view before) work (view after)
   pub ends : (before : S) (number : ℕ) (outcome : Outcome) (after : S) → known.ends before number outcome after → kept.ends (view before) number outcome (view after)
   pub posts : (before after : S) → known.posts before after → kept.posts (view before) (view after)
 
@@ -43,12 +45,12 @@ module _ {S V : Type 0} (view : S → V) (k : Known S) (p : Known V) (f : Follow
   settles_seen count before after (start, posts, clear, turns) =
       (view start, f.posts before start posts, sym (f.drain start) ∙ clear, turns_seen count start after turns)
 
-  cut_seen : (before after : S) → IsCutOff k.begins k.ends k.posts refuses before after → IsCutOff p.begins p.ends p.posts refuses (view before) (view after)
-  cut_seen before after (inl (work, begins)) = inl (work, f.begins before work after begins)
+  cut_seen : (before after : S) → IsCutOff k.begins k.starts k.ends k.posts refuses before after → IsCutOff p.begins p.starts p.ends p.posts refuses (view before) (view after)
+  cut_seen before after (inl (work, starts)) = inl (work, f.starts before work after starts)
   cut_seen before after (inr (work, outcome, is, ends)) = inr (work, outcome, is, ends_seen work outcome before after ends)
 
   -- a settling of which less is kept
-  pub settled_seen : (budget : ℕ) (before : S) (answer : Result ℕ SettleFault) (after : S) → IsSettled k.has_due k.has_room k.has_drain k.begins k.ends k.posts refuses budget before answer after → IsSettled p.has_due p.has_room p.has_drain p.begins p.ends p.posts refuses budget (view before) answer (view after)
+  pub settled_seen : (budget : ℕ) (before : S) (answer : Result ℕ SettleFault) (after : S) → IsSettled k.has_due k.has_room k.has_drain k.begins k.starts k.ends k.posts refuses budget before answer after → IsSettled p.has_due p.has_room p.has_drain p.begins p.starts p.ends p.posts refuses budget (view before) answer (view after)
   settled_seen budget before (Ok count) after (low, settles, due, clear) =
       (low, settles_seen count before after settles, sym (f.due after) ∙ due, sym (f.drain after) ∙ clear)
   settled_seen budget before (Err Unsettled) after (settles, due, clear) =

@@ -10,7 +10,7 @@ use Rattle.turn_runner.specs.declared.desk_fault.DeskFault.{DeskFault}
 use Rattle.turn_runner.specs.declared.desk_fault.DeskFault.TheVariants.{JournalFull as NoRoom, OutOfMemory as NoMemoryLeft}
 use Rattle.turn_runner.specs.declared.settle_fault.SettleFault.{SettleFault}
 use Rattle.turn_runner.specs.declared.settle_fault.SettleFault.TheVariants.{Unsettled, JournalFull, OutOfMemory}
-use Rattle.turn_runner.specs.Outcomes.{is_refused, IsHeard, IsOutcome, outcome_where}
+use Rattle.turn_runner.specs.Outcomes.{is_refused, IsHeard, IsOutcome, IsOwnFrom, outcome_where}
 
 -- the first due turn was taken, exactly where one is due and there is room for it
 abbrev pub IsTaken : {S : Type 0} → (S → Bool) → (S → Bool) → (S → TurnWork → S → Type 0) → S → Result (Option TurnWork) DeskFault → S → Type 0
@@ -19,9 +19,19 @@ IsTaken has_due has_room begins before (Ok (Some work)) after = (has_due before 
 IsTaken has_due has_room begins before (Err NoRoom) after = (has_due before ≡ true) × (has_room before ≡ false) × (after ≡ before)
 IsTaken has_due has_room begins before (Err NoMemoryLeft) after = after ≡ before
 
--- the turn of a number ends with an outcome, and an object of its instance's own answered that where one has to be told
-abbrev pub HeardEnds : {S O : Type 0} → (S → ℕ → Option TurnWork) → (S → ℕ → O → Type 0) → (O → Site → Told → Result (Unit {0}) KindFault → Type 0) → (S → ℕ → Outcome → S → Type 0) → S → ℕ → Outcome → S → Type 0
-HeardEnds running owns hears ends before number outcome after = ends before number outcome after × IsHeard owns hears before (running before number) outcome
+-- the object of a turn's instance is handed out once, and the turn ends with an outcome: what an object of its instance's own answered, where one
+-- has to be told. An own object afterwards was so before, or the turn is a Create and made it for its class and properties
+abbrev pub HeardEnds : {S O : Type 0} → (S → ℕ → Option TurnWork) → (S → ℕ → O → Type 0) → (O → Site → Type 0) → (O → Site → Told → Result (Unit {0}) KindFault → Type 0) → (S → ℕ → S → Type 0) → (S → ℕ → Outcome → S → Type 0) → S → ℕ → Outcome → S → Type 0
+HeardEnds {S} running owns made hears hands ends before number outcome after =
+    ((handed : S) × hands before number handed × ends handed number outcome after) × IsHeard owns hears before (running before number) outcome × IsOwnFrom owns made before (running before number) after
+
+-- a turn that has begun goes on: all is as it was, or its object was handed out
+abbrev pub Stays : {S : Type 0} → (S → ℕ → S → Type 0) → S → ℕ → S → Type 0
+Stays hands before number after = (after ≡ before) ⊎ hands before number after
+
+-- a turn has begun and goes on: nobody was told of it yet, or its object was handed out
+abbrev pub Starts : {S : Type 0} → (S → TurnWork → S → Type 0) → (S → ℕ → S → Type 0) → S → TurnWork → S → Type 0
+Starts {S} begins hands before work after = (begun : S) × begins before work begun × Stays hands begun work.number after
 
 -- a turn begins, it ends with this outcome, and the drains that are due then are posted
 abbrev pub Ends : {S : Type 0} → (S → TurnWork → S → Type 0) → (S → ℕ → Outcome → S → Type 0) → (S → S → Type 0) → TurnWork → Outcome → S → S → Type 0
@@ -40,28 +50,34 @@ Turns {S} has_drain begins ends posts refuses (suc count) before after = (betwee
 abbrev pub Settles : {S : Type 0} → (S → Bool) → (S → TurnWork → S → Type 0) → (S → ℕ → Outcome → S → Type 0) → (S → S → Type 0) → (List ℕ → List Property → Told → Bool) → ℕ → S → S → Type 0
 Settles {S} has_drain begins ends posts refuses count before after = (start : S) × posts before start × (has_drain start ≡ false) × Turns has_drain begins ends posts refuses count start after
 
--- a turn is cut off by want of memory: it has begun alone, or it has ended, and some of the drains are posted
-abbrev pub IsCutOff : {S : Type 0} → (S → TurnWork → S → Type 0) → (S → ℕ → Outcome → S → Type 0) → (S → S → Type 0) → (List ℕ → List Property → Told → Bool) → S → S → Type 0
-IsCutOff begins ends posts refuses before after = ((work : TurnWork) × begins before work after) ⊎ ((work : TurnWork) × (outcome : Outcome) × IsOutcome (is_refused refuses work) outcome × Ends begins ends posts work outcome before after)
+-- a turn is cut off by want of memory: it has begun and goes on, or it has ended, and some of the drains are posted
+abbrev pub IsCutOff : {S : Type 0} → (S → TurnWork → S → Type 0) → (S → TurnWork → S → Type 0) → (S → ℕ → Outcome → S → Type 0) → (S → S → Type 0) → (List ℕ → List Property → Told → Bool) → S → S → Type 0
+IsCutOff begins starts ends posts refuses before after = ((work : TurnWork) × starts before work after) ⊎ ((work : TurnWork) × (outcome : Outcome) × IsOutcome (is_refused refuses work) outcome × Ends begins ends posts work outcome before after)
 
--- a turn that has begun ends, and the drains that are due then are posted; want of memory leaves it begun, or it has ended and some of the drains are posted
-abbrev pub IsEndRun : {S T E : Type 0} → (S → Bool) → (S → ℕ → Outcome → S → Type 0) → (S → S → Type 0) → Bool → ℕ → S → Result T E → S → Type 0
-IsEndRun {S} has_drain ends posts refused number begun (Ok _) after = (ended : S) × ends begun number (outcome_where refused) ended × posts ended after × (has_drain after ≡ false)
-IsEndRun {S} has_drain ends posts refused number begun (Err _) after = (after ≡ begun) ⊎ ((outcome : Outcome) × (ended : S) × IsOutcome refused outcome × ends begun number outcome ended × posts ended after)
+-- a turn that has begun ends with this outcome, and the drains that are due then are posted; want of memory leaves it going on, or it has ended and
+-- some of the drains are posted
+abbrev pub IsFinished : {S E : Type 0} → (S → Bool) → (S → ℕ → S → Type 0) → (S → ℕ → Outcome → S → Type 0) → (S → S → Type 0) → Bool → ℕ → S → Result Outcome E → S → Type 0
+IsFinished {S} has_drain stays ends posts refused number begun (Ok outcome) after = (ended : S) × IsOutcome refused outcome × ends begun number outcome ended × posts ended after × (has_drain after ≡ false)
+IsFinished {S} has_drain stays ends posts refused number begun (Err _) after = stays begun number after ⊎ ((outcome : Outcome) × (ended : S) × IsOutcome refused outcome × ends begun number outcome ended × posts ended after)
+
+-- a turn that has begun ends, other than with NoMemory, which is told as want of memory
+abbrev pub IsEndRun : {S T E : Type 0} → (S → Bool) → (S → ℕ → S → Type 0) → (S → ℕ → Outcome → S → Type 0) → (S → S → Type 0) → Bool → ℕ → S → Result T E → S → Type 0
+IsEndRun {S} has_drain stays ends posts refused number begun (Ok _) after = (ended : S) × ends begun number (outcome_where refused) ended × posts ended after × (has_drain after ≡ false)
+IsEndRun {S} has_drain stays ends posts refused number begun (Err _) after = stays begun number after ⊎ ((outcome : Outcome) × (ended : S) × IsOutcome refused outcome × ends begun number outcome ended × posts ended after)
 
 -- one due turn, if there is any
-abbrev pub IsDueRun : {S : Type 0} → (S → Bool) → (S → Bool) → (S → Bool) → (S → TurnWork → S → Type 0) → (S → ℕ → Outcome → S → Type 0) → (S → S → Type 0) → (List ℕ → List Property → Told → Bool) → S → Result Bool DeskFault → S → Type 0
-IsDueRun has_due has_room has_drain begins ends posts refuses before (Ok true) after = (has_due before ≡ true) × Turn has_drain begins ends posts refuses before after
-IsDueRun has_due has_room has_drain begins ends posts refuses before (Ok false) after = (has_due before ≡ false) × (after ≡ before)
-IsDueRun has_due has_room has_drain begins ends posts refuses before (Err NoRoom) after = (has_due before ≡ true) × (has_room before ≡ false) × (after ≡ before)
-IsDueRun has_due has_room has_drain begins ends posts refuses before (Err NoMemoryLeft) after = (before ≡ after) ⊎ IsCutOff begins ends posts refuses before after
+abbrev pub IsDueRun : {S : Type 0} → (S → Bool) → (S → Bool) → (S → Bool) → (S → TurnWork → S → Type 0) → (S → TurnWork → S → Type 0) → (S → ℕ → Outcome → S → Type 0) → (S → S → Type 0) → (List ℕ → List Property → Told → Bool) → S → Result Bool DeskFault → S → Type 0
+IsDueRun has_due has_room has_drain begins starts ends posts refuses before (Ok true) after = (has_due before ≡ true) × Turn has_drain begins ends posts refuses before after
+IsDueRun has_due has_room has_drain begins starts ends posts refuses before (Ok false) after = (has_due before ≡ false) × (after ≡ before)
+IsDueRun has_due has_room has_drain begins starts ends posts refuses before (Err NoRoom) after = (has_due before ≡ true) × (has_room before ≡ false) × (after ≡ before)
+IsDueRun has_due has_room has_drain begins starts ends posts refuses before (Err NoMemoryLeft) after = (before ≡ after) ⊎ IsCutOff begins starts ends posts refuses before after
 
 -- a settling: turns run until nothing is due, as many as the budget at most; want of memory cuts it off at its first drains, behind a turn, or in one
-abbrev pub IsSettled : {S : Type 0} → (S → Bool) → (S → Bool) → (S → Bool) → (S → TurnWork → S → Type 0) → (S → ℕ → Outcome → S → Type 0) → (S → S → Type 0) → (List ℕ → List Property → Told → Bool) → ℕ → S → Result ℕ SettleFault → S → Type 0
-IsSettled has_due has_room has_drain begins ends posts refuses budget before (Ok count) after = (count ≤ budget) × Settles has_drain begins ends posts refuses count before after × (has_due after ≡ false) × (has_drain after ≡ false)
-IsSettled has_due has_room has_drain begins ends posts refuses budget before (Err Unsettled) after = Settles has_drain begins ends posts refuses budget before after × (has_due after ≡ true) × (has_drain after ≡ false)
-IsSettled has_due has_room has_drain begins ends posts refuses budget before (Err JournalFull) after = (count : ℕ) × (count < budget) × Settles has_drain begins ends posts refuses count before after × (has_due after ≡ true) × (has_room after ≡ false) × (has_drain after ≡ false)
-IsSettled {S} has_due has_room has_drain begins ends posts refuses budget before (Err OutOfMemory) after =
+abbrev pub IsSettled : {S : Type 0} → (S → Bool) → (S → Bool) → (S → Bool) → (S → TurnWork → S → Type 0) → (S → TurnWork → S → Type 0) → (S → ℕ → Outcome → S → Type 0) → (S → S → Type 0) → (List ℕ → List Property → Told → Bool) → ℕ → S → Result ℕ SettleFault → S → Type 0
+IsSettled has_due has_room has_drain begins starts ends posts refuses budget before (Ok count) after = (count ≤ budget) × Settles has_drain begins ends posts refuses count before after × (has_due after ≡ false) × (has_drain after ≡ false)
+IsSettled has_due has_room has_drain begins starts ends posts refuses budget before (Err Unsettled) after = Settles has_drain begins ends posts refuses budget before after × (has_due after ≡ true) × (has_drain after ≡ false)
+IsSettled has_due has_room has_drain begins starts ends posts refuses budget before (Err JournalFull) after = (count : ℕ) × (count < budget) × Settles has_drain begins ends posts refuses count before after × (has_due after ≡ true) × (has_room after ≡ false) × (has_drain after ≡ false)
+IsSettled {S} has_due has_room has_drain begins starts ends posts refuses budget before (Err OutOfMemory) after =
     posts before after
     ⊎ (((count : ℕ) × (count ≤ budget) × Settles has_drain begins ends posts refuses count before after)
-    ⊎ ((count : ℕ) × (between : S) × (count < budget) × Settles has_drain begins ends posts refuses count before between × IsCutOff begins ends posts refuses between after))
+    ⊎ ((count : ℕ) × (between : S) × (count < budget) × Settles has_drain begins ends posts refuses count before between × IsCutOff begins starts ends posts refuses between after))

@@ -14,9 +14,9 @@ use std::sync::Arc;
 /// Where turns come from and go back to, and where the objects of the instances are kept.
 ///
 /// Its meaning says at each moment whether a turn is due, whether the journal has room for it, whether a drain is due, which turn
-/// of a number has begun and not ended, which instances have an object, and which objects are an instance's own. Three relations
-/// between the desk before and after say what it means that a turn begins, that it ends with an outcome, and that drains are
-/// posted.
+/// of a number has begun and not ended, which instances have an object, and which objects are an instance's own. Four relations
+/// between the desk before and after say what it means that a turn begins, that the object of its instance is handed out to be
+/// told of it, that it ends with an outcome, and that drains are posted.
 pub trait Desk<O> {
     /// Whether a turn is due.
     ghost has_due: { Self → Bool };
@@ -38,6 +38,9 @@ pub trait Desk<O> {
 
     /// The first due turn begins.
     ghost begins: { Self → TurnWork → Self → Type 0 };
+
+    /// The object of the instance of a turn is handed out, to be told of the turn.
+    ghost hands: { Self → ℕ → Self → Type 0 };
 
     /// The turn of a number ends with an outcome.
     ghost ends: { Self → ℕ → Outcome → Self → Type 0 };
@@ -64,14 +67,19 @@ pub trait Desk<O> {
     fn due(&self, alloc: Global) -> Result<bool, OutOfMemory>
         ensures { IfOk result (λ due. due ≡ has_due self.now) };
 
-    /// The own object of an instance: `None` exactly where none was put back for it. Once the instance's Destroy has ended, the
-    /// desk may have let the object go.
+    /// Hands out the own object of a turn's instance, to be told of the turn, which must have begun and not ended: `None` exactly
+    /// where none was put back for it.
     ///
     /// # Errors
-    /// Only want of memory.
-    fn object(&self, alloc: Global, instance: u64) -> Result<Option<Arc<O>>, OutOfMemory>
-        ensures has { IfOk result (λ object. is_some object ≡ has_object self.now instance) }
-        ensures own { IfOk result (λ object. MatchOption object (Unit {0}) (λ o. owns self.now instance (arc_value o))) };
+    /// Only want of memory. Nothing is handed out then.
+    fn hand_out(&mut self, alloc: Global, work: &TurnWork) -> Result<Option<Arc<O>>, OutOfMemory>
+        requires { running self.old work.now.number ≡ Some work.now }
+        ensures step { OnOk result (hands self.old work.now.number self.new) }
+        ensures running { OnOk result (running self.new work.now.number ≡ Some work.now) }
+        ensures has { IfOk result (λ object. is_some object ≡ has_object self.old work.now.instance) }
+        ensures own { IfOk result (λ object. MatchOption object (Unit {0}) (λ o. owns self.old work.now.instance (arc_value o))) }
+        ensures objects { (instance : ℕ) (object : O) → owns self.new instance object → owns self.old instance object }
+        ensures err { OnErr result (self.new ≡ self.old) };
 
     /// Ends the turn of that number, which must have begun and not ended, with what it came to: an object must be there exactly
     /// where the turn made one.

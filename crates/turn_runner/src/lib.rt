@@ -10,6 +10,6 @@ mod turn;
 pub use desk::Desk;
 pub use desk_fault::DeskFault;
 pub use settle_fault::SettleFault;
-pub use settling::settle;
+pub use settling::{finish, settle};
 pub use turn::{Ran, run_shared, run_turn};
 pub use turn_work::TurnWork;

@@ -4,7 +4,7 @@ ghost use Rattle.callback_orders.specs.declared.callback.Outcome.TheVariants.{Do
 ghost use Rattle.kind_trait.specs.Meanings.{RefusedWhere, Create};
 ghost use Rattle.std.specs.Arc.{arc_value};
 ghost use Rattle.std.specs.Prelude.{◌≡◌, IsTrue, is_some, IsOk, MatchOption, true, false};
-ghost use Rattle.turn_runner.specs.Outcomes.{IsAnswerOf, is_done, needs_object, asks_nobody, is_refused, told_by, IsOutcome, makes_object};
+ghost use Rattle.turn_runner.specs.Outcomes.{IsAnswerOf, IsMadeFrom, is_done, needs_object, asks_nobody, is_refused, told_by, IsOutcome, makes_object};
 
 use crate::TurnWork;
 use callback_orders::{Callback, Outcome};
@@ -65,18 +65,10 @@ fn outcome_told<K: Kinds>(alloc: Global, kinds: &K, object: &K::Object, work: &T
     }
 }
 
-fn not_made<O>(outcome: Outcome) -> Ran<O>
-    ensures { (result.outcome ≡ outcome) × (is_some result.made ≡ false) }
-{
-    Ran {
-        outcome,
-        made: None,
-    }
-}
-
 fn create<K: Kinds>(alloc: Global, kinds: &K, site: &Site) -> Ran<K::Object>
     ensures refused { IsOutcome (K.refuses site.now.class site.now.properties Create) result.outcome }
     ensures made { is_some result.made ≡ is_done result.outcome }
+    ensures site { IsMadeFrom K.made arc_value site.now result.made }
 {
     match kinds.create(alloc, site) {
         Ok(object) => match Arc::new(alloc, object) {
@@ -84,10 +76,19 @@ fn create<K: Kinds>(alloc: Global, kinds: &K, site: &Site) -> Ran<K::Object>
                 outcome: Outcome::Done,
                 made: Some(object),
             },
-            Err(_) => not_made(Outcome::NoMemory),
+            Err(_) => Ran {
+                outcome: Outcome::NoMemory,
+                made: None,
+            },
         },
-        Err(KindFault::Refused) => not_made(Outcome::Refused),
-        Err(KindFault::OutOfMemory) => not_made(Outcome::NoMemory),
+        Err(KindFault::Refused) => Ran {
+            outcome: Outcome::Refused,
+            made: None,
+        },
+        Err(KindFault::OutOfMemory) => Ran {
+            outcome: Outcome::NoMemory,
+            made: None,
+        },
     }
 }
 
@@ -103,8 +104,13 @@ fn run_told<K: Kinds>(
     ensures heard { IsAnswerOf K.hears object.now work.now result.outcome }
     ensures nobody { IsTrue (asks_nobody work.now) → result.outcome ≡ Done }
     ensures made { is_some result.made ≡ makes_object work.now result.outcome }
+    ensures site { IsMadeFrom K.made arc_value work.now.site result.made }
 {
-    not_made(outcome_told(alloc, kinds, object, work))
+    let outcome = outcome_told(alloc, kinds, object, work);
+    Ran {
+        outcome,
+        made: None,
+    }
 }
 
 // Runs a turn of instance 0, or a Create.
@@ -113,9 +119,13 @@ fn run_alone<K: Kinds>(alloc: Global, kinds: &K, work: &TurnWork) -> Ran<K::Obje
     ensures refused { IsOutcome (is_refused K.refuses work.now) result.outcome }
     ensures nobody { IsTrue (asks_nobody work.now) → result.outcome ≡ Done }
     ensures made { is_some result.made ≡ makes_object work.now result.outcome }
+    ensures site { IsMadeFrom K.made arc_value work.now.site result.made }
 {
     if work.instance == 0 {
-        return not_made(Outcome::Done);
+        return Ran {
+            outcome: Outcome::Done,
+            made: None,
+        };
     }
     create(alloc, kinds, &work.site)
 }
@@ -126,7 +136,8 @@ fn run_alone<K: Kinds>(alloc: Global, kinds: &K, work: &TurnWork) -> Ran<K::Obje
 ///
 /// The outcome is Refused exactly where the component code's meaning refuses the callback, which is never at a Destroy, and
 /// NoMemory only where the component code, or at a Create what shares its object, found no memory. An object is made exactly at
-/// a Create that is Done. Where an object is given, the outcome is what that object answered when it was told of the callback.
+/// a Create that is Done, and it was made for the class and the properties of the turn. Where an object is given, the outcome is
+/// what that object answered when it was told of the callback.
 pub fn run_turn<K: Kinds>(
     alloc: Global,
     kinds: &K,
@@ -138,6 +149,7 @@ pub fn run_turn<K: Kinds>(
     ensures heard { MatchOption object.entry (Unit {0}) (λ o. IsAnswerOf K.hears o.now work.now result.outcome) }
     ensures nobody { IsTrue (asks_nobody work.now) → result.outcome ≡ Done }
     ensures made { is_some result.made ≡ makes_object work.now result.outcome }
+    ensures site { IsMadeFrom K.made arc_value work.now.site result.made }
 {
     match object {
         Some(object) => run_told(alloc, kinds, object, work),
@@ -157,6 +169,7 @@ pub fn run_shared<K: Kinds>(
     ensures heard { MatchOption object (Unit {0}) (λ o. IsAnswerOf K.hears (arc_value o) work.now result.outcome) }
     ensures nobody { IsTrue (asks_nobody work.now) → result.outcome ≡ Done }
     ensures made { is_some result.made ≡ makes_object work.now result.outcome }
+    ensures site { IsMadeFrom K.made arc_value work.now.site result.made }
 {
     match object {
         Some(object) => run_told(alloc, kinds, &object, work),

@@ -6,4 +6,4 @@ use Rattle.platform_shell.proofs.asked.finish.Goals as goal
 pub returns-in-Ok-NoMemory : goal.returns-in-Ok-NoMemory
 returns-in-Ok-NoMemory g c =
     let P : Outcome → Type 0 = λ outcome. FinishesTurn g.K.Kinds.refuses c.args.platform.now c.args.turn (Ok outcome) c.finish.new.self in
-    (c.if-not-manual.false, inr (subst P c.in-Ok-NoMemory.field-0-is c.in-Ok-NoMemory.ensures))
+    (c.if-not-manual.false, inr (subst P c.in-Ok-NoMemory.field-0-is c.in-Ok-NoMemory.ensures.finishes))

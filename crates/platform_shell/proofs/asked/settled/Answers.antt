@@ -3,4 +3,4 @@ use Rattle.std.specs.Prelude.{[]}
 use Rattle.platform_shell.proofs.asked.settled.Goals as goal
 
 pub returns-in-Err : goal.returns-in-Err
-returns-in-Err g c = ([], (c.in-Err.ensures, refl))
+returns-in-Err g c = ([], (c.in-Err.ensures.settles, refl))

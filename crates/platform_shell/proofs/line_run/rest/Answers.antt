@@ -24,9 +24,9 @@ returns-in-Ok g c =
     let before = c.args.platform.now in
     let after = c.settle.new.self in
     let P : Bool → Type 0 = λ manual. RestsBy manual s before after in (
-      subst P (sym c.if-manual.false) (c.in-Ok.field-0, c.in-Ok.ensures),
+      subst P (sym c.if-manual.false) (c.in-Ok.field-0, c.in-Ok.ensures.settles),
       λ auto none. (
-        c.note_rest.ensures.quiet g.K.Kinds.refuses before.limits.turns c.in-Ok.field-0 before after c.core.ensures.legal none c.in-Ok.ensures.0,
-        c.note_rest.ensures.right g.K.Kinds.refuses before.limits.turns c.in-Ok.field-0 before after c.core.ensures.legal none c.in-Ok.ensures.0,
+        c.note_rest.ensures.quiet g.K.Kinds.refuses before.limits.turns c.in-Ok.field-0 before after c.core.ensures.legal none c.in-Ok.ensures.settles.0,
+        c.note_rest.ensures.right g.K.Kinds.refuses before.limits.turns c.in-Ok.field-0 before after c.core.ensures.legal none c.in-Ok.ensures.settles.0,
       ),
     )

@@ -1,6 +1,7 @@
-use Rattle.std.proofs.Common.{ap, ◌∙◌}
+use Rattle.std.proofs.Common.{◌≡◌, ap, ◌∙◌, refl, subst}
 use Rattle.scr_core.specs.Cores.{CoreView}
-use Rattle.platform_hall.specs.Platforms.{has_object}
+use Rattle.platform_hall.specs.Desks.{DeskView}
+use Rattle.platform_hall.specs.Platforms.{Posts, has_object}
 use Rattle.platform_hall.proofs.Desks.{desk_alike}
 use Rattle.platform_hall.proofs.Settlings.{posts_alike}
 use Rattle.platform_hall.proofs.Seen.{core_same}
@@ -13,3 +14,6 @@ invariant_of-self g c =
 
 pub returns-clause-objects : goal.returns-clause-objects
 returns-clause-objects g c = λ n. (posts_alike c.self.inside.core c.post_drains.new.core c.post_drains.ensures.step).objects n ∙ ap (λ (p : CoreView). has_object p n) (core_same c.self.view_is)
+
+pub returns-clause-step : goal.returns-clause-step
+returns-clause-step g c = subst (λ (d : DeskView g.row.O.Denot). Posts d.core c.post_drains.new.core × (c.self.inside.told.items ≡ d.told)) c.self.view_is (c.post_drains.ensures.step, refl)

@@ -1,4 +1,4 @@
-use Rattle.std.proofs.Common.{◌≡◌, ◌++◌, ◌∷◌, [], ◌&&◌, ◌||◌, false, ap, sym, ◌∙◌, subst, inl, inr}
+use Rattle.std.proofs.Common.{◌≡◌, ◌≤◌, ◌+◌, ◌++◌, ◌∷◌, [], ◌&&◌, ◌||◌, false, ap, sym, ◌∙◌, refl, subst, inl, inr}
 use Rattle.std.specs.Arc.{arc_value}
 use Rattle.std.specs.Prelude.{◌==◌, is_some, not}
 use Rattle.platform_hall.specs.Desks.{is_holder}
@@ -7,8 +7,9 @@ use Rattle.scr_world.specs.declared.step.Step.TheVariants.{End}
 use Rattle.scr_world.specs.Calls.{Grown}
 use Rattle.scr_core.specs.Cores.{CoreView}
 use Rattle.scr_world.specs.Legal.{is_under_way}
-use Rattle.platform_hall.specs.Desks.{DeskView, IsDesk, object_of}
-use Rattle.platform_hall.specs.Platforms.{has_object, running, world}
+use Rattle.platform_hall.specs.Desks.{DeskView, IsDesk, holders_of, object_of}
+use Rattle.prop_map.specs.Words.{one_if}
+use Rattle.platform_hall.specs.Platforms.{Ends, has_object, running, world}
 use Rattle.platform_hall.proofs.Desks.{desk_back, ended_desk, ended_has, ended_runs_no_more, has_token, running_under_way, same_view}
 use Rattle.platform_hall.proofs.Owners.{made_own}
 use Rattle.platform_hall.proofs.Seen.{core_same}
@@ -37,7 +38,15 @@ invariant_of-self-in-Ok g c =
     c.self.inside.turns.items c.take_out-turn.new.turns.items c.self.inside.held.items c.keep.new.held.items (is_some c.args.ran.made) c.is_destroy-is_destroyed.result
     c.take_out-turn.ensures.others
     (λ n. c.keep.ensures.holders n ∙ ap (λ xs. (is_holder xs n || (is_some c.args.ran.made && (work.instance == n))) && not (c.is_destroy-is_destroyed.result && (work.instance == n))) c.reserve.ensures.items)
+    (λ n. subst (λ xs. holders_of c.keep.new.held.items n ≤ holders_of xs n + one_if (is_some c.args.ran.made && (work.instance == n))) c.reserve.ensures.items (c.keep.ensures.few n))
     makes c.is_destroy-is_destroyed.ensures c.self.invariant
+
+pub returns-in-Ok-clause-ok : goal.returns-in-Ok-clause-ok
+returns-in-Ok-clause-ok g c =
+    let before = c.self.inside.core in
+    let after = c.done.new.self in
+    let grown = subst (λ t. Grown before.limits.journal before.journal (End t c.args.ran.outcome) after.journal) c.take_out-turn.ensures.turn c.in-Ok.ensures.ok.0 in
+    subst (λ (d : DeskView g.row.O.Denot). Ends d.core c.args.number c.args.ran.outcome after × (c.self.inside.told.items ≡ d.told)) c.self.view_is ((c.in-Ok.ensures.limits, grown), refl)
 
 pub returns-in-Ok-clause-ended : goal.returns-in-Ok-clause-ended
 returns-in-Ok-clause-ended g c =

@@ -1,6 +1,6 @@
-use Rattle.std.proofs.Common.{◌≡◌, ◌++◌, ◌∷◌, [], ap, sym, ◌∙◌, subst, true, false}
+use Rattle.std.proofs.Common.{◌≡◌, ◌++◌, ◌∷◌, [], ap, sym, ◌∙◌, refl, subst, true, false}
 use Rattle.scr_core.specs.Cores.{CoreView}
-use Rattle.platform_hall.specs.Desks.{IsDesk}
+use Rattle.platform_hall.specs.Desks.{DeskView, IsDesk}
 use Rattle.platform_hall.specs.Platforms.{Begins, has_due, has_object, has_room}
 use Rattle.platform_hall.proofs.Desks.{desk_begun, running_fits}
 use Rattle.platform_hall.proofs.Settlings.{begins_as, begins_legal}
@@ -37,19 +37,20 @@ returns-in-Ok-Turn-clause-objects g c = λ n.
 pub returns-in-Ok-Turn-clause-step : goal.returns-in-Ok-Turn-clause-step
 returns-in-Ok-Turn-clause-step g c =
     let took = rw c.in-Ok-Turn.field-0-is at c.in-Ok-Turn.ensures.answer in
-    subst (λ (p : CoreView). (has_due p ≡ true) × (has_room p ≡ true) × Begins p c.in-Ok-Turn.work c.take_turn.new.self) (core_same c.self.view_is)
-    (taken_step c.self.inside.core c.take_turn.new.self c.in-Ok-Turn.work (c.in-Ok-Turn.ensures.limits, took.1, took.2))
+    let step = taken_step c.self.inside.core c.take_turn.new.self c.in-Ok-Turn.work (c.in-Ok-Turn.ensures.limits, took.1, took.2) in
+    subst (λ (d : DeskView g.row.O.Denot). (has_due d.core ≡ true) × (has_room d.core ≡ true) × (Begins d.core c.in-Ok-Turn.work c.take_turn.new.self × (c.self.inside.told.items ≡ d.told))) c.self.view_is
+    (step.0, step.1, (step.2, refl))
 
 pub returns-in-Ok-Idle-clause-step : goal.returns-in-Ok-Idle-clause-step
 returns-in-Ok-Idle-clause-step g c =
     let idle = rw c.in-Ok-Idle.field-0-is at c.in-Ok-Idle.ensures.answer in
     let step = idle_step c.self.inside.core c.take_turn.new.self c.in-Ok-Idle.ensures.limits idle in
-    subst (λ d. (has_due d.core ≡ false) × (desk_of c.take_turn.new.self c.self.inside.held.items ≡ d)) c.self.view_is
-    (step.0, ap (λ p. desk_of p c.self.inside.held.items) step.1)
+    subst (λ d. (has_due d.core ≡ false) × (desk_of c.take_turn.new.self c.self.inside.held.items c.self.inside.told.items ≡ d)) c.self.view_is
+    (step.0, ap (λ p. desk_of p c.self.inside.held.items c.self.inside.told.items) step.1)
 
 pub returns-in-Err-JournalFull-clause-step : goal.returns-in-Err-JournalFull-clause-step
 returns-in-Err-JournalFull-clause-step g c =
     let full = rw c.in-Err-JournalFull.field-0-is at c.in-Err-JournalFull.ensures.answer in
     let step = full_step c.self.inside.core c.take_turn.new.self c.in-Err-JournalFull.ensures.limits full in
-    subst (λ d. (has_due d.core ≡ true) × (has_room d.core ≡ false) × (desk_of c.take_turn.new.self c.self.inside.held.items ≡ d)) c.self.view_is
-    (step.0, step.1, ap (λ p. desk_of p c.self.inside.held.items) step.2)
+    subst (λ d. (has_due d.core ≡ true) × (has_room d.core ≡ false) × (desk_of c.take_turn.new.self c.self.inside.held.items c.self.inside.told.items ≡ d)) c.self.view_is
+    (step.0, step.1, ap (λ p. desk_of p c.self.inside.held.items c.self.inside.told.items) step.2)

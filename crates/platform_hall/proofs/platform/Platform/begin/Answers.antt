@@ -11,7 +11,7 @@ returns g c = elim c.match-take.branch [
   | in-Ok-Some w ↦ rw w.result-is (
       let step = rw w.in-Ok-Some.field-0-is at w.in-Ok-Some.ensures.step in
       let runs = rw w.in-Ok-Some.field-0-is at w.in-Ok-Some.ensures.running in
-      (w.in-Ok-Some.work, refl, subst (λ (p : CoreView). Begins p w.in-Ok-Some.work c.take.new.self.core) c.self.view_is step.2, runs))
+      (w.in-Ok-Some.work, refl, subst (λ (p : CoreView). Begins p w.in-Ok-Some.work c.take.new.self.core) c.self.view_is step.2.0, runs))
   | in-Ok-None w ↦ rw w.result-is (
       let idle = rw w.in-Ok-None.field-0-is at w.in-Ok-None.ensures.step in
       subst (λ (p : CoreView). BeginsTurn p (Ok None) c.take.new.self.core) c.self.view_is (idle.0, core_same idle.1))

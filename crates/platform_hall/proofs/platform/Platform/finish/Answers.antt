@@ -1,21 +1,43 @@
-use Rattle.std.proofs.Common.{sym, ◌∙◌, subst, inr}
-use Rattle.std.proofs.lemmas.Result.{err_from_is_err_and}
+use Rattle.std.proofs.Common.{◌≡◌, ℕ, sym, ◌∙◌, subst, Ok, Err, Some}
 use Rattle.scr_core.specs.Cores.{CoreView}
-use Rattle.platform_hall.specs.Platforms.{Finishes}
-use Rattle.platform_hall.proofs.Results.{when_ok}
+use Rattle.platform_hall.specs.declared.finish_fault.FinishFault.TheVariants.{OutOfMemory}
+use Rattle.platform_hall.specs.Desks.{FinishesHeard}
+use Rattle.platform_hall.specs.Platforms.{FinishesTurn, running}
+use Rattle.platform_hall.proofs.Finishing.{finished_err, finished_heard, finished_ok}
 use Rattle.platform_hall.proofs.platform.Platform.finish.Goals as goal
 
-pub returns-in_err-post : goal.returns-in_err-post
-returns-in_err-post g c =
-    let p = err_from_is_err_and c.from_residual-in_err-post.result c.from_residual-in_err-post.ensures.1 in
-    let ends = when_ok c.put_back.result (sym c.is_err.ensures.value ∙ c.if-is_err.false) c.put_back.ensures.ok in
-    let finishes = subst (λ (p : CoreView). Finishes g.K.Kinds.refuses p c.args.turn c.run_shared-ran.result.outcome c.post.new.self.core) c.self.view_is
-    (c.in-Some.work, c.put_back.new.self.core, sym c.in_ok-work.ensures.work ∙ c.in-Some.is, c.run_shared-ran.ensures.refused, ends, c.post.ensures.step) in
-    rw (p.1, p.2) (inr (c.run_shared-ran.result.outcome, finishes))
+pub returns-in-Ok-clause-finishes : goal.returns-in-Ok-clause-finishes
+returns-in-Ok-clause-finishes g c =
+    let desk = c.self.inside.desk in
+    let left = c.finish.new.desk in
+    let work = c.in-Some.work in
+    let runs = sym c.in_ok-work.ensures.work ∙ c.in-Some.is in
+    let number = c.work.ensures.number work runs in
+    let its = subst (λ n. running desk.core n ≡ Some work) (sym number) runs in
+    let P : CoreView → Type 0 = λ p. FinishesTurn g.K.Kinds.refuses p c.args.turn (Ok c.in-Ok.outcome) left.core in
+    let Q : ℕ → Type 0 = λ n. FinishesTurn g.K.Kinds.refuses desk.core n (Ok c.in-Ok.outcome) left.core in
+    subst P c.self.view_is (subst Q number (finished_ok g.K.Kinds.made g.K.Kinds.hears g.K.Kinds.refuses desk left work its c.in-Ok.outcome c.in-Ok.ensures))
 
-pub returns : goal.returns
-returns g c =
-    let ends = when_ok c.put_back.result (sym c.is_err.ensures.value ∙ c.if-is_err.false) c.put_back.ensures.ok in
-    let finishes = subst (λ (p : CoreView). Finishes g.K.Kinds.refuses p c.args.turn c.run_shared-ran.result.outcome c.post.new.self.core) c.self.view_is
-    (c.in-Some.work, c.put_back.new.self.core, sym c.in_ok-work.ensures.work ∙ c.in-Some.is, c.run_shared-ran.ensures.refused, ends, c.post.ensures.step) in
-    (finishes, c.in_ok-post.ensures.ok)
+pub returns-in-Ok-clause-heard : goal.returns-in-Ok-clause-heard
+returns-in-Ok-clause-heard g c =
+    let desk = c.self.inside.desk in
+    let left = c.finish.new.desk in
+    let work = c.in-Some.work in
+    let runs = sym c.in_ok-work.ensures.work ∙ c.in-Some.is in
+    let number = c.work.ensures.number work runs in
+    let its = subst (λ n. running desk.core n ≡ Some work) (sym number) runs in
+    let P : CoreView → Type 0 = λ p. FinishesHeard g.K.Kinds.made g.K.Kinds.hears p c.args.turn c.in-Ok.outcome left.core in
+    let Q : ℕ → Type 0 = λ n. FinishesHeard g.K.Kinds.made g.K.Kinds.hears desk.core n c.in-Ok.outcome left.core in
+    subst P c.self.view_is (subst Q number (finished_heard g.K.Kinds.made g.K.Kinds.hears g.K.Kinds.refuses desk left work its c.in-Ok.outcome c.in-Ok.ensures))
+
+pub returns-clause-finishes : goal.returns-clause-finishes
+returns-clause-finishes g c =
+    let desk = c.self.inside.desk in
+    let left = c.finish.new.desk in
+    let work = c.in-Some.work in
+    let runs = sym c.in_ok-work.ensures.work ∙ c.in-Some.is in
+    let number = c.work.ensures.number work runs in
+    let its = subst (λ n. running desk.core n ≡ Some work) (sym number) runs in
+    let P : CoreView → Type 0 = λ p. FinishesTurn g.K.Kinds.refuses p c.args.turn (Err OutOfMemory) left.core in
+    let Q : ℕ → Type 0 = λ n. FinishesTurn g.K.Kinds.refuses desk.core n (Err OutOfMemory) left.core in
+    subst P c.self.view_is (subst Q number (finished_err g.K.Kinds.made g.K.Kinds.hears g.K.Kinds.refuses desk left work its c.in-Err.field-0 c.in-Err.ensures))

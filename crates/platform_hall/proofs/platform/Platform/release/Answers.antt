@@ -1,0 +1,15 @@
+use Rattle.std.proofs.Common.{inr, subst}
+use Rattle.scr_core.specs.Cores.{CoreView}
+use Rattle.platform_hall.specs.Calls.{Releases}
+use Rattle.platform_hall.proofs.Results.{err_anyway, ok_with}
+use Rattle.platform_hall.proofs.platform.Platform.release.Goals as goal
+
+pub returns-clause-ok : goal.returns-clause-ok
+returns-clause-ok g c =
+    let releases = subst (λ (p : CoreView). Releases p c.args.note c.post.new.self.core) c.self.view_is (c.end_use.new.self.core, c.in_ok-end_use.ensures.ok, c.post.ensures.step.0) in
+    ok_with c.post.result (λ clear. (releases, clear)) c.post.ensures.ok
+
+pub returns-clause-err : goal.returns-clause-err
+returns-clause-err g c =
+    let releases = subst (λ (p : CoreView). Releases p c.args.note c.post.new.self.core) c.self.view_is (c.end_use.new.self.core, c.in_ok-end_use.ensures.ok, c.post.ensures.step.0) in
+    err_anyway c.post.result (inr releases)

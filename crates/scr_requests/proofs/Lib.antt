@@ -1,0 +1,4 @@
+pub mod Chosen
+pub mod Standing
+pub mod Rows
+pub mod Reaches
