@@ -1,6 +1,6 @@
 -- The references of each description that a line brings differ in name.
 use Rattle.std.proofs.Common.{◌≡◌, ℕ, List, ap, refl, Bool, true, false, Ok, Err}
-use Rattle.std.specs.Prelude.{Option, Result, codes, if◌then◌else◌, ⊤}
+use Rattle.std.specs.Prelude.{Option, Some, None, Result, codes, if◌then◌else◌, ⊤}
 use Rattle.std.specs.Str.{bytes_eq, is_utf8}
 use Rattle.bundle_doc.specs.declared.document.BundleDoc.{BundleDoc}
 use Rattle.bundle_doc.specs.declared.fault.DocFault.{DocFault}
@@ -16,7 +16,7 @@ use Rattle.shell_lang.specs.declared.words.Misfit.{Misfit}
 use Rattle.shell_lang.specs.Arguments.{document_argument, filter_argument, given_document, properties_argument}
 use Rattle.shell_lang.specs.Interfaces.{interfaces_at}
 use Rattle.shell_lang.specs.LineFaults.{fitting}
-use Rattle.shell_lang.specs.ShellLines.{Asked, alone, bundle_line, carrying_line, configuring, configuring_factory, configuring_line, finding, installing, is_silent, listening, named, named_line, numbered, other_fault, paired, paired_line, reading_line, registering, setting, shell_line, text_line, unconfiguring, updating, worded_line}
+use Rattle.shell_lang.specs.ShellLines.{Asked, alone, bundle_line, carrying_line, configuring, configuring_factory, configuring_line, finding, installing, is_silent, listening, named, named_line, numbered, other_fault, paired, paired_line, reading_line, registering, setting, shell_line, text_line, unconfiguring, updating, wiring, worded_line}
 use Rattle.shell_lang.specs.Words.{behind_word, first_word, nothing_at, number_and_text, number_and_word, number_at, only_number, only_word, text_at, two_numbers, two_numbers_and_text, two_words_and_text, word_and_text, word_at}
 use Rattle.platform_shell.proofs.ReadNames.{AreNamed, bundle_named}
 
@@ -65,6 +65,10 @@ alone_named line rest its = when_fitting (nothing_at 1 rest) _ (λ words. its)
 
 numbered_named : (line : ℕ → ShellLine) (rest : Option (List ℕ)) → ((n : ℕ) → AskedNamed (Ok (line n))) → AskedNamed (numbered line rest)
 numbered_named line rest its = when_fitting (only_number rest) _ (λ n. its n)
+
+wiring_named : (rest : Option (List ℕ)) → AskedNamed (wiring rest)
+wiring_named None = tt
+wiring_named (Some text) = numbered_named _ (Some text) (λ n. tt)
 
 paired_named : (line : ℕ → ℕ → ShellLine) (rest : Option (List ℕ)) → ((n m : ℕ) → AskedNamed (Ok (line n m))) → AskedNamed (paired line rest)
 paired_named line rest its = when_fitting (two_numbers rest) _ (λ words. its words.0 words.1)
@@ -130,7 +134,8 @@ module _ (word : List ℕ) (rest : Option (List ℕ)) where
       (either_line (bytes_eq word (codes "held")) _ _ (numbered_named _ rest (λ n. tt))
       (either_line (bytes_eq word (codes "trace")) _ _ (numbered_named _ rest (λ n. tt))
       (either_line (bytes_eq word (codes "bundle-events")) _ _ (numbered_named _ rest (λ n. tt))
-      (either_line (bytes_eq word (codes "finish")) _ (paired_line word rest) (numbered_named _ rest (λ n. tt)) paired_line_named))))
+      (either_line (bytes_eq word (codes "finish")) _ _ (numbered_named _ rest (λ n. tt))
+      (either_line (bytes_eq word (codes "wiring")) (wiring rest) (paired_line word rest) (wiring_named rest) paired_line_named)))))
 
   bundle_line_named : AskedNamed (bundle_line word rest)
   bundle_line_named =

@@ -27,11 +27,12 @@ use Rattle.platform_hall.specs.declared.finish_fault.FinishFault.{FinishFault}
 use Rattle.platform_hall.specs.declared.finish_fault.FinishFault.TheVariants.{NoTurn as NoSuchTurn, OutOfMemory as NoMemoryLeft}
 use Rattle.platform_hall.specs.Platforms.{BeginsTurn, FinishesTurn, TakesCommand, running, world}
 use Rattle.platform_hall.specs.SettleBounds.{SettlesWithin}
-use Rattle.shell_lang.specs.declared.shell_line.ShellLine.TheVariants.{Silent, Quit, Command as Commanded, Bundles as AskBundles, Services as AskServices, Components as AskComponents, Report as AskReport, Held as AskHeld, Find as AskFind, Events as AskEvents, BundleEvents as AskBundleEvents, Trace as AskTrace, Settle, Begin, Finish}
+use Rattle.shell_lang.specs.declared.shell_line.ShellLine.TheVariants.{Silent, Quit, Command as Commanded, Bundles as AskBundles, Services as AskServices, Components as AskComponents, Report as AskReport, Held as AskHeld, Find as AskFind, Events as AskEvents, BundleEvents as AskBundleEvents, Trace as AskTrace, Wiring as AskWiring, BundleWiring as AskBundleWiring, Settle, Begin, Finish}
 use Rattle.shell_lang.specs.declared.shell_reply.Refusal.TheVariants.{Line as InLine, Core as OfCore, NotManual, NoTurn}
 use Rattle.shell_lang.specs.declared.shell_reply.ShellReply.{ShellReply}
 use Rattle.shell_lang.specs.declared.shell_reply.ShellReply.TheVariants.{Done, Bundle, Service, Uses, Listener, Bundles, Services, Components, Report, Held, Found, Events, BundleEvents, Trace, Turns, Begun, Idle, Finished, Refused}
 use Rattle.shell_lang.specs.ShellLines.{Asked}
+use Rattle.platform_shell.specs.Wiring.{AsksBundleWiring, AsksWiring}
 
 -- how a run goes: whether turns run where a line asks for it alone, and which callbacks the component code refuses
 pub record Setting : Type 0 where
@@ -145,6 +146,8 @@ Asks s (Ok (AskFind tree)) before told after = Says (Found (found (world before)
 Asks s (Ok (AskEvents listener number)) before told after = Says (events_reply (world before) listener number) before told after
 Asks s (Ok (AskBundleEvents number)) before told after = Says (BundleEvents number (bundle_events_after number (world before))) before told after
 Asks s (Ok (AskTrace number)) before told after = Says (Trace (turns_above number (history_of before.journal))) before told after
+Asks s (Ok AskWiring) before told after = Does AsksWiring before told after
+Asks s (Ok (AskBundleWiring bundle)) before told after = Does (AsksBundleWiring bundle) before told after
 Asks s (Ok Settle) before told after = Does (AsksSettle s.refuses) before told after
 Asks s (Ok Begin) before told after = Does (Manually s.is_manual AsksBegin) before told after
 Asks s (Ok (Finish turn)) before told after = Does (Manually s.is_manual (AsksFinish s.refuses turn)) before told after

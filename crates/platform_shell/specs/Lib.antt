@@ -2,6 +2,7 @@ pub mod Lines
 pub mod Reading
 pub mod Forms
 pub mod Statuses
+pub mod Wiring
 pub mod Asks
 pub mod Cuts
 pub mod Rests

@@ -8,6 +8,7 @@ ghost use Rattle.std.specs.Prelude.{Ok};
 use crate::readings::{
     bundle_events, bundles, components, events, found, held, reported, services, trace,
 };
+use crate::wiring::{bundle_wiring, wiring};
 use callback_orders::Outcome;
 use kind_trait::Kinds;
 use platform_hall::{FinishFault, Platform};
@@ -42,6 +43,8 @@ pub(crate) fn carry_out<K: Kinds + Drop>(
         }
         Ok(ShellLine::BundleEvents { after }) => Ok(Some(bundle_events(alloc, platform, after)?)),
         Ok(ShellLine::Trace { after }) => Ok(Some(trace(alloc, platform, after)?)),
+        Ok(ShellLine::Wiring) => Ok(Some(wiring(alloc, platform)?)),
+        Ok(ShellLine::BundleWiring { bundle }) => Ok(Some(bundle_wiring(alloc, platform, bundle)?)),
         Ok(ShellLine::Settle) => settled(alloc, manual, platform),
         Ok(ShellLine::Begin) => Ok(Some(begin(alloc, manual, platform)?)),
         Ok(ShellLine::Finish { turn }) => Ok(Some(finish(alloc, manual, platform, turn)?)),

@@ -23,6 +23,7 @@ mod readings;
 mod reply_output;
 mod script_run;
 mod status;
+mod wiring;
 
 pub use form::{Form, LoadNumbers, ScriptOptions};
 pub use form_run::run_script;

@@ -76,6 +76,8 @@ fn is_refusal(reply: &ShellReply) -> bool
         ShellReply::Events { .. } => false,
         ShellReply::BundleEvents { .. } => false,
         ShellReply::Trace(_) => false,
+        ShellReply::Wiring(_) => false,
+        ShellReply::BundleWiring(_) => false,
         ShellReply::Turns(_) => false,
         ShellReply::Begun(_) => false,
         ShellReply::Idle => false,
