@@ -184,6 +184,14 @@ def later(prefix, line):
     return lambda size: [prefix, "start 1", line(size)]
 
 
+def wired(header):
+    return [install(location(0, {}, manifest=manifest(header + "\n"))), "wiring"]
+
+
+def attributes(number, size):
+    return f"c{number}" + "".join(times(size // 13, lambda one: f";a{one:06}=xyz"))
+
+
 D = install(location(0, {}))
 ROWS += [
     (
@@ -222,6 +230,21 @@ ROWS += [
             "config p " + text({f"k{number}": 1 for number in range(size // 12)}),
             "report 1",
         ],
+    ),
+    (
+        "wiring of many imports",
+        "osgi_run",
+        lambda size: wired("Import-Package: " + ",".join(times(size // 10, lambda number: f"p{number:08}"))),
+    ),
+    (
+        "wiring of many exports",
+        "osgi_run",
+        lambda size: wired("Export-Package: " + ",".join(times(size // 20, lambda number: f"p{number:08};version=1"))),
+    ),
+    (
+        "wiring of clauses with many attributes",
+        "osgi_run",
+        lambda size: wired("Provide-Capability: " + ",".join(times(8, lambda number: attributes(number, size // 8)))),
     ),
     (
         "a report with many references",

@@ -9,6 +9,7 @@ pub mod FaultTexts
 pub mod CoreFaultTexts
 pub mod RefusalTexts
 pub mod TurnTexts
+pub mod WiringTexts
 pub mod RowTexts
 pub mod ReplyTexts
 pub mod Loads

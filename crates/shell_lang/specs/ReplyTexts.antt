@@ -4,8 +4,9 @@ use Rattle.std.specs.Fmt.{decimal}
 use Rattle.shell_lang.specs.RefusalTexts.{refusal_text}
 use Rattle.shell_lang.specs.RowTexts.{bundle_event_text, bundle_text, component_text, held_text, number_text, placed_rows_text, registered_text, rows_text, service_event_text}
 use Rattle.shell_lang.specs.TurnTexts.{finished_text, trace_text, turn_text}
+use Rattle.shell_lang.specs.WiringTexts.{need_text, wiring_text}
 use Rattle.shell_lang.specs.declared.shell_reply.ShellReply.{ShellReply}
-use Rattle.shell_lang.specs.declared.shell_reply.ShellReply.TheVariants.{Done, Bundle, Service, Uses, Listener, Bundles, Services, Components, Report, Held, Found, Events, BundleEvents, Trace, Turns, Begun, Idle, Finished, Refused}
+use Rattle.shell_lang.specs.declared.shell_reply.ShellReply.TheVariants.{Done, Bundle, Service, Uses, Listener, Bundles, Services, Components, Report, Held, Found, Events, BundleEvents, Trace, Wiring, BundleWiring, Turns, Begun, Idle, Finished, Refused}
 
 -- the text of a reply
 abbrev pub reply_text : ShellReply → List ℕ
@@ -23,6 +24,8 @@ reply_text (Found numbers) = rows_text number_text numbers
 reply_text (Events before events) = placed_rows_text service_event_text before events
 reply_text (BundleEvents before events) = placed_rows_text bundle_event_text before events
 reply_text (Trace rows) = rows_text trace_text rows
+reply_text (Wiring rows) = rows_text wiring_text rows
+reply_text (BundleWiring rows) = rows_text need_text rows
 reply_text (Turns count) = codes "ok turns " ++ decimal count ++ codes "\n"
 reply_text (Begun line) = codes "ok turn " ++ turn_text line ++ codes "\n"
 reply_text Idle = codes "ok idle\n"

@@ -1,5 +1,5 @@
 -- What a line asks. Our own form.
-use Rattle.std.specs.Prelude.{ℕ, ◌==◌, List, [], ◌∷◌, codes, Bool, true, false, Option, Result, Ok, Err, if◌then◌else◌}
+use Rattle.std.specs.Prelude.{ℕ, ◌==◌, List, [], ◌∷◌, codes, Bool, true, false, Option, Some, None, Result, Ok, Err, if◌then◌else◌}
 use Rattle.std.specs.List.{list_any}
 use Rattle.std.specs.Str.{bytes_eq, is_utf8}
 use Rattle.prop_map.specs.Words.{after}
@@ -8,7 +8,7 @@ use Rattle.scr_world.specs.declared.command.Command.TheVariants.{Install, Update
 use Rattle.shell_lang.specs.declared.line_fault.LineFault.{LineFault}
 use Rattle.shell_lang.specs.declared.line_fault.LineFault.TheVariants.{NotBuilt, UnknownCommand}
 use Rattle.shell_lang.specs.declared.shell_line.ShellLine.{ShellLine}
-use Rattle.shell_lang.specs.declared.shell_line.ShellLine.TheVariants.{Silent, Quit, Command as Commanded, Bundles, Services, Components, Report, Held, Find, Events, BundleEvents, Trace, Settle, Begin, Finish}
+use Rattle.shell_lang.specs.declared.shell_line.ShellLine.TheVariants.{Silent, Quit, Command as Commanded, Bundles, Services, Components, Report, Held, Find, Events, BundleEvents, Trace, Wiring, BundleWiring, Settle, Begin, Finish}
 use Rattle.shell_lang.specs.Arguments.{document_argument, filter_argument, properties_argument}
 use Rattle.shell_lang.specs.Interfaces.{interfaces_at}
 use Rattle.shell_lang.specs.LineFaults.{Reads, fitting}
@@ -108,6 +108,11 @@ paired_line word rest =
     else (if bytes_eq word (codes "unget") then paired (λ bundle service. Commanded (Unget bundle service)) rest
     else (if bytes_eq word (codes "events") then paired (λ listener above. Events listener above) rest else named_line word rest)))
 
+-- the wiring of a bundle, or without a number that of all
+abbrev pub wiring : Option (List ℕ) → Asked
+wiring None = Ok Wiring
+wiring (Some text) = numbered (λ bundle. BundleWiring bundle) (Some text)
+
 -- with a number that is told
 abbrev pub reading_line : List ℕ → Option (List ℕ) → Asked
 reading_line word rest =
@@ -115,7 +120,8 @@ reading_line word rest =
     else (if bytes_eq word (codes "held") then numbered (λ configuration. Held configuration) rest
     else (if bytes_eq word (codes "trace") then numbered (λ above. Trace above) rest
     else (if bytes_eq word (codes "bundle-events") then numbered (λ above. BundleEvents above) rest
-    else (if bytes_eq word (codes "finish") then numbered (λ turn. Finish turn) rest else paired_line word rest))))
+    else (if bytes_eq word (codes "finish") then numbered (λ turn. Finish turn) rest
+    else (if bytes_eq word (codes "wiring") then wiring rest else paired_line word rest)))))
 
 -- with a bundle or a listener
 abbrev pub bundle_line : List ℕ → Option (List ℕ) → Asked

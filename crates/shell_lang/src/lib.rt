@@ -18,6 +18,7 @@ mod row_text;
 mod shell_line;
 mod shell_reply;
 mod turn_text;
+mod wiring_text;
 mod words;
 
 pub use generator::Generator;

@@ -1,7 +1,7 @@
 //! The forms of lines, by their first word.
 ghost use Rattle.std.specs.Prelude.{◌≡◌, option_map};
 ghost use Rattle.shell_lang.specs.LineFaults.{Reads};
-ghost use Rattle.shell_lang.specs.ShellLines.{alone, bundle_line, carrying_line, configuring, configuring_factory, configuring_line, finding, installing, listening, named_line, other_fault, paired_line, reading_line, registering, setting, unconfiguring, updating, worded_line};
+ghost use Rattle.shell_lang.specs.ShellLines.{alone, bundle_line, carrying_line, configuring, configuring_factory, configuring_line, finding, installing, listening, named_line, other_fault, paired_line, reading_line, registering, setting, unconfiguring, updating, wiring, worded_line};
 
 use crate::arguments::{owned, read_document, read_filter, read_properties};
 use crate::interfaces::interfaces_at;
@@ -79,7 +79,20 @@ fn reading_line(alloc: Global, word: &str, rest: Option<&str>) -> Result<ShellLi
         "finish" => Ok(ShellLine::Finish {
             turn: only_number(rest)?,
         }),
+        "wiring" => wiring(rest),
         _ => paired_line(alloc, word, rest),
+    }
+}
+
+// Without a number the wiring of all bundles is asked for.
+fn wiring(rest: Option<&str>) -> Result<ShellLine, LineFault>
+    ensures { Reads (wiring (option_map (λ t. t.now) rest.entry)) result }
+{
+    match rest {
+        Some(_) => Ok(ShellLine::BundleWiring {
+            bundle: only_number(rest)?,
+        }),
+        None => Ok(ShellLine::Wiring),
     }
 }
 

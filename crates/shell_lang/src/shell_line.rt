@@ -49,6 +49,13 @@ pub enum ShellLine {
         /// The number.
         after: u64,
     },
+    /// Which bundles resolve together, and to whom each is wired.
+    Wiring,
+    /// To whom a bundle is wired, and what it offers.
+    BundleWiring {
+        /// The bundle's number.
+        bundle: u64,
+    },
     /// To run the turns that are due, until none is.
     Settle,
     /// To begin the first due turn.

@@ -7,6 +7,7 @@ use prop_map::{List, Str};
 use scr_world::{BundleLine, ComponentLine, CoreFault, HeldLine, TurnLine};
 use service_listeners::ServiceEvent;
 use service_registry::ServiceRow;
+use wiring_reader::{NeedLine, WiringLine};
 
 /// Why a line isn't carried out.
 #[derive(Debug, PartialEq, Eq, Drop)]
@@ -71,6 +72,10 @@ pub enum ShellReply {
     },
     /// Turns.
     Trace(List<TurnLine>),
+    /// Which bundles resolve together, and their wires.
+    Wiring(List<WiringLine>),
+    /// To whom a bundle is wired, and what it offers.
+    BundleWiring(List<NeedLine>),
     /// How many turns ran.
     Turns(u64),
     /// The turn that has begun.
