@@ -21,3 +21,5 @@ mod samples;
 mod turns;
 #[cfg(test)]
 mod uses;
+#[cfg(test)]
+mod wirings;
