@@ -63,6 +63,8 @@ impl Kinds for Insisting {
 
     ghost refuses = { λ _ _ _. false };
 
+    ghost made = { λ _ _. Unit {0} };
+
     ghost hears = { λ _ _ _ _. Unit {0} };
 
     ghost next = { λ _ _ request _. Calls (codes "next") request };
