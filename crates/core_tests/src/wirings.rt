@@ -4,6 +4,7 @@ use crate::samples::{install, on_core, taken};
 use bundle_doc::read_bundle;
 use scr_core::{Command, Core, Reply};
 use std::alloc::Global;
+use wiring_reader::{bundle_wiring, wiring_lines};
 
 // A bundle that exports two packages.
 const EXPORTER: &str =
@@ -52,4 +53,17 @@ fn kept_of_an_update(alloc: Global, core: &mut Core) -> Option<[usize; 2]> {
 #[test]
 fn a_faulty_manifest_offers_nothing(rt: HostRuntime) {
     assert!(rt; on_core(rt.alloc(), kept_of_an_update) == Some([0, 1]));
+}
+
+// How many lines tell the wiring of all bundles, and that of the first, by their documents alone.
+fn told_anew(alloc: Global, core: &mut Core) -> Option<[usize; 2]> {
+    install(alloc, core, EXPORTER)?;
+    let lines = wiring_lines(alloc, core.documents()).ok()?;
+    let offers = bundle_wiring(alloc, core.documents(), 1).ok()??;
+    Some([lines.as_slice().len(), offers.as_slice().len()])
+}
+
+#[test]
+fn documents_tell_the_wiring(rt: HostRuntime) {
+    assert!(rt; on_core(rt.alloc(), told_anew) == Some([1, 2]));
 }

@@ -12,7 +12,7 @@ kept_bundle_wiring-requires g c = subst (λ (cs : List Contents). AreKept cs c.w
 pub returns : goal.returns
 returns g c = (
   c.in_ok-told.told,
-  subst (λ (cs : List Contents). TellsBundle cs c.args.bundle c.in_ok-told.told) (c.documents.ensures ∙ ap (λ (p : CoreView). (world_at p.journal).documents) c.core.ensures.core) c.in_ok-told.ensures,
+  subst (λ (cs : List Contents). TellsBundle cs c.args.bundle c.in_ok-told.told) (c.documents.ensures ∙ ap (λ (p : CoreView). (world_at p.journal).documents) c.core-core.ensures.core) c.in_ok-told.ensures,
   c.bundle_reply.ensures,
   refl,
 )

@@ -12,7 +12,7 @@ kept_wiring_lines-requires g c = subst (λ (cs : List Contents). AreKept cs c.wi
 pub returns : goal.returns
 returns g c = (
   c.in_ok-lines.lines,
-  subst (λ (cs : List Contents). TellsWiring cs c.in_ok-lines.lines) (c.documents.ensures ∙ ap (λ (p : CoreView). (world_at p.journal).documents) c.core.ensures.core) c.in_ok-lines.ensures,
+  subst (λ (cs : List Contents). TellsWiring cs c.in_ok-lines.lines) (c.documents.ensures ∙ ap (λ (p : CoreView). (world_at p.journal).documents) c.core-core.ensures.core) c.in_ok-lines.ensures,
   refl,
   refl,
 )
