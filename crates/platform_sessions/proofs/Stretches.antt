@@ -9,7 +9,6 @@ use Rattle.hall_goings.specs.Went.{Went, owned_by, placed, up_to}
 use Rattle.hall_goings.proofs.Chains.{grown, went_in_stretch}
 use Rattle.hall_locked.specs.Locks.{AppendsFor, IsLocked, LockedView, limits_code, log_of, turns_kept}
 use Rattle.hall_locked.specs.Owned.{as_kept, entries_in, owned}
-use Rattle.hall_locked.proofs.Logs.{owned_length}
 use Rattle.journal_core.specs.declared.entry.Entry.{Entry}
 use Rattle.platform_sessions.specs.Halls.{HallPassView, HallView, IsOf, KeepsPass, Own, View}
 use Rattle.scr_world.specs.declared.command.Limits.{Limits}
