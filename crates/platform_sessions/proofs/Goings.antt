@@ -1,10 +1,9 @@
 -- Calls of several turns at the lock: goings on join.
-use Rattle.std.proofs.Common.{◌≡◌, ◌⊎◌, ℕ, ◌+◌, ◌≤◌, List, [], ◌∷◌, ◌++◌, length, ap, sym, ◌∙◌, refl, subst, inl, inr, Option, Some, None, Ok, true, arith}
-use Rattle.hall_goings.specs.Went.{Went, up_to}
+use Rattle.std.proofs.Common.{◌≡◌, ℕ, ◌≤◌, [], ◌∷◌, ◌++◌, length, sym, subst, inl, inr, Option, Some, None, Ok, true, arith}
+use Rattle.hall_goings.specs.Went.{up_to}
 use Rattle.hall_goings.proofs.Chains.{front_stays, longer, went_nowhere, went_on}
 use Rattle.hall_locked.specs.Owned.{entries_in}
 use Rattle.hall_locked.specs.declared.owed.Owed.{Owed}
-use Rattle.journal_core.specs.declared.entry.Entry.{Entry}
 use Rattle.platform_sessions.specs.Commands.{Appended, AreDrains, Posts, PostsOwed, TakesCommand, TookCommand, Unchanged}
 use Rattle.platform_sessions.specs.Halls.{KeepsPass, Own, View}
 use Rattle.platform_sessions.proofs.Stretches.{keeps_on, keeps_went}
@@ -14,7 +13,6 @@ use Rattle.scr_world.specs.declared.command.Command.{Command}
 use Rattle.scr_world.specs.declared.command.Limits.{Limits}
 use Rattle.scr_world.specs.declared.reply.Accepted.{Accepted}
 use Rattle.scr_world.specs.declared.reply.Reply.{Reply}
-use Rattle.scr_world.specs.declared.step.Step.{Step}
 
 -- ---- drains
 

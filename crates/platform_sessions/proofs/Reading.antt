@@ -1,9 +1,8 @@
 -- A look at the core, in one turn at the lock.
-use Rattle.std.proofs.Common.{◌≡◌, ℕ, ◌+◌, List, [], length, ap, sym, ◌∙◌, refl, subst}
+use Rattle.std.proofs.Common.{◌≡◌, ℕ, ◌+◌, List, length, sym, refl, subst}
 use Rattle.front_lock.specs.Histories.{Distinct, Extends}
 use Rattle.front_lock.specs.Passes.{names_of}
 use Rattle.hall_locked.specs.Locks.{IsLocked, LockedView, log_of}
-use Rattle.hall_locked.specs.Owned.{entries_in}
 use Rattle.journal_core.specs.declared.entry.Entry.{Entry}
 use Rattle.platform_sessions.specs.Halls.{View}
 use Rattle.platform_sessions.specs.Reads.{Reads}

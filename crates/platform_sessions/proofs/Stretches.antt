@@ -2,7 +2,7 @@
 use Rattle.std.proofs.Common.{◌≡◌, ℕ, ◌+◌, ◌≤◌, List, [], ◌∷◌, ◌++◌, length, map, take, get_or, ap, sym, ◌∙◌, refl, subst, arith}
 use Rattle.std.proofs.Math.Seq.{take-append_seam}
 use Rattle.std.proofs.lemmas.List.{append-nil, append_cancel_left, length-append}
-use Rattle.front_lock.specs.Histories.{Distinct, Extends, GrownBy, In}
+use Rattle.front_lock.specs.Histories.{Distinct, Extends, GrownBy}
 use Rattle.front_lock.specs.Keepings.{KeepsOthers, kept_by, kept_under}
 use Rattle.front_lock.specs.Passes.{TurnView, names_of}
 use Rattle.hall_goings.specs.Went.{Went, owned_by, placed, up_to}

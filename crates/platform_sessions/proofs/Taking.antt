@@ -1,11 +1,11 @@
 -- A command, and a drain, in one turn at the lock.
-use Rattle.std.proofs.Common.{◌≡◌, ◌⊎◌, ℕ, ◌+◌, ◌≤◌, List, [], ◌∷◌, ◌++◌, length, ap, sym, ◌∙◌, refl, subst, Bool, true, false, not, ◌&&◌, inl, inr, Option, Some, None, Result, Ok, Err, is_none, is_some, arith}
+use Rattle.std.proofs.Common.{◌≡◌, ℕ, ◌+◌, List, [], ◌∷◌, ◌++◌, length, ap, sym, ◌∙◌, refl, subst, Bool, true, false, not, ◌&&◌, inl, inr, Option, Some, None, Result, Ok, Err, is_none, is_some, arith}
 use Rattle.std.specs.Prelude.{IfOk, MatchResult, OnErr, nat_lt}
 use Rattle.std.specs.Option.{option_map_or, option_or}
 use Rattle.std.proofs.lemmas.Bool.{le-ltb}
 use Rattle.front_lock.specs.Histories.{Distinct, Extends}
 use Rattle.front_lock.specs.Passes.{names_of}
-use Rattle.hall_goings.specs.Went.{Went, up_to}
+use Rattle.hall_goings.specs.Went.{up_to}
 use Rattle.hall_locked.specs.Locks.{AppendsFor, IsLocked, LockedView, PostsAt, PostsOne, log_of}
 use Rattle.hall_locked.specs.Owned.{entries_in}
 use Rattle.hall_locked.specs.declared.owed.Owed.{Owed}
@@ -27,7 +27,7 @@ use Rattle.scr_world.specs.declared.reply.CoreFault.{CoreFault}
 use Rattle.scr_world.specs.declared.reply.CoreFault.TheVariants.{NoBundle, NoComponent, WrongState, Stopping, SameName, Cycle, BundlesFull, ComponentsFull, ServicesFull, ConfigurationsFull, ListenersFull, NoService, NotOwner, NotUsing, NoListener, NoConfiguration, BadPid, FactoryClash, ActivationFailed, ActivationNoMemory, JournalFull, OutOfMemory}
 use Rattle.scr_world.specs.declared.reply.Reply.{Reply}
 use Rattle.scr_world.specs.declared.step.Step.{Step}
-use Rattle.scr_world.specs.declared.step.Step.TheVariants.{Command as Commanded, Drained}
+use Rattle.scr_world.specs.declared.step.Step.TheVariants.{Command as Commanded}
 use Rattle.scr_world.specs.declared.world.World.{World}
 
 -- ---- a command that is refused changes nothing

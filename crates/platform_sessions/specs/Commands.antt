@@ -1,5 +1,5 @@
 -- What a command does in a hall, for a pass: what it had seen before, and what it has seen afterwards. Our own.
-use Rattle.std.specs.Prelude.{◌≡◌, ℕ, ◌+◌, ◌≤◌, ◌⊎◌, List, [], ◌∷◌, length, true, false, Option, Some, None, Result, Ok, Err}
+use Rattle.std.specs.Prelude.{◌≡◌, ℕ, ◌+◌, ◌≤◌, ◌⊎◌, [], ◌∷◌, length, true, false, Option, Some, None, Result, Ok, Err}
 use Rattle.hall_goings.specs.Went.{Went}
 use Rattle.hall_locked.specs.declared.owed.Owed.{Owed}
 use Rattle.journal_core.specs.declared.entry.Entry.{Entry}

@@ -1,12 +1,11 @@
 -- A hall and its passes, as contracts see them, and what a pass has seen. Our own.
-use Rattle.std.specs.Prelude.{◌≡◌, ℕ, List, [], length, Option, Some, None}
+use Rattle.std.specs.Prelude.{◌≡◌, ℕ, List, [], Option, Some, None}
 use Rattle.atomic_table.specs.Seated.{TableId}
 use Rattle.front_lock.specs.Passes.{PassView}
 use Rattle.hall_goings.specs.Went.{up_to}
 use Rattle.hall_locked.specs.Locks.{limits_code}
 use Rattle.hall_locked.specs.Owned.{entries_in}
 use Rattle.journal_core.specs.declared.entry.Entry.{Entry}
-use Rattle.platform_hall.specs.Platforms.{world}
 use Rattle.scr_core.specs.Cores.{CoreView}
 use Rattle.scr_world.specs.declared.command.Limits.{Limits}
 use Rattle.scr_world.specs.declared.step.Step.{Step}

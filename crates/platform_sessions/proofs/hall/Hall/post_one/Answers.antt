@@ -1,10 +1,10 @@
-use Rattle.std.proofs.Common.{rules, subst, sym, ap, ◌∙◌, ◌≡◌, refl, length}
+use Rattle.std.proofs.Common.{rules, subst, ap, ◌∙◌, ◌≡◌}
 use Rattle.front_lock.specs.Histories.{Distinct}
 use Rattle.front_lock.specs.Keepings.{kept_by}
 use Rattle.front_lock.specs.Passes.{names_of}
-use Rattle.hall_locked.specs.Locks.{AppendsFor, limits_code, log_of, turns_kept}
+use Rattle.hall_locked.specs.Locks.{AppendsFor, turns_kept}
 use Rattle.platform_sessions.specs.Halls.{View, front_in}
-use Rattle.platform_sessions.proofs.Stretches.{leaves_grown, leaves_others, leaves_tie, same_kept, stretch, stretch_apart, stretch_of}
+use Rattle.platform_sessions.proofs.Stretches.{leaves_grown, stretch}
 use Rattle.platform_sessions.proofs.Taking.{drains_of}
 use Rattle.platform_sessions.proofs.hall.Hall.post_one.Goals as goal
 

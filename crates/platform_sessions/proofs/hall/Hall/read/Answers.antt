@@ -1,11 +1,11 @@
-use Rattle.std.proofs.Common.{rules, subst, sym, ap, ◌∙◌, ◌≡◌, refl, length}
+use Rattle.std.proofs.Common.{rules, ap, ◌∙◌, ◌≡◌, length}
 use Rattle.front_lock.specs.Histories.{Distinct}
 use Rattle.front_lock.specs.Keepings.{kept_by}
 use Rattle.front_lock.specs.Passes.{names_of}
-use Rattle.hall_locked.specs.Locks.{limits_code, log_of, turns_kept}
+use Rattle.hall_locked.specs.Locks.{turns_kept}
 use Rattle.platform_sessions.specs.Halls.{View, front_in}
 use Rattle.platform_sessions.proofs.Reading.{read_so}
-use Rattle.platform_sessions.proofs.Stretches.{leaves_others, leaves_same, leaves_tie, limits_from, same_kept, stretch, stretch_apart, stretch_keeps, stretch_of}
+use Rattle.platform_sessions.proofs.Stretches.{limits_from, stretch}
 use Rattle.platform_sessions.proofs.hall.Hall.read.Goals as goal
 
 pub returns-clause-read : goal.returns-clause-read

@@ -1,11 +1,11 @@
-use Rattle.std.proofs.Common.{rules, subst, sym, ap, ◌∙◌, ◌≡◌, refl, length}
+use Rattle.std.proofs.Common.{rules, subst, sym, ap, ◌∙◌, ◌≡◌, length}
 use Rattle.front_lock.specs.Histories.{Distinct}
 use Rattle.front_lock.specs.Keepings.{kept_by}
 use Rattle.front_lock.specs.Passes.{names_of}
-use Rattle.hall_locked.specs.Locks.{AppendsFor, limits_code, log_of, turns_kept}
+use Rattle.hall_locked.specs.Locks.{AppendsFor, turns_kept}
 use Rattle.platform_sessions.specs.Halls.{View, front_in}
 use Rattle.platform_sessions.specs.Commands.{TookCommand}
-use Rattle.platform_sessions.proofs.Stretches.{leaves_grown, leaves_others, leaves_tie, limits_from, same_kept, stretch, stretch_apart, stretch_keeps, stretch_of}
+use Rattle.platform_sessions.proofs.Stretches.{leaves_grown, limits_from, stretch}
 use Rattle.platform_sessions.proofs.Taking.{answered, took}
 use Rattle.platform_sessions.proofs.hall.Hall.take_command.Goals as goal
 
