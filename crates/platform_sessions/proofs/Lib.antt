@@ -1,0 +1,4 @@
+pub mod Stretches
+pub mod Taking
+pub mod Goings
+pub mod Reading

@@ -1,0 +1,12 @@
+use Rattle.std.proofs.Common.{rules}
+use Rattle.platform_sessions.proofs.Goings.{posts_nowhere, posts_on}
+use Rattle.platform_sessions.proofs.hall.Hall.post_all.Goals as goal
+
+pub loop-init : goal.loop-init
+loop-init g c = (search rules, posts_nowhere c.args.pass.now.front, c.requires.of)
+
+pub loop-preserved : goal.loop-preserved
+loop-preserved g c = ((tt, tt), posts_on c.args.pass.now.front c.loop.pass.front c.post_one.new.pass.front c.loop.invariant.1 c.post_one.ensures.posted, c.post_one.ensures.of)
+
+pub returns-in-Ok-None-clause-posted : goal.returns-in-Ok-None-clause-posted
+returns-in-Ok-None-clause-posted g c = posts_on c.args.pass.now.front c.loop.pass.front c.post_one.new.pass.front c.loop.invariant.1 c.post_one.ensures.posted

@@ -1,0 +1,25 @@
+use Rattle.std.proofs.Common.{rules, ap, ◌∙◌, ◌≡◌, length}
+use Rattle.front_lock.specs.Histories.{Distinct}
+use Rattle.front_lock.specs.Keepings.{kept_by}
+use Rattle.front_lock.specs.Passes.{names_of}
+use Rattle.hall_locked.specs.Locks.{turns_kept}
+use Rattle.platform_sessions.specs.Halls.{View, front_in}
+use Rattle.platform_sessions.proofs.Reading.{read_so}
+use Rattle.platform_sessions.proofs.Stretches.{limits_from, stretch}
+use Rattle.platform_sessions.proofs.hall.Hall.read.Goals as goal
+
+pub returns-clause-read : goal.returns-clause-read
+returns-clause-read g c =
+    let p = c.args.pass.now.front in
+    let before = c.enter-inner.result.value in
+    let after = c.enter-inner.result.value in
+    let own : c.unwrap.result ≡ p = search rules in
+    let apart : Distinct (names_of p) = search rules in
+    let turn = c.enter-inner.result.turn in
+    let its = c.enter-inner.ensures.turn in
+    let q = front_in c.put.new.pass in
+    let s = stretch p q c.unwrap.result c.leave-back.result turn before after own its.0 apart c.enter-inner.ensures.goes_on (ap front_in c.put.ensures) c.leave-back.ensures.seen in
+    let limits = c.args.self.now.limits in
+    let same_limits = limits_from before.core.limits limits (c.enter-inner.ensures.tie ∙ ap (λ (v : View). v.tie) own ∙ c.requires.of.limits) in
+    let front : c.seen-front.result ≡ length q.seen = search rules in
+    read_so g.L.Look.looks p q before (kept_by (names_of p) (turns_kept before)) s.apart s.goes s.same c.note_kept.ensures.kept limits same_limits _ _ _ front (search rules)

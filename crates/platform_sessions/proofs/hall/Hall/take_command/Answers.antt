@@ -1,0 +1,33 @@
+use Rattle.std.proofs.Common.{rules, subst, sym, ap, ◌∙◌, ◌≡◌, length}
+use Rattle.front_lock.specs.Histories.{Distinct}
+use Rattle.front_lock.specs.Keepings.{kept_by}
+use Rattle.front_lock.specs.Passes.{names_of}
+use Rattle.hall_locked.specs.Locks.{AppendsFor, turns_kept}
+use Rattle.platform_sessions.specs.Halls.{View, front_in}
+use Rattle.platform_sessions.specs.Commands.{TookCommand}
+use Rattle.platform_sessions.proofs.Stretches.{leaves_grown, limits_from, stretch}
+use Rattle.platform_sessions.proofs.Taking.{answered, took}
+use Rattle.platform_sessions.proofs.hall.Hall.take_command.Goals as goal
+
+pub leave-back-requires-clause-grown : goal.leave-back-requires-clause-grown
+leave-back-requires-clause-grown g c = leaves_grown c.enter-inner.result.turn c.owner-owner.result c.enter-inner.result.value c.command-answer.new.self c.enter-inner.ensures.turn.1 c.owner-owner.ensures c.command-answer.ensures.appended
+
+pub returns-clause-taken : goal.returns-clause-taken
+returns-clause-taken g c =
+    let p = c.args.pass.now.front in
+    let before = c.enter-inner.result.value in
+    let after = c.command-answer.new.self in
+    let own : c.unwrap.result ≡ p = search rules in
+    let apart : Distinct (names_of p) = search rules in
+    let turn = c.enter-inner.result.turn in
+    let its = c.enter-inner.ensures.turn in
+    let q = front_in c.put.new.pass in
+    let s = stretch p q c.unwrap.result c.leave-back.result turn before after own its.0 apart c.enter-inner.ensures.goes_on (ap front_in c.put.ensures) c.leave-back.ensures.seen in
+    let owner : c.owner-owner.result ≡ p.number = c.owner-owner.ensures ∙ ap (λ (v : View). v.number) (its.0 ∙ own) in
+    let a = subst (λ n. AppendsFor n before after) owner c.command-answer.ensures.appended in
+    let limits = c.args.self.now.limits in
+    let same_limits = limits_from before.core.limits limits (c.enter-inner.ensures.tie ∙ ap (λ (v : View). v.tie) own ∙ c.requires.of.limits) in
+    let front : c.seen-front.result ≡ length q.seen = search rules in
+    subst (TookCommand limits p q c.args.command c.command-answer.result) (sym front)
+    (took p q before after (kept_by (names_of p) (turns_kept after)) s.apart s.goes s.same c.note_kept.ensures.kept c.note_kept-2.ensures.kept a limits same_limits c.args.command c.command-answer.result
+    (answered before after c.args.command c.command-answer.result c.command-answer.ensures.answer c.command-answer.ensures.owed))

@@ -1,0 +1,3 @@
+pub mod Halls
+pub mod Commands
+pub mod Reads
