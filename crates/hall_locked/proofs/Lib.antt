@@ -4,7 +4,7 @@ mod Sites
 mod Kept
 mod Changes
 mod Stretches
-mod Sends
+pub mod Sends
 pub mod Counts
 mod Told
 pub mod Turning
