@@ -1,23 +1,34 @@
 //! The program: the words of the command line, standard input and standard output, over the component code of the
-//! demonstration.
+//! demonstration. How a run ended is told on standard error.
 #![tactic(auto)]
 
 use demonstration_kinds::Demonstration;
 use fault_count::{StdSink, StdSource};
 use platform_shell::{Status, run_program};
+use shell_terminal::Terminal;
 use std::io::ErrorKind;
 use std::process::ExitCode;
 use std::rt::Env;
 use std::{env, io};
 
 fn main(rt: HostRuntime) -> ExitCode {
+    let words = given_words(&rt);
     run_program(
         rt.alloc(),
         Demonstration,
-        given_words(&rt),
+        &words,
         &mut StdSource::new(rt.reader()),
         &mut StdSink::new(io::writer(&rt)),
+        &mut Terminal::new(rt.alloc(), &rt, known(&words)),
     )
+}
+
+// The words, none where they can't be read.
+fn known(words: &Result<Vec<String>, Status>) -> &[String] {
+    match words {
+        Ok(words) => words.as_slice(),
+        Err(_) => &[],
+    }
 }
 
 // The words of the command line behind the name of the program, or how it ends where they can't be read.

@@ -20,10 +20,12 @@ use Rattle.shell_lang.specs.declared.shell_line.ShellLine.TheVariants.{Silent, Q
 use Rattle.shell_lang.specs.declared.shell_reply.ShellReply.{ShellReply}
 use Rattle.shell_lang.specs.ShellLines.{Asked, shell_line}
 use Rattle.platform_shell.specs.declared.status.Status.{Status}
-use Rattle.platform_shell.specs.declared.status.Status.TheVariants.{Done, Usage, ReadFault, WriteFault, NoMemory as Short, JournalFull, LineTooLong, Unsettled}
+use Rattle.platform_shell.specs.declared.status.Status.TheVariants.{Done, Usage, ReadFault, WriteFault, NoMemory as Short, JournalFull, LineTooLong, Unsettled, Refused as AtRefusal}
 use Rattle.platform_shell.specs.Asks.{Asks, AsksBegin, AsksFinish, IsAnswer, Manually, Setting, changed, commands_of}
 use Rattle.platform_shell.specs.Cuts.{Cuts, CutsAsked, CutsBegin, CutsCommand, CutsFinish, CutsFirst, Stays}
 use Rattle.platform_shell.specs.Rests.{Rests, RestsBy}
+use Rattle.platform_shell.specs.declared.form.ScriptOptions.{ScriptOptions}
+use Rattle.platform_shell.specs.LineTexts.{Answer}
 use Rattle.platform_shell.specs.Runs.{Grew, LacksMemory, Ran, RunsFirst, RunsLine, Stops}
 use Rattle.platform_shell.proofs.Growth.{grew_accepts, grew_begins, grew_ends, grew_not, grew_posts, grew_same, grew_settled, grew_takes, grew_trans}
 
@@ -137,9 +139,9 @@ grew_line : (s : Setting) (first : CoreView) (asked : Asked) (before after : Cor
 grew_line s first asked before after told (between, asks, rests, good) = grew_carried s asked before between after told asks rests
 
 -- lines that ran
-pub grew_ran : (s : Setting) (first : CoreView) (lines : List (List ℕ)) (before after : CoreView) (commands : List Command) (replies : List ShellReply) → Ran s first lines before after commands replies → Grew before after commands
-grew_ran s first [] before after commands replies (same, none, nothing) = grew_none before after commands none (grew_not before after same)
-grew_ran s first (line ∷ lines) before after commands replies (between, told, later, rest, runs, ran, all, whole) =
+pub grew_ran : (s : Setting) (first : CoreView) (lines : List (List ℕ)) (before after : CoreView) (commands : List Command) (answers : List Answer) → Ran s first lines before after commands answers → Grew before after commands
+grew_ran s first [] before after commands answers (same, none, nothing) = grew_none before after commands none (grew_not before after same)
+grew_ran s first (line ∷ lines) before after commands answers (between, told, later, rest, runs, ran, all, whole) =
     grew_same before after (commands_of before (shell_line line) ++ later) commands (sym all)
     (grew_trans before between after (commands_of before (shell_line line)) later (grew_line s first (shell_line line) before between told runs) (grew_ran s first lines between after later rest ran))
 
@@ -150,23 +152,24 @@ pub grew_cuts_first : (s : Setting) (others : List (List ℕ)) (fault : SettleFa
 grew_cuts_first s [] fault before after commands cut = absurd cut
 grew_cuts_first s (line ∷ lines) fault before after commands cut = grew_cuts s (shell_line line) fault before after commands cut
 
-grew_runs_first : (s : Setting) (first : CoreView) (others : List (List ℕ)) (before after : CoreView) (reply : ShellReply) (commands : List Command) → RunsFirst s first others before reply after commands → Grew before after commands
-grew_runs_first s first [] before after reply commands runs = absurd runs
-grew_runs_first s first (line ∷ lines) before after reply commands (runs, is) =
-    grew_same before after (commands_of before (shell_line line)) commands (sym is) (grew_line s first (shell_line line) before after (Some reply) runs)
+grew_runs_first : (s : Setting) (first : CoreView) (others : List (List ℕ)) (before after : CoreView) (answer : Answer) (commands : List Command) → RunsFirst s first others before answer after commands → Grew before after commands
+grew_runs_first s first [] before after answer commands runs = absurd runs
+grew_runs_first s first (line ∷ lines) before after answer commands (runs, same, is) =
+    grew_same before after (commands_of before (shell_line line)) commands (sym is) (grew_line s first (shell_line line) before after answer.told runs)
 
-grew_lacks : (s : Setting) (first : CoreView) (others : List (List ℕ)) (before after : CoreView) (commands : List Command) → LacksMemory s first others before after commands → Grew before after commands
-grew_lacks s first others before after commands (inl stays) = grew_stays before after commands stays
-grew_lacks s first others before after commands (inr (inl cut)) = grew_cuts_first s others OutOfMemory before after commands cut
-grew_lacks s first others before after commands (inr (inr (reply, runs))) = grew_runs_first s first others before after reply commands runs
+grew_lacks : (s : Setting) (o : ScriptOptions) (first : CoreView) (others : List (List ℕ)) (before after : CoreView) (commands : List Command) → LacksMemory s o first others before after commands → Grew before after commands
+grew_lacks s o first others before after commands (inl stays) = grew_stays before after commands stays
+grew_lacks s o first others before after commands (inr (inl cut)) = grew_cuts_first s others OutOfMemory before after commands cut
+grew_lacks s o first others before after commands (inr (inr (answer, runs, some))) = grew_runs_first s first others before after answer commands runs
 
 -- how a run ended
-pub grew_stops : (s : Setting) (first : CoreView) (status : Status) (before after : CoreView) (others : List (List ℕ)) (commands : List Command) (front : List ℕ) → Stops s first status before after others commands front → Grew before after commands
-grew_stops s first Done before after others commands front (stays, none) = grew_stays before after commands stays
-grew_stops s first (Usage at) before after others commands front stops = absurd stops
-grew_stops s first ReadFault before after others commands front (stays, none) = grew_stays before after commands stays
-grew_stops s first WriteFault before after others commands front (reply, count, runs, below, is) = grew_runs_first s first others before after reply commands runs
-grew_stops s first Short before after others commands front (lacks, none) = grew_lacks s first others before after commands lacks
-grew_stops s first JournalFull before after others commands front (cut, none) = grew_cuts_first s others NoRoom before after commands cut
-grew_stops s first (LineTooLong line) before after others commands front (stays, none) = grew_stays before after commands stays
-grew_stops s first Unsettled before after others commands front (cut, none) = grew_cuts_first s others StillDue before after commands cut
+pub grew_stops : (s : Setting) (o : ScriptOptions) (first : CoreView) (status : Status) (before after : CoreView) (others : List (List ℕ)) (commands : List Command) (front : List ℕ) → Stops s o first status before after others commands front → Grew before after commands
+grew_stops s o first Done before after others commands front (stays, none) = grew_stays before after commands stays
+grew_stops s o first (Usage at) before after others commands front stops = absurd stops
+grew_stops s o first ReadFault before after others commands front (stays, none) = grew_stays before after commands stays
+grew_stops s o first WriteFault before after others commands front (answer, count, runs, below, is) = grew_runs_first s first others before after answer commands runs
+grew_stops s o first Short before after others commands front (lacks, none) = grew_lacks s o first others before after commands lacks
+grew_stops s o first JournalFull before after others commands front (cut, none) = grew_cuts_first s others NoRoom before after commands cut
+grew_stops s o first (LineTooLong line) before after others commands front (stays, none) = grew_stays before after commands stays
+grew_stops s o first Unsettled before after others commands front (cut, none) = grew_cuts_first s others StillDue before after commands cut
+grew_stops s o first (AtRefusal line) before after others commands front (stays, none) = grew_stays before after commands stays

@@ -19,17 +19,18 @@ use Rattle.platform_shell.specs.declared.form.Form.{Form}
 use Rattle.platform_shell.specs.declared.form.LoadNumbers.{LoadNumbers}
 use Rattle.platform_shell.specs.declared.load_answers.Answered.{Answered}
 use Rattle.platform_shell.specs.declared.status.Status.{Status}
-use Rattle.platform_shell.specs.declared.status.Status.TheVariants.{Done, Usage, ReadFault, WriteFault, NoMemory, JournalFull, LineTooLong, Unsettled}
+use Rattle.platform_shell.specs.declared.status.Status.TheVariants.{Done, Usage, ReadFault, WriteFault, NoMemory, JournalFull, LineTooLong, Unsettled, Refused}
 use Rattle.platform_shell.specs.Asks.{Setting, commands_of}
 use Rattle.platform_shell.specs.Carries.{RunsAsked}
-use Rattle.platform_shell.specs.Loads.{CutsLoad, EndsLoad, RunsLoad, answered_by, is_refusal, lines_of_load, load_setting, text_of_counts}
+use Rattle.platform_shell.specs.LineTexts.{Answer, is_refusal, is_refused}
+use Rattle.platform_shell.specs.Loads.{CutsLoad, EndsLoad, RunsLoad, answered_by, is_accepted, lines_of_load, load_setting, text_of_counts}
 use Rattle.platform_shell.specs.LoadLines.{RunsLines, RunsLoadLine, TellsCounts, with_answer}
-use Rattle.platform_shell.specs.Runs.{Grew, Ran, RunsLine, as_list}
+use Rattle.platform_shell.specs.Runs.{Grew, Ran, RunsLine}
 use Rattle.platform_shell.specs.Statuses.{HasCause, read_faults_after, status_of, write_faults_after}
 use Rattle.platform_shell.proofs.EndingLemmas.{rose_next}
 use Rattle.platform_shell.proofs.Growth.{grew_same, grew_trans}
 use Rattle.platform_shell.proofs.LineGrowth.{grew_cuts_first, grew_ran, grew_stays}
-use Rattle.platform_shell.proofs.Progress.{Ran_snoc}
+use Rattle.platform_shell.proofs.Progress.{Ran_snoc, answer_of}
 use Rattle.platform_shell.proofs.Resting.{quiet_still}
 
 -- ---- the counts
@@ -44,24 +45,31 @@ same_counts lines lines' accepted accepted' refused refused' l a r =
 count_more : {X : Type 0} (p : X → Bool) (xs : List X) (x : X) → count_by p (xs ++ x ∷ []) ≡ count_by p xs + cond (p x) 1 0
 count_more p xs x = sum_by-append (λ y. cond (p y) 1 0) xs (x ∷ []) ∙ ap (λ n. count_by p xs + n) (sum_by-cons (λ y. cond (p y) 1 0) x [] ∙ omega arith)
 
-answered_more : (lines : List (List ℕ)) (line : List ℕ) (replies : List ShellReply) (told : Option ShellReply)
-    → with_answer (answered_by lines replies) (option_map is_refusal told) ≡ answered_by (lines ++ line ∷ []) (replies ++ as_list told)
-answered_more lines line replies None =
-    same_counts (length lines + 1) (length (lines ++ line ∷ [])) (count_by (λ (r : ShellReply). not (is_refusal r)) replies) (count_by (λ (r : ShellReply). not (is_refusal r)) (replies ++ []))
-    (count_by is_refusal replies) (count_by is_refusal (replies ++ [])) (sym (length-append lines (line ∷ []))) (ap (count_by (λ (r : ShellReply). not (is_refusal r))) (sym (append-nil replies))) (ap (count_by is_refusal) (sym (append-nil replies)))
-answered_more lines line replies (Some reply) = go (is_refusal reply) refl
+answered_more : (answers : List Answer) (line : List ℕ) (told : Option ShellReply)
+    → with_answer (answered_by answers) (option_map is_refusal told) ≡ answered_by (answers ++ answer_of line told ∷ [])
+answered_more answers line None =
+    let one : Answer = answer_of line None in
+    let accepts : count_by is_accepted (answers ++ one ∷ []) ≡ count_by is_accepted answers + 0 = count_more is_accepted answers one in
+    let refuses : count_by is_refused (answers ++ one ∷ []) ≡ count_by is_refused answers + 0 = count_more is_refused answers one in
+    same_counts (length answers + 1) (length (answers ++ one ∷ [])) (count_by is_accepted answers) (count_by is_accepted (answers ++ one ∷ []))
+    (count_by is_refused answers) (count_by is_refused (answers ++ one ∷ [])) (sym (length-append answers (one ∷ []))) (omega (arith, accepts)) (omega (arith, refuses))
+answered_more answers line (Some reply) = go (is_refusal reply) refl
   where
-    go : (b : Bool) → is_refusal reply ≡ b → with_answer (answered_by lines replies) (Some b) ≡ answered_by (lines ++ line ∷ []) (replies ++ reply ∷ [])
+    go : (b : Bool) → is_refusal reply ≡ b → with_answer (answered_by answers) (Some b) ≡ answered_by (answers ++ answer_of line (Some reply) ∷ [])
     go true is =
-        same_counts (length lines + 1) (length (lines ++ line ∷ [])) (count_by (λ (r : ShellReply). not (is_refusal r)) replies) (count_by (λ (r : ShellReply). not (is_refusal r)) (replies ++ reply ∷ []))
-        (count_by is_refusal replies + 1) (count_by is_refusal (replies ++ reply ∷ [])) (sym (length-append lines (line ∷ [])))
-        (omega (arith, count_more (λ (r : ShellReply). not (is_refusal r)) replies reply, ap {B = ℕ} (λ (b : Bool). cond (not b) 1 0) is))
-        (omega (arith, count_more is_refusal replies reply, ap {B = ℕ} (λ (b : Bool). cond b 1 0) is))
+        let one : Answer = answer_of line (Some reply) in
+        let accepts : count_by is_accepted (answers ++ one ∷ []) ≡ count_by is_accepted answers + cond (not (is_refusal reply)) 1 0 = count_more is_accepted answers one in
+        let refuses : count_by is_refused (answers ++ one ∷ []) ≡ count_by is_refused answers + cond (is_refusal reply) 1 0 = count_more is_refused answers one in
+        same_counts (length answers + 1) (length (answers ++ one ∷ [])) (count_by is_accepted answers) (count_by is_accepted (answers ++ one ∷ []))
+        (count_by is_refused answers + 1) (count_by is_refused (answers ++ one ∷ [])) (sym (length-append answers (one ∷ [])))
+        (omega (arith, accepts, ap {B = ℕ} (λ (b : Bool). cond (not b) 1 0) is)) (omega (arith, refuses, ap {B = ℕ} (λ (b : Bool). cond b 1 0) is))
     go false is =
-        same_counts (length lines + 1) (length (lines ++ line ∷ [])) (count_by (λ (r : ShellReply). not (is_refusal r)) replies + 1) (count_by (λ (r : ShellReply). not (is_refusal r)) (replies ++ reply ∷ []))
-        (count_by is_refusal replies) (count_by is_refusal (replies ++ reply ∷ [])) (sym (length-append lines (line ∷ [])))
-        (omega (arith, count_more (λ (r : ShellReply). not (is_refusal r)) replies reply, ap {B = ℕ} (λ (b : Bool). cond (not b) 1 0) is))
-        (omega (arith, count_more is_refusal replies reply, ap {B = ℕ} (λ (b : Bool). cond b 1 0) is))
+        let one : Answer = answer_of line (Some reply) in
+        let accepts : count_by is_accepted (answers ++ one ∷ []) ≡ count_by is_accepted answers + cond (not (is_refusal reply)) 1 0 = count_more is_accepted answers one in
+        let refuses : count_by is_refused (answers ++ one ∷ []) ≡ count_by is_refused answers + cond (is_refusal reply) 1 0 = count_more is_refused answers one in
+        same_counts (length answers + 1) (length (answers ++ one ∷ [])) (count_by is_accepted answers + 1) (count_by is_accepted (answers ++ one ∷ []))
+        (count_by is_refused answers) (count_by is_refused (answers ++ one ∷ [])) (sym (length-append answers (one ∷ [])))
+        (omega (arith, accepts, ap {B = ℕ} (λ (b : Bool). cond (not b) 1 0) is)) (omega (arith, refuses, ap {B = ℕ} (λ (b : Bool). cond b 1 0) is))
 
 -- one line more, and no more replies than lines
 pub answer_within : (answered : Answered) (refused : Option Bool) (answered' : Answered) → answered' ≡ with_answer answered refused → answered.accepted ≤ answered.lines → answered.refused ≤ answered.lines
@@ -82,10 +90,10 @@ answer_within answered (Some false) answered' is a r =
 pub record LoadedSoFar (s : Setting) (all left : List (List ℕ)) (before now : CoreView) (answered : Answered) : Type 0 where
   pub lines : List (List ℕ)
   pub commands : List Command
-  pub replies : List ShellReply
+  pub answers : List Answer
   pub split : all ≡ lines ++ left
-  pub ran : Ran s before lines before now commands replies
-  pub counted : answered ≡ answered_by lines replies
+  pub ran : Ran s before lines before now commands answers
+  pub counted : answered ≡ answered_by answers
   pub still : s.is_manual ≡ false → none_under_way before ≡ true → none_under_way now ≡ true
 
 -- a line that is cut off ends the load
@@ -96,7 +104,7 @@ cut_load_line s line OutOfMemory before after runs = inr runs
 
 -- nothing ran yet
 pub loaded_start : (s : Setting) (all : List (List ℕ)) (before : CoreView) → LoadedSoFar s all all before before (record { lines = 0; accepted = 0; refused = 0 })
-loaded_start s all before = record { lines = []; commands = []; replies = []; split = refl; ran = (refl, refl, refl); counted = refl; still = λ auto none. none }
+loaded_start s all before = record { lines = []; commands = []; answers = []; split = refl; ran = (refl, refl, refl); counted = refl; still = λ auto none. none }
 
 -- one line more ran
 pub loaded_line : {s : Setting} {all left : List (List ℕ)} {before now : CoreView} {answered : Answered} → LoadedSoFar s all left before now answered
@@ -107,10 +115,10 @@ loaded_line {s} {all} {left} {before} {now} {answered} so_far line left' after r
     record {
       lines = so_far.lines ++ line ∷ [];
       commands = so_far.commands ++ commands_of now (shell_line line);
-      replies = so_far.replies ++ as_list told;
+      answers = so_far.answers ++ answer_of line told ∷ [];
       split = so_far.split ∙ ap (λ w. so_far.lines ++ w) next ∙ sym (append_assoc so_far.lines (line ∷ []) left');
-      ran = Ran_snoc s before so_far.lines line before now after so_far.commands so_far.replies told so_far.ran run;
-      counted = counts ∙ ap (λ a. with_answer a refused) so_far.counted ∙ ap (with_answer (answered_by so_far.lines so_far.replies)) is ∙ answered_more so_far.lines line so_far.replies told;
+      ran = Ran_snoc s before so_far.lines line before now after so_far.commands so_far.answers told so_far.ran run;
+      counted = counts ∙ ap (λ a. with_answer a refused) so_far.counted ∙ ap (with_answer (answered_by so_far.answers)) is ∙ answered_more so_far.answers line told;
       still = λ auto none. quiet_still after (comes auto (so_far.still auto none)).0;
     }
 
@@ -118,12 +126,12 @@ loaded_line {s} {all} {left} {before} {now} {answered} so_far line left' after r
 pub loaded_all : {s : Setting} {all left : List (List ℕ)} {before now : CoreView} {answered : Answered} → LoadedSoFar s all left before now answered → left ≡ [] → RunsLines s all before (Ok answered) now
 loaded_all {s} {all} {left} {before} {now} {answered} so_far none =
     let same : so_far.lines ≡ all = sym (so_far.split ∙ ap (λ w. so_far.lines ++ w) none ∙ append-nil so_far.lines) in
-    let P : List (List ℕ) → Type 0 = λ lines. Ran s before lines before now so_far.commands so_far.replies in
-    (so_far.commands, so_far.replies, subst P same so_far.ran, so_far.counted ∙ ap (λ lines. answered_by lines so_far.replies) same)
+    let P : List (List ℕ) → Type 0 = λ lines. Ran s before lines before now so_far.commands so_far.answers in
+    (so_far.commands, so_far.answers, subst P same so_far.ran, so_far.counted)
 
 -- memory is wanting for the next line
 pub loaded_short : {s : Setting} {all left : List (List ℕ)} {before now : CoreView} {answered : Answered} → LoadedSoFar s all left before now answered → RunsLines s all before (Err NoMemory) now
-loaded_short {s} {all} {left} {before} {now} {answered} so_far = (so_far.lines, left, now, so_far.commands, [], so_far.replies, so_far.split, so_far.ran, inl (refl, refl))
+loaded_short {s} {all} {left} {before} {now} {answered} so_far = (so_far.lines, left, now, so_far.commands, [], so_far.answers, so_far.split, so_far.ran, inl (refl, refl))
 
 -- the next line is cut off
 pub loaded_cut : {s : Setting} {all left : List (List ℕ)} {before now : CoreView} {answered : Answered} → LoadedSoFar s all left before now answered
@@ -132,14 +140,15 @@ loaded_cut {s} {all} {left} {before} {now} {answered} so_far line left' after Do
 loaded_cut {s} {all} {left} {before} {now} {answered} so_far line left' after (Usage at) next cut = absurd cut
 loaded_cut {s} {all} {left} {before} {now} {answered} so_far line left' after ReadFault next cut = absurd cut
 loaded_cut {s} {all} {left} {before} {now} {answered} so_far line left' after WriteFault next cut = absurd cut
-loaded_cut {s} {all} {left} {before} {now} {answered} so_far line left' after NoMemory next (inl same) = (so_far.lines, left, now, so_far.commands, [], so_far.replies, so_far.split, so_far.ran, inl (same, refl))
+loaded_cut {s} {all} {left} {before} {now} {answered} so_far line left' after NoMemory next (inl same) = (so_far.lines, left, now, so_far.commands, [], so_far.answers, so_far.split, so_far.ran, inl (same, refl))
 loaded_cut {s} {all} {left} {before} {now} {answered} so_far line left' after NoMemory next (inr (later, cuts)) =
-    (so_far.lines, line ∷ left', now, so_far.commands, later, so_far.replies, so_far.split ∙ ap (λ w. so_far.lines ++ w) next, so_far.ran, inr cuts)
+    (so_far.lines, line ∷ left', now, so_far.commands, later, so_far.answers, so_far.split ∙ ap (λ w. so_far.lines ++ w) next, so_far.ran, inr cuts)
 loaded_cut {s} {all} {left} {before} {now} {answered} so_far line left' after JournalFull next (later, cuts) =
-    (so_far.lines, line ∷ left', now, so_far.commands, later, so_far.replies, so_far.split ∙ ap (λ w. so_far.lines ++ w) next, so_far.ran, cuts)
+    (so_far.lines, line ∷ left', now, so_far.commands, later, so_far.answers, so_far.split ∙ ap (λ w. so_far.lines ++ w) next, so_far.ran, cuts)
 loaded_cut {s} {all} {left} {before} {now} {answered} so_far line left' after (LineTooLong at) next cut = absurd cut
 loaded_cut {s} {all} {left} {before} {now} {answered} so_far line left' after Unsettled next (later, cuts) =
-    (so_far.lines, line ∷ left', now, so_far.commands, later, so_far.replies, so_far.split ∙ ap (λ w. so_far.lines ++ w) next, so_far.ran, cuts)
+    (so_far.lines, line ∷ left', now, so_far.commands, later, so_far.answers, so_far.split ∙ ap (λ w. so_far.lines ++ w) next, so_far.ran, cuts)
+loaded_cut {s} {all} {left} {before} {now} {answered} so_far line left' after (Refused at) next cut = absurd cut
 
 -- ---- the whole
 
@@ -153,108 +162,111 @@ grew_cut s NoMemory before after others commands (inr cuts) = grew_cuts_first s 
 grew_cut s JournalFull before after others commands cuts = grew_cuts_first s others NoRoom before after commands cuts
 grew_cut s (LineTooLong at) before after others commands cut = absurd cut
 grew_cut s Unsettled before after others commands cuts = grew_cuts_first s others StillDue before after commands cuts
+grew_cut s (Refused at) before after others commands cut = absurd cut
 
 module _ (refuses : List ℕ → List Property → Told → Bool) (load : LoadNumbers) (before after : CoreView) (written written' : Option (List ℕ)) where
   -- a load that is cut off
   pub load_cut : (status : Status) → RunsLines (load_setting refuses) (lines_of_load load) before (Err status) after → RunsLoad refuses load before after written written status
-  load_cut Done (lines, others, between, commands, later, replies, first, ran, cut) = absurd cut
-  load_cut (Usage at) (lines, others, between, commands, later, replies, first, ran, cut) = absurd cut
-  load_cut ReadFault (lines, others, between, commands, later, replies, first, ran, cut) = absurd cut
-  load_cut WriteFault (lines, others, between, commands, later, replies, first, ran, cut) = absurd cut
-  load_cut NoMemory (lines, others, between, commands, later, replies, first, ran, cut) = record {
+  load_cut Done (lines, others, between, commands, later, answers, first, ran, cut) = absurd cut
+  load_cut (Usage at) (lines, others, between, commands, later, answers, first, ran, cut) = absurd cut
+  load_cut ReadFault (lines, others, between, commands, later, answers, first, ran, cut) = absurd cut
+  load_cut WriteFault (lines, others, between, commands, later, answers, first, ran, cut) = absurd cut
+  load_cut NoMemory (lines, others, between, commands, later, answers, first, ran, cut) = record {
     lines = lines;
     others = others;
     between = between;
     commands = commands;
     later = later;
-    replies = replies;
+    answers = answers;
     front = [];
     first = first;
     ran = ran;
     stops = (cut, refl);
-    grew = grew_trans before between after commands later (grew_ran (load_setting refuses) before lines before between commands replies ran) (grew_cut (load_setting refuses) NoMemory between after others later cut);
+    grew = grew_trans before between after commands later (grew_ran (load_setting refuses) before lines before between commands answers ran) (grew_cut (load_setting refuses) NoMemory between after others later cut);
     wrote = Appends-nil written;
   }
-  load_cut JournalFull (lines, others, between, commands, later, replies, first, ran, cut) = record {
+  load_cut JournalFull (lines, others, between, commands, later, answers, first, ran, cut) = record {
     lines = lines;
     others = others;
     between = between;
     commands = commands;
     later = later;
-    replies = replies;
+    answers = answers;
     front = [];
     first = first;
     ran = ran;
     stops = (cut, refl);
-    grew = grew_trans before between after commands later (grew_ran (load_setting refuses) before lines before between commands replies ran) (grew_cut (load_setting refuses) JournalFull between after others later cut);
+    grew = grew_trans before between after commands later (grew_ran (load_setting refuses) before lines before between commands answers ran) (grew_cut (load_setting refuses) JournalFull between after others later cut);
     wrote = Appends-nil written;
   }
-  load_cut (LineTooLong at) (lines, others, between, commands, later, replies, first, ran, cut) = absurd cut
-  load_cut Unsettled (lines, others, between, commands, later, replies, first, ran, cut) = record {
+  load_cut (LineTooLong at) (lines, others, between, commands, later, answers, first, ran, cut) = absurd cut
+  load_cut Unsettled (lines, others, between, commands, later, answers, first, ran, cut) = record {
     lines = lines;
     others = others;
     between = between;
     commands = commands;
     later = later;
-    replies = replies;
+    answers = answers;
     front = [];
     first = first;
     ran = ran;
     stops = (cut, refl);
-    grew = grew_trans before between after commands later (grew_ran (load_setting refuses) before lines before between commands replies ran) (grew_cut (load_setting refuses) Unsettled between after others later cut);
+    grew = grew_trans before between after commands later (grew_ran (load_setting refuses) before lines before between commands answers ran) (grew_cut (load_setting refuses) Unsettled between after others later cut);
     wrote = Appends-nil written;
   }
+  load_cut (Refused at) (lines, others, between, commands, later, answers, first, ran, cut) = absurd cut
 
   -- a load whose lines all ran
   pub load_told : (status : Status) (answered : Answered) → RunsLines (load_setting refuses) (lines_of_load load) before (Ok answered) after → TellsCounts answered after written written' status
       → RunsLoad refuses load before after written written' status
-  load_told Done answered (commands, replies, ran, counted) told = record {
+  load_told Done answered (commands, answers, ran, counted) told = record {
     lines = lines_of_load load;
     others = [];
     between = after;
     commands = commands;
     later = [];
-    replies = replies;
+    answers = answers;
     front = text_of_counts answered after;
     first = sym (append-nil (lines_of_load load));
     ran = ran;
     stops = ((refl, refl), refl, ap (λ a. text_of_counts a after) counted);
-    grew = grew_same before after commands (commands ++ []) (sym (append-nil commands)) (grew_ran (load_setting refuses) before (lines_of_load load) before after commands replies ran);
+    grew = grew_same before after commands (commands ++ []) (sym (append-nil commands)) (grew_ran (load_setting refuses) before (lines_of_load load) before after commands answers ran);
     wrote = told;
   }
   load_told (Usage at) answered ran told = absurd told
   load_told ReadFault answered ran told = absurd told
-  load_told WriteFault answered (commands, replies, ran, counted) (count, below, wrote) = record {
+  load_told WriteFault answered (commands, answers, ran, counted) (count, below, wrote) = record {
     lines = lines_of_load load;
     others = [];
     between = after;
     commands = commands;
     later = [];
-    replies = replies;
+    answers = answers;
     front = take count (text_of_counts answered after);
     first = sym (append-nil (lines_of_load load));
     ran = ran;
     stops = ((refl, refl), refl, (count, omega (arith, below, ap (λ a. length (text_of_counts a after)) counted), ap (λ a. take count (text_of_counts a after)) counted));
-    grew = grew_same before after commands (commands ++ []) (sym (append-nil commands)) (grew_ran (load_setting refuses) before (lines_of_load load) before after commands replies ran);
+    grew = grew_same before after commands (commands ++ []) (sym (append-nil commands)) (grew_ran (load_setting refuses) before (lines_of_load load) before after commands answers ran);
     wrote = wrote;
   }
-  load_told NoMemory answered (commands, replies, ran, counted) same = record {
+  load_told NoMemory answered (commands, answers, ran, counted) same = record {
     lines = lines_of_load load;
     others = [];
     between = after;
     commands = commands;
     later = [];
-    replies = replies;
+    answers = answers;
     front = [];
     first = sym (append-nil (lines_of_load load));
     ran = ran;
     stops = (inl (refl, refl), refl);
-    grew = grew_same before after commands (commands ++ []) (sym (append-nil commands)) (grew_ran (load_setting refuses) before (lines_of_load load) before after commands replies ran);
+    grew = grew_same before after commands (commands ++ []) (sym (append-nil commands)) (grew_ran (load_setting refuses) before (lines_of_load load) before after commands answers ran);
     wrote = subst (λ w. Appends written w []) (sym same) (Appends-nil written);
   }
   load_told JournalFull answered ran told = absurd told
   load_told (LineTooLong at) answered ran told = absurd told
   load_told Unsettled answered ran told = absurd told
+  load_told (Refused at) answered ran told = absurd told
 
   -- where the sink didn't fail
   pub load_ends : (status : Status) (form : Form) (R W : Type 0) → RunsLoad refuses load before after written written' status → HasCause status (Ok form) R W → (W → ⊥) → EndsLoad refuses load before status
@@ -263,9 +275,10 @@ module _ (refuses : List ℕ → List Property → Told → Bool) (load : LoadNu
   load_ends ReadFault form R W ran cause writes = absurd ran.stops.0
   load_ends WriteFault form R W ran cause writes = absurd (writes cause)
   load_ends NoMemory form R W ran cause writes = λ room turns. inl refl
-  load_ends JournalFull form R W ran cause writes = λ room turns. absurd (room (ran.lines, ran.others, ran.between, after, ran.commands, ran.later, ran.replies, ran.first, ran.ran, ran.stops.0))
+  load_ends JournalFull form R W ran cause writes = λ room turns. absurd (room (ran.lines, ran.others, ran.between, after, ran.commands, ran.later, ran.answers, ran.first, ran.ran, ran.stops.0))
   load_ends (LineTooLong at) form R W ran cause writes = absurd ran.stops.0
-  load_ends Unsettled form R W ran cause writes = λ room turns. absurd (turns (ran.lines, ran.others, ran.between, after, ran.commands, ran.later, ran.replies, ran.first, ran.ran, ran.stops.0))
+  load_ends Unsettled form R W ran cause writes = λ room turns. absurd (turns (ran.lines, ran.others, ran.between, after, ran.commands, ran.later, ran.answers, ran.first, ran.ran, ran.stops.0))
+  load_ends (Refused at) form R W ran cause writes = absurd ran.stops.0
 
 -- ---- causes and counts of faults
 
@@ -279,27 +292,30 @@ cause_told NoMemory answered p written written' form R count count' told is = tt
 cause_told JournalFull answered p written written' form R count count' told is = absurd told
 cause_told (LineTooLong at) answered p written written' form R count count' told is = absurd told
 cause_told Unsettled answered p written written' form R count count' told is = absurd told
+cause_told (Refused at) answered p written written' form R count count' told is = absurd told
 
 -- a load that is cut off is no failure of an end
 pub cause_cut : (status : Status) (s : Setting) (all : List (List ℕ)) (before after : CoreView) (form : Form) (R W : Type 0) → RunsLines s all before (Err status) after → HasCause status (Ok form) R W
-cause_cut Done s all before after form R W (lines, others, between, commands, later, replies, first, ran, cut) = absurd cut
-cause_cut (Usage at) s all before after form R W (lines, others, between, commands, later, replies, first, ran, cut) = absurd cut
-cause_cut ReadFault s all before after form R W (lines, others, between, commands, later, replies, first, ran, cut) = absurd cut
-cause_cut WriteFault s all before after form R W (lines, others, between, commands, later, replies, first, ran, cut) = absurd cut
+cause_cut Done s all before after form R W (lines, others, between, commands, later, answers, first, ran, cut) = absurd cut
+cause_cut (Usage at) s all before after form R W (lines, others, between, commands, later, answers, first, ran, cut) = absurd cut
+cause_cut ReadFault s all before after form R W (lines, others, between, commands, later, answers, first, ran, cut) = absurd cut
+cause_cut WriteFault s all before after form R W (lines, others, between, commands, later, answers, first, ran, cut) = absurd cut
 cause_cut NoMemory s all before after form R W ran = tt
 cause_cut JournalFull s all before after form R W ran = tt
-cause_cut (LineTooLong at) s all before after form R W (lines, others, between, commands, later, replies, first, ran, cut) = absurd cut
+cause_cut (LineTooLong at) s all before after form R W (lines, others, between, commands, later, answers, first, ran, cut) = absurd cut
 cause_cut Unsettled s all before after form R W ran = tt
+cause_cut (Refused at) s all before after form R W ran = tt
 
 pub faults_cut : (status : Status) (s : Setting) (all : List (List ℕ)) (before after : CoreView) (count : ℕ) → RunsLines s all before (Err status) after → write_faults_after count status ≡ count
 faults_cut Done s all before after count ran = refl
 faults_cut (Usage at) s all before after count ran = refl
 faults_cut ReadFault s all before after count ran = refl
-faults_cut WriteFault s all before after count (lines, others, between, commands, later, replies, first, ran, cut) = absurd cut
+faults_cut WriteFault s all before after count (lines, others, between, commands, later, answers, first, ran, cut) = absurd cut
 faults_cut NoMemory s all before after count ran = refl
 faults_cut JournalFull s all before after count ran = refl
 faults_cut (LineTooLong at) s all before after count ran = refl
 faults_cut Unsettled s all before after count ran = refl
+faults_cut (Refused at) s all before after count ran = refl
 
 -- a run that reads nothing isn't ended by its source
 pub cause_unread : (status : Status) (form : Form) (R W : Type 0) → HasCause status (Ok form) ⊥ W → HasCause status (Ok form) R W
@@ -311,6 +327,7 @@ cause_unread NoMemory form R W cause = tt
 cause_unread JournalFull form R W cause = tt
 cause_unread (LineTooLong at) form R W cause = tt
 cause_unread Unsettled form R W cause = tt
+cause_unread (Refused at) form R W cause = tt
 
 pub reads_unread : (status : Status) (form : Form) (W : Type 0) (count : ℕ) → HasCause status (Ok form) ⊥ W → read_faults_after count status ≡ count
 reads_unread Done form W count cause = refl
@@ -321,3 +338,4 @@ reads_unread NoMemory form W count cause = refl
 reads_unread JournalFull form W count cause = refl
 reads_unread (LineTooLong at) form W count cause = refl
 reads_unread Unsettled form W count cause = refl
+reads_unread (Refused at) form W count cause = refl

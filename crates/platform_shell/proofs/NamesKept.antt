@@ -13,6 +13,7 @@ use Rattle.shell_lang.specs.declared.shell_reply.ShellReply.{ShellReply}
 use Rattle.shell_lang.specs.ShellLines.{Asked, shell_line}
 use Rattle.platform_hall.specs.Platforms.{world}
 use Rattle.platform_shell.specs.Asks.{Asks, Setting, commands_of}
+use Rattle.platform_shell.specs.LineTexts.{Answer}
 use Rattle.platform_shell.specs.Runs.{Ran}
 use Rattle.platform_shell.proofs.LineGrowth.{grew_asks, grew_ran}
 use Rattle.platform_shell.proofs.LineNames.{AskedNamed, CommandNamed, line_named}
@@ -61,9 +62,9 @@ same_all commands commands' same all = let P : List Command → Type 0 = λ cs. 
 both_all : (some others : List Command) → AllNamed some → AllNamed others → AllNamed (some ++ others)
 both_all some others first rest command h = elim (in_either some others command h) [ inl l ↦ first command l | inr r ↦ rest command r ]
 
-ran_all : (s : Setting) (first : CoreView) (lines : List (List ℕ)) (before after : CoreView) (commands : List Command) (replies : List ShellReply) → Ran s first lines before after commands replies → AllNamed commands
-ran_all s first [] before after commands replies (same, none, nothing) = same_all [] commands (sym none) none_named
-ran_all s first (line ∷ lines) before after commands replies (between, told, later, rest, runs, ran, all, whole) =
+ran_all : (s : Setting) (first : CoreView) (lines : List (List ℕ)) (before after : CoreView) (commands : List Command) (answers : List Answer) → Ran s first lines before after commands answers → AllNamed commands
+ran_all s first [] before after commands answers (same, none, nothing) = same_all [] commands (sym none) none_named
+ran_all s first (line ∷ lines) before after commands answers (between, told, later, rest, runs, ran, all, whole) =
     same_all (commands_of before (shell_line line) ++ later) commands (sym all)
     (both_all (commands_of before (shell_line line)) later (line_all line before) (ran_all s first lines between after later rest ran))
 
@@ -71,10 +72,10 @@ pub asks_named : (s : Setting) (line : List ℕ) (before after : CoreView) (told
 asks_named s line before after told asks named =
     grew_named before after (commands_of before (shell_line line)) (grew_asks s (shell_line line) before after told asks) (line_all line before) named
 
-pub ran_named : (s : Setting) (first before after : CoreView) (lines : List (List ℕ)) (commands : List Command) (replies : List ShellReply) → Ran s first lines before after commands replies
+pub ran_named : (s : Setting) (first before after : CoreView) (lines : List (List ℕ)) (commands : List Command) (answers : List Answer) → Ran s first lines before after commands answers
     → HaveOwnNames (world before) → HaveOwnNames (world after)
-ran_named s first before after lines commands replies ran named =
-    grew_named before after commands (grew_ran s first lines before after commands replies ran) (ran_all s first lines before after commands replies ran) named
+ran_named s first before after lines commands answers ran named =
+    grew_named before after commands (grew_ran s first lines before after commands answers ran) (ran_all s first lines before after commands answers ran) named
 
 pub new_named : (limits : Limits) → HaveOwnNames (world (record { limits = limits; journal = [] }))
 unfolding world_of

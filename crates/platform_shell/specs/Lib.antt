@@ -7,6 +7,7 @@ pub mod Asks
 pub mod Cuts
 pub mod Rests
 pub mod Carries
+pub mod LineTexts
 pub mod Runs
 pub mod Answers
 pub mod Loads

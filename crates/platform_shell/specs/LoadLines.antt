@@ -11,7 +11,8 @@ use Rattle.platform_shell.specs.declared.status.Status.{Status}
 use Rattle.platform_shell.specs.declared.status.Status.TheVariants.{Done, WriteFault, NoMemory, JournalFull, Unsettled}
 use Rattle.platform_shell.specs.Asks.{Setting}
 use Rattle.platform_shell.specs.Carries.{RunsAsked}
-use Rattle.platform_shell.specs.Loads.{CutsLoad, answered_by, is_refusal, text_of_counts}
+use Rattle.platform_shell.specs.LineTexts.{Answer, is_refusal}
+use Rattle.platform_shell.specs.Loads.{CutsLoad, answered_by, text_of_counts}
 use Rattle.platform_shell.specs.Runs.{Ran}
 
 -- one line more, and whether its reply is a refusal, where it has one
@@ -30,10 +31,10 @@ RunsLoadLine s line before (Err _) after = ⊥
 
 -- all lines run, or the run is cut off behind some
 abbrev pub RunsLines : Setting → List (List ℕ) → CoreView → Result Answered Status → CoreView → Type 0
-RunsLines s lines before (Ok answered) after = (commands : List Command) × (replies : List ShellReply) × Ran s before lines before after commands replies × (answered ≡ answered_by lines replies)
+RunsLines s lines before (Ok answered) after = (commands : List Command) × (answers : List Answer) × Ran s before lines before after commands answers × (answered ≡ answered_by answers)
 RunsLines s all before (Err status) after =
-    (lines : List (List ℕ)) × (others : List (List ℕ)) × (between : CoreView) × (commands : List Command) × (later : List Command) × (replies : List ShellReply)
-    × (all ≡ lines ++ others) × Ran s before lines before between commands replies × CutsLoad s status between after others later
+    (lines : List (List ℕ)) × (others : List (List ℕ)) × (between : CoreView) × (commands : List Command) × (later : List Command) × (answers : List Answer)
+    × (all ≡ lines ++ others) × Ran s before lines before between commands answers × CutsLoad s status between after others later
 
 -- the counts are written whole, or a front of them where the sink fails; want of memory writes nothing
 abbrev pub TellsCounts : Answered → CoreView → Option (List ℕ) → Option (List ℕ) → Status → Type 0

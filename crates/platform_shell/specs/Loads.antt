@@ -1,5 +1,5 @@
 -- `load`: its lines run as those of a script do, and behind the last one four lines of counts are written. Our own form.
-use Rattle.std.specs.Prelude.{◌≡◌, ◌<◌, ◌+◌, ℕ, List, [], ◌++◌, length, take, filter, count_by, Bool, true, false, not, Option, ◌⊎◌}
+use Rattle.std.specs.Prelude.{◌≡◌, ◌<◌, ◌+◌, ℕ, List, [], ◌++◌, ◌&&◌, length, take, filter, count_by, Bool, false, not, is_some, Option, ◌⊎◌}
 use Rattle.std.specs.Io.KnownBytes.{Appends}
 use Rattle.kind_trait.specs.Meanings.{Told}
 use Rattle.platform_hall.specs.Cores.{CoreView}
@@ -8,8 +8,6 @@ use Rattle.prop_map.specs.declared.properties.Property.{Property}
 use Rattle.scr_world.specs.declared.command.Command.{Command}
 use Rattle.scr_world.specs.Instances.{is_active_instance}
 use Rattle.shell_lang.specs.declared.load_counts.LoadCounts.{LoadCounts}
-use Rattle.shell_lang.specs.declared.shell_reply.ShellReply.{ShellReply}
-use Rattle.shell_lang.specs.declared.shell_reply.ShellReply.TheVariants.{Refused}
 use Rattle.shell_lang.specs.Loads.{counts_text, load_lines}
 use Rattle.turn_runner.specs.declared.settle_fault.SettleFault.TheVariants.{Unsettled as StillDue, JournalFull as NoRoom, OutOfMemory}
 use Rattle.platform_shell.specs.declared.form.LoadNumbers.{LoadNumbers}
@@ -18,6 +16,7 @@ use Rattle.platform_shell.specs.declared.status.Status.{Status}
 use Rattle.platform_shell.specs.declared.status.Status.TheVariants.{Done, WriteFault, NoMemory, JournalFull, Unsettled}
 use Rattle.platform_shell.specs.Asks.{Setting}
 use Rattle.platform_shell.specs.Cuts.{CutsFirst, Stays}
+use Rattle.platform_shell.specs.LineTexts.{Answer, is_refused}
 use Rattle.platform_shell.specs.Runs.{Grew, IsCutOff, Ran}
 
 -- the lines of a load
@@ -30,13 +29,13 @@ load_setting refuses = record { is_manual = false; refuses = refuses }
 
 -- ---- the counts
 
-abbrev pub is_refusal : ShellReply → Bool
-is_refusal (Refused refusal) = true
-is_refusal _ = false
+-- whether a line has a reply that isn't a refusal
+abbrev pub is_accepted : Answer → Bool
+is_accepted answer = is_some answer.told && not (is_refused answer)
 
 -- how many lines ran, and how their replies divide
-abbrev pub answered_by : List (List ℕ) → List ShellReply → Answered
-answered_by lines replies = record { lines = length lines; accepted = count_by (λ (r : ShellReply). not (is_refusal r)) replies; refused = count_by is_refusal replies }
+abbrev pub answered_by : List Answer → Answered
+answered_by answers = record { lines = length answers; accepted = count_by is_accepted answers; refused = count_by is_refused answers }
 
 -- with them what the journal comes to: its entries, the turns that began, the open component configurations, the active instances
 abbrev pub counts_with : Answered → CoreView → LoadCounts
@@ -76,13 +75,13 @@ pub record RunsLoad (refuses : List ℕ → List Property → Told → Bool) (lo
   pub between : CoreView
   pub commands : List Command
   pub later : List Command
-  pub replies : List ShellReply
+  pub answers : List Answer
   pub front : List ℕ
   pub first : lines_of_load load ≡ lines ++ others
   -- each in its turn, as a line of `script` runs
-  pub ran : Ran (load_setting refuses) before lines before between commands replies
+  pub ran : Ran (load_setting refuses) before lines before between commands answers
   -- behind them the load ended with its status; at Done and at a failed sink all lines ran, and the counts are those of the journal then
-  pub stops : StopsLoad (load_setting refuses) status between after others later (text_of_counts (answered_by lines replies) after) front
+  pub stops : StopsLoad (load_setting refuses) status between after others later (text_of_counts (answered_by answers) after) front
   pub grew : Grew before after (commands ++ later)
   pub wrote : Appends written_before written_after front
 

@@ -1,5 +1,6 @@
 -- The run of the program. Our own form.
-use Rattle.std.specs.Prelude.{◌≡◌, ℕ, List, [], Bool, Option, Result, Ok, Err, ◌⊎◌}
+use Rattle.std.specs.Prelude.{◌≡◌, ◌<◌, ℕ, List, [], length, take, Bool, Option, Some, None, Result, Ok, Err, ◌⊎◌}
+use Rattle.std.specs.Io.KnownBytes.{Appends}
 use Rattle.fault_count.specs.Steps.{Rose}
 use Rattle.kind_trait.specs.Meanings.{Told}
 use Rattle.platform_hall.specs.Cores.{CoreView}
@@ -7,10 +8,11 @@ use Rattle.prop_map.specs.declared.properties.Property.{Property}
 use Rattle.scr_world.specs.declared.command.Limits.{Limits}
 use Rattle.scr_world.specs.Legal.{IsLegal}
 use Rattle.scr_world.specs.Steps.{history_of}
+use Rattle.platform_shell.specs.declared.form.AskedText.{AskedText}
 use Rattle.platform_shell.specs.declared.status.Status.{Status}
-use Rattle.platform_shell.specs.declared.status.Status.TheVariants.{NoMemory}
+use Rattle.platform_shell.specs.declared.status.Status.TheVariants.{Done, WriteFault, NoMemory}
 use Rattle.platform_shell.specs.FormRuns.{EndsForm, FaultsIn, RunsForm}
-use Rattle.platform_shell.specs.Forms.{form_of}
+use Rattle.platform_shell.specs.Forms.{form_of, text_asked}
 use Rattle.platform_shell.specs.Statuses.{HasCause, code_of, read_faults_after, write_faults_after}
 
 -- an end before and after a run: the bytes that it has left or has taken, where it tells them, and how often it failed
@@ -46,8 +48,30 @@ abbrev pub RunsNew : (List ℕ → List Property → Told → Bool) → List (Li
 RunsNew refuses words input input' output output' status =
     ((after : CoreView) × RunsWords refuses words new_platform after input input' output output' status) ⊎ ((status ≡ NoMemory) × Unused input input' output output')
 
--- The program ends with the number of the status of that run; where its words can't be read, with that of the status that tells why, and nothing is read or
+-- a text is written whole, or a front of it where the sink fails; where memory is wanting, nothing of it
+abbrev pub WritesText : List ℕ → Option (List ℕ) → Option (List ℕ) → Status → Type 0
+WritesText text written written' Done = Appends written written' text
+WritesText text written written' WriteFault = (count : ℕ) × (count < length text) × Appends written written' (take count text)
+WritesText text written written' NoMemory = written' ≡ written
+WritesText text written written' _ = ⊥
+
+-- some text is written, nothing is read, and no run is begun
+pub record GivesText (input input' output output' : EndView) (status : Status) : Type 0 where
+  pub text : List ℕ
+  pub wrote : WritesText text output.bytes output'.bytes status
+  pub unread : input' ≡ input
+  pub write_faults : output'.faults ≡ write_faults_after output.faults status
+
+-- a text is given where the words ask for one, and else they are run
+abbrev pub GivesOrRuns : Option AskedText → (List ℕ → List Property → Told → Bool) → List (List ℕ) → EndView → EndView → EndView → EndView → Status → Type 0
+GivesOrRuns (Some asked) refuses words input input' output output' status = GivesText input input' output output' status
+GivesOrRuns None refuses words input input' output output' status = RunsNew refuses words input input' output output' status
+
+abbrev pub AnswersWords : (List ℕ → List Property → Told → Bool) → List (List ℕ) → EndView → EndView → EndView → EndView → Status → Type 0
+AnswersWords refuses words input input' output output' status = GivesOrRuns (text_asked words) refuses words input input' output output' status
+
+-- The program ends with the number of the status of its answer; where its words can't be read, with that of the status that tells why, and nothing is read or
 -- written.
 abbrev pub RunsProgram : (List ℕ → List Property → Told → Bool) → Result (List (List ℕ)) Status → EndView → EndView → EndView → EndView → ℕ → Type 0
-RunsProgram refuses (Ok words) input input' output output' code = (status : Status) × (code ≡ code_of status) × RunsNew refuses words input input' output output' status
+RunsProgram refuses (Ok words) input input' output output' code = (status : Status) × (code ≡ code_of status) × AnswersWords refuses words input input' output output' status
 RunsProgram refuses (Err status) input input' output output' code = (code ≡ code_of status) × Unused input input' output output'

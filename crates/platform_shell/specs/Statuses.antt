@@ -5,7 +5,7 @@ use Rattle.turn_runner.specs.declared.settle_fault.SettleFault.{SettleFault}
 use Rattle.turn_runner.specs.declared.settle_fault.SettleFault.TheVariants.{Unsettled as StillDue, JournalFull as NoRoom, OutOfMemory}
 use Rattle.platform_shell.specs.declared.form.Form.{Form}
 use Rattle.platform_shell.specs.declared.status.Status.{Status}
-use Rattle.platform_shell.specs.declared.status.Status.TheVariants.{Done, Usage, ReadFault, WriteFault, NoMemory, JournalFull, LineTooLong, Unsettled}
+use Rattle.platform_shell.specs.declared.status.Status.TheVariants.{Done, Usage, ReadFault, WriteFault, NoMemory, JournalFull, LineTooLong, Unsettled, Refused}
 
 -- the number of a status, with which the program ends
 abbrev pub code_of : Status → ℕ
@@ -17,6 +17,7 @@ code_of NoMemory = 4
 code_of JournalFull = 5
 code_of (LineTooLong line) = 6
 code_of Unsettled = 7
+code_of (Refused line) = 10
 
 -- the statuses of a run that came to an end of its script
 abbrev pub IsEnding : Status → Type 0

@@ -1,4 +1,4 @@
-//! The run that the words ask for.
+//! The run that the words ask for, of which nobody is told.
 ghost use Rattle.std.specs.Prelude.{◌≡◌, map};
 ghost use Rattle.fault_count.specs.Steps.{Rose};
 ghost use Rattle.scr_world.specs.Legal.{IsLegal};
@@ -7,29 +7,29 @@ ghost use Rattle.platform_shell.specs.FormRuns.{EndsForm, FaultsIn, RunsForm};
 ghost use Rattle.platform_shell.specs.Forms.{form_of};
 ghost use Rattle.platform_shell.specs.Statuses.{HasCause, read_faults_after, write_faults_after};
 
-use crate::form_words::form_of;
-use crate::load_run::run_load;
-use crate::script_run::run_lines;
-use crate::{Form, Platform, Status};
+use crate::tells::Nobody;
+use crate::told_run::run_told;
+use crate::{Platform, Status};
 use fault_count::{Sink, Source};
 use kind_trait::Kinds;
 use std::alloc::Global;
 
 /// Runs what the words ask for: a script or a load. Other words end the run with `Usage` before anything is read.
 ///
-/// In `script` and `script --manual` the lines of the input are run up to `quit`, to a line that is too long or to the end of the
-/// input, and the reply of each is written whole before the next line is run. In `script` the platform is settled behind each
-/// line, also one without a reply, and then its reply is written: where no turn was under way at the start, the platform is quiet
-/// and right whenever a reply is written. In `script --manual` turns run where a line asks for it alone. A settling that begins
-/// on a calm platform, in which no creation or activation fails, closes no component configuration and needs at most as many
-/// turns as the settle bound says. `load` is [`run_load`], and reads nothing.
+/// In `script` the lines of the input are run up to `quit`, to a line that is too long or to the end of the input, and the reply of
+/// each is written whole before the next line is run. Without `--manual` the platform is settled behind each line, also one without
+/// a reply, and then its reply is written: where no turn was under way at the start, the platform is quiet and right whenever a
+/// reply is written. With `--manual` turns run where a line asks for it alone. A settling that begins on a calm platform, in which
+/// no creation or activation fails, closes no component configuration and needs at most as many turns as the settle bound says.
+/// With `--echo` a line stands before its reply, in one text with it, and is written where it has no reply too. With `--strict` the
+/// first line that is refused ends the run with `Refused`, behind its whole reply. `load` is [`run_load`], and reads nothing.
 ///
 /// A line ends the run with `JournalFull` where its command, its turn or a turn of its settling finds no room in the journal,
 /// with `Unsettled` where the settling ran as many turns as the limit says and one is still due, with `NoMemory`, and with
-/// `WriteFault` where the sink fails before it has taken all of the reply's text: it has taken a front of it. Nothing else of that
-/// line's reply is written, no further line is run, and the replies of the lines before it are written whole. Where neither end
-/// fails and none of these comes, the run ends with all replies written: `LineTooLong` where a line before `quit` is too long,
-/// else `Done`.
+/// `WriteFault` where the sink fails before it has taken all of the line's text: it has taken a front of it. Nothing else of that
+/// line's text is written, no further line is run, and the texts of the lines before it are written whole. Where neither end
+/// fails, no line is refused in a strict run and none of these comes, the run ends with all replies written: `LineTooLong` where a
+/// line before `quit` is too long, else `Done`.
 ///
 /// The first failure of the source ends the run with `ReadFault`, the first of the sink with `WriteFault`, and no failure is
 /// passed over: in any other case both counts of faults are as they were. Where the source fails each whole line that was read
@@ -58,16 +58,5 @@ pub fn run_script<K: Kinds + Drop, In: Source, Out: Sink>(
     ensures legal { IsLegal platform.new.limits.journal (history_of platform.new.journal) }
     ensures limits { platform.new.limits ≡ platform.old.limits }
 {
-    match form_of(words) {
-        Ok(Form::Script(options)) => {
-            let status = run_lines(alloc, options.manual, platform, input, output);
-            platform.core();
-            status
-        }
-        Ok(Form::Load(load)) => run_load(alloc, platform, load, output),
-        Err(at) => {
-            platform.core();
-            Status::Usage { at }
-        }
-    }
+    run_told(alloc, platform, words, input, output, &mut Nobody)
 }

@@ -1,5 +1,5 @@
 //! The words that ask for a run.
-ghost use Rattle.platform_shell.specs.Forms.{IsLoad, IsWithin, after_bundles, after_commands, after_load, after_script, after_seed, form_of, number_within};
+ghost use Rattle.platform_shell.specs.Forms.{IsLoad, IsWithin, after_bundles, after_commands, after_load, after_options, after_seed, form_of, no_options, number_within, with_option};
 ghost use Rattle.std.specs.Prelude.{◌≡◌, ◌<◌, ◌≤◌, IfOk, IfSome, map};
 
 use crate::{Form, LoadNumbers, ScriptOptions};
@@ -9,8 +9,9 @@ const MOST_BUNDLES: u64 = 100;
 
 const MOST_COMMANDS: u64 = 100_000;
 
-/// The form that these words are: `script`, `script --manual`, or `load SEED BUNDLES COMMANDS` with numbers of 1 to 20
-/// decimal digits, a seed of 64 bits, 1 to 100 bundles and 0 to 100,000 commands.
+/// The form that these words are: `script` with `--manual`, `--echo`, `--strict` and `--explain`, each at most once and in any
+/// order, or `load SEED BUNDLES COMMANDS` with numbers of 1 to 20 decimal digits, a seed of 64 bits, 1 to 100 bundles and 0 to
+/// 100,000 commands.
 ///
 /// # Errors
 /// Exactly where the words are no form: the number, from 0 on, of the first word with which no form continues, or how many
@@ -28,14 +29,45 @@ pub fn form_of(words: &[&str]) -> Result<Form, u64>
 
 // What follows `script`.
 fn script_behind(words: &[&str]) -> Result<Form, u64>
-    ensures form { result ≡ after_script (map (λ word. word.now) words.now) }
+    ensures form { result ≡ after_options no_options 1 (map (λ word. word.now) words.now) }
     ensures within { IfOk result IsWithin }
 {
-    match words {
-        [] => Ok(Form::Script(ScriptOptions { manual: false })),
-        [word] if *word == "--manual" => Ok(Form::Script(ScriptOptions { manual: true })),
-        [word, _, ..] if *word == "--manual" => Err(2),
-        _ => Err(1),
+    let mut options = ScriptOptions::NONE;
+    for (index, word) in words.iter().enumerate() {
+        match with_option(options, word) {
+            Some(more) => options = more,
+            None => return Err(index as u64 + 1),
+        }
+    }
+    Ok(Form::Script(options))
+}
+
+// With the option of this word too, where it is one that isn't there yet.
+fn with_option(options: ScriptOptions, word: &str) -> Option<ScriptOptions>
+    ensures { result ≡ with_option options word.now }
+{
+    if word == "--manual" && !options.manual {
+        Some(ScriptOptions {
+            manual: true,
+            ..options
+        })
+    } else if word == "--echo" && !options.echo {
+        Some(ScriptOptions {
+            echo: true,
+            ..options
+        })
+    } else if word == "--strict" && !options.strict {
+        Some(ScriptOptions {
+            strict: true,
+            ..options
+        })
+    } else if word == "--explain" && !options.explain {
+        Some(ScriptOptions {
+            explain: true,
+            ..options
+        })
+    } else {
+        None
     }
 }
 

@@ -1,10 +1,12 @@
 //! The shell of the platform: lines in, replies out.
 //!
 //! [`run_script`] runs what the words of a command line ask for: the lines of a source, each with its reply, or those of a
-//! load. [`run_program`] is the whole of the program over given words and ends.
+//! load. [`run_told`] is the same run, of which someone is told. [`run_program`] is the whole of the program over given words
+//! and ends.
 #![tactic(auto)]
 
 mod asked;
+mod asked_text;
 mod form;
 mod form_run;
 mod form_words;
@@ -23,9 +25,13 @@ mod readings;
 mod reply_output;
 mod script_run;
 mod status;
+mod tells;
+mod told_refusal;
+mod told_run;
 mod wiring;
 
-pub use form::{Form, LoadNumbers, ScriptOptions};
+pub use asked_text::text_asked;
+pub use form::{AskedText, Form, LoadNumbers, ScriptOptions};
 pub use form_run::run_script;
 pub use form_words::form_of;
 pub use load_run::run_load;
@@ -33,3 +39,5 @@ pub use notes::note_own_names;
 pub use platform_hall::Platform;
 pub use program_run::run_program;
 pub use status::Status;
+pub use tells::{Tells, Texts};
+pub use told_run::run_told;

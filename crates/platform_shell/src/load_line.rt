@@ -1,6 +1,7 @@
 //! A line of a load.
 ghost use Rattle.platform_shell.specs.LoadLines.{RunsLoadLine};
-ghost use Rattle.platform_shell.specs.Loads.{is_refusal, load_setting};
+ghost use Rattle.platform_shell.specs.LineTexts.{is_refusal};
+ghost use Rattle.platform_shell.specs.Loads.{load_setting};
 ghost use Rattle.platform_shell.specs.Rests.{HasNothingDue};
 ghost use Rattle.shell_lang.specs.ShellLines.{shell_line};
 ghost use Rattle.std.specs.Prelude.{◌≡◌, IfOk, option_map, true};
@@ -57,7 +58,8 @@ fn refused_in(told: &Option<ShellReply>) -> Option<bool>
     }
 }
 
-fn is_refusal(reply: &ShellReply) -> bool
+/// Whether a reply is a refusal.
+pub(crate) fn is_refusal(reply: &ShellReply) -> bool
     ensures { result ≡ is_refusal reply.now }
 {
     match reply {

@@ -1,6 +1,7 @@
 //! What the lines of a run leave so.
 ghost use Rattle.platform_hall.specs.Platforms.{world};
 ghost use Rattle.platform_shell.specs.Asks.{Asks, Setting};
+ghost use Rattle.platform_shell.specs.LineTexts.{Answer};
 ghost use Rattle.platform_shell.specs.Runs.{Ran};
 ghost use Rattle.platform_hall.specs.Cores.{CoreView};
 ghost use Rattle.scr_promises.specs.Names.{HaveOwnNames};
@@ -16,5 +17,5 @@ ghost use Rattle.std.specs.Prelude.{ℕ, [], List, Option};
 pub fn note_own_names()
     ensures new { (limits : Limits) → HaveOwnNames (world (record { limits = limits; journal = [] })) }
     ensures asks { (s : Setting) → (line : List ℕ) → (before after : CoreView) → (told : Option ShellReply) → Asks s (shell_line line) before told after → HaveOwnNames (world before) → HaveOwnNames (world after) }
-    ensures ran { (s : Setting) → (first before after : CoreView) → (lines : List (List ℕ)) → (commands : List Command) → (replies : List ShellReply) → Ran s first lines before after commands replies → HaveOwnNames (world before) → HaveOwnNames (world after) }
+    ensures ran { (s : Setting) → (first before after : CoreView) → (lines : List (List ℕ)) → (commands : List Command) → (answers : List Answer) → Ran s first lines before after commands answers → HaveOwnNames (world before) → HaveOwnNames (world after) }
 {}

@@ -29,6 +29,11 @@ pub enum Status {
     },
     /// As many turns ran as one settling may run, and one is still due.
     Unsettled,
+    /// A line was refused, in a run that ends there.
+    Refused {
+        /// Its number, from 1 on.
+        line: u64,
+    },
 }
 
 impl Status {
@@ -45,6 +50,7 @@ impl Status {
             Status::JournalFull => 5,
             Status::LineTooLong { .. } => 6,
             Status::Unsettled => 7,
+            Status::Refused { .. } => 10,
         }
     }
 }

@@ -12,6 +12,8 @@ mod script_runs;
 #[cfg(test)]
 mod shell_texts;
 #[cfg(test)]
+mod told_runs;
+#[cfg(test)]
 mod watched_turns;
 mod watching;
 

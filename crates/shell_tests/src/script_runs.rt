@@ -8,9 +8,10 @@ use platform_shell::{Platform, run_script};
 use scr_world::Limits;
 use std::alloc::Global;
 
-// A script, what it is answered, and which reads and writes fail.
+// The words of a script, its lines, what it is answered, and which reads and writes fail.
 #[derive(Clone, Copy)]
 struct Script<'s> {
+    words: &'s [&'s str],
     lines: &'s [&'s str],
     replies: &'s [u8],
     reads: &'s [u64],
@@ -20,6 +21,7 @@ struct Script<'s> {
 // Starts a consumer and its provider.
 fn starts<'s>(reads: &'s [u64], writes: &'s [u64]) -> Script<'s> {
     Script {
+        words: &["script"],
         lines: &LINES,
         replies: b"ok bundle 1\nok bundle 2\nok\nok\n",
         reads,
@@ -55,7 +57,7 @@ fn run(
 ) -> Option<(u8, usize)> {
     let mut input = source(alloc, script)?;
     let mut output = sink(alloc, script)?;
-    let status = run_script(alloc, platform, &["script"], &mut input, &mut output);
+    let status = run_script(alloc, platform, script.words, &mut input, &mut output);
     let written = output.written();
     if script.replies.starts_with(written) {
         Some((status.code(), written.len()))
@@ -107,6 +109,7 @@ fn each_write_fails_in_turn(rt: HostRuntime) {
 // Sets, reads and deletes a configuration.
 fn configures<'s>() -> Script<'s> {
     Script {
+        words: &["script"],
         lines: &[
             r#"install {"location":"q","components":{"q":{"implementationClass":"Q","configurationPolicy":"require"}}}"#,
             "start 1",
@@ -130,6 +133,7 @@ fn a_configuration_comes_and_goes(rt: HostRuntime) {
 #[test]
 fn a_full_journal_ends_a_script(rt: HostRuntime) {
     let script = Script {
+        words: &["script"],
         lines: &[PROVIDER, "start 1", "stop 1", "start 1"],
         replies: b"ok bundle 1\nok\nok\n",
         reads: &[],

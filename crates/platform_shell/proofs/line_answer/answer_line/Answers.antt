@@ -2,6 +2,7 @@ use Rattle.std.proofs.Common.{◌∙◌, ap, sym, subst, Err}
 use Rattle.platform_shell.specs.declared.status.Status.{Status}
 use Rattle.platform_shell.specs.Answers.{AnswersLine}
 use Rattle.platform_shell.specs.Asks.{Setting}
+use Rattle.platform_shell.specs.FormRuns.{script_setting}
 use Rattle.platform_shell.specs.Statuses.{write_faults_after}
 use Rattle.platform_shell.proofs.AnswerLemmas.{cut_answer}
 use Rattle.platform_shell.proofs.EndingLemmas.{no_write_fault_cut}
@@ -9,10 +10,10 @@ use Rattle.platform_shell.proofs.line_answer.answer_line.Goals as goal
 
 pub returns-in-Err-clause-answered : goal.returns-in-Err-clause-answered
 returns-in-Err-clause-answered g c =
-    let s : Setting = record { is_manual = c.args.manual; refuses = g.K.Kinds.refuses } in
+    let s : Setting = script_setting g.K.Kinds.refuses c.args.options in
     let written = g.Out.Sink.written c.args.output.now in
-    let P : Status → Type 0 = λ status. AnswersLine s c.args.asked (Err status) c.args.platform.now c.run_line.new.platform written written in
-    subst P (sym c.from.ensures) (cut_answer s c.args.asked c.in-Err.fault c.args.platform.now c.run_line.new.platform written c.in-Err.ensures)
+    let P : Status → Type 0 = λ status. AnswersLine s c.args.options.echo c.args.line.now c.args.asked (Err status) c.args.platform.now c.run_line.new.platform written written in
+    subst P (sym c.from.ensures) (cut_answer s c.args.options.echo c.args.line.now c.args.asked c.in-Err.fault c.args.platform.now c.run_line.new.platform written c.in-Err.ensures)
 
 pub returns-in-Err-clause-faults : goal.returns-in-Err-clause-faults
 returns-in-Err-clause-faults g c =

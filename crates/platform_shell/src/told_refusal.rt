@@ -1,0 +1,35 @@
+//! Replies that are refusals.
+ghost use Rattle.platform_shell.specs.LineTexts.{is_told_refusal};
+ghost use Rattle.std.specs.Prelude.{◌≡◌, ◌&&◌};
+
+use crate::Tells;
+use crate::load_line::is_refusal;
+use shell_lang::ShellReply;
+
+/// Tells of a line's refusal, where its reply is one, and answers whether it ends the run, which may be strict.
+pub(crate) fn tell_refusal<T: Tells>(
+    told: &mut T,
+    strict: bool,
+    line: u64,
+    text: &[u8],
+    reply: &Option<ShellReply>,
+) -> bool
+    ensures { result ≡ (strict && is_told_refusal reply.now) }
+{
+    if let Some(reply) = reply {
+        if is_refusal(reply) {
+            told.refused(line, text, reply);
+        }
+    }
+    strict && is_told_refusal(reply)
+}
+
+// Whether there is a reply, and it is a refusal.
+fn is_told_refusal(reply: &Option<ShellReply>) -> bool
+    ensures { result ≡ is_told_refusal reply.now }
+{
+    match reply {
+        None => false,
+        Some(reply) => is_refusal(reply),
+    }
+}
