@@ -4,9 +4,12 @@ ghost use Rattle.platform_shell.specs.Forms.{IsLoad};
 use demonstration_kinds::Demonstration;
 use fault_count::{MemorySink, MemorySource};
 use platform_shell::{
-    Form, LoadNumbers, Platform, ScriptOptions, Status, form_of, run_load, run_program,
+    AskedText, Form, LoadNumbers, Platform, ScriptOptions, Status, Tells, Texts, form_of, run_load,
+    run_program,
 };
+use prop_map::OutOfMemory;
 use scr_world::Limits;
+use shell_lang::ShellReply;
 use std::alloc::Global;
 
 const ROOM: Limits = Limits {
@@ -64,16 +67,19 @@ fn words_are_forms(rt: HostRuntime) {
     };
     let words = ["load", "18446744073709551615", "100", "100000"];
     assert!(rt; form_of(&words) == Ok(Form::Load(load)));
-    let by_hand = ScriptOptions { manual: true };
+    let by_hand = ScriptOptions {
+        manual: true,
+        ..ScriptOptions::NONE
+    };
     assert!(rt; form_of(&["script", "--manual"]) == Ok(Form::Script(by_hand)));
-    let alone = ScriptOptions { manual: false };
-    assert!(rt; form_of(&["script"]) == Ok(Form::Script(alone)));
+    assert!(rt; form_of(&["script"]) == Ok(Form::Script(ScriptOptions::NONE)));
 }
 
 #[test]
 fn words_are_no_forms(rt: HostRuntime) {
     assert!(rt; form_of(&["scrip"]) == Err(0));
     assert!(rt; form_of(&["script", "--manual", "x"]) == Err(2));
+    assert!(rt; form_of(&["script", "--manual", "--manual"]) == Err(2));
     assert!(rt; form_of(&["script", "--"]) == Err(1));
     assert!(rt; form_of(&["script", "--manual=1"]) == Err(1));
     assert!(rt; form_of(&["load", "x", "1", "1"]) == Err(1));
@@ -83,13 +89,37 @@ fn words_are_no_forms(rt: HostRuntime) {
     assert!(rt; form_of(&["load", "7", "2", "0", "0"]) == Err(4));
 }
 
+// Nobody is told, and there is one text.
+#[derive(Drop)]
+struct Quiet;
+
+impl Tells for Quiet {
+    fn refused(&mut self, _line: u64, _text: &[u8], _reply: &ShellReply) {}
+
+    fn ended(&mut self, _line: u64, _status: &Status) {}
+}
+
+impl Texts for Quiet {
+    fn text(&self, alloc: Global, _asked: AskedText) -> Result<String, OutOfMemory> {
+        String::from_str(alloc, "a text\n")
+    }
+}
+
 // What the program writes where it is given these words and this input.
 fn written(alloc: Global, word: &str, input: &[u8]) -> Option<Vec<u8>> {
     let mut words = Vec::new(alloc);
     words.push(String::from_str(alloc, word).ok()?).ok()?;
     let mut source = MemorySource::new(input.to_vec(alloc).ok()?, 4, Vec::new(alloc));
     let mut sink = MemorySink::new(4, Vec::new(alloc));
-    let _code = run_program(alloc, Demonstration, Ok(words), &mut source, &mut sink);
+    let words = Ok(words);
+    let _code = run_program(
+        alloc,
+        Demonstration,
+        &words,
+        &mut source,
+        &mut sink,
+        &mut Quiet,
+    );
     sink.written().to_vec(alloc).ok()
 }
 
@@ -99,4 +129,6 @@ fn the_program_answers_its_lines(rt: HostRuntime) {
     assert!(rt; answers.is_some_and(|text| text.as_slice() == b"ok 0\nok turns 0\n".as_slice()));
     let nothing = written(rt.alloc(), "scrip", b"components\n");
     assert!(rt; nothing.is_some_and(|text| text.is_empty()));
+    let asked = written(rt.alloc(), "--help", b"components\n");
+    assert!(rt; asked.is_some_and(|text| text.as_slice() == b"a text\n".as_slice()));
 }
