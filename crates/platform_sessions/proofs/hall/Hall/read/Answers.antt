@@ -5,8 +5,11 @@ use Rattle.front_lock.specs.Passes.{names_of}
 use Rattle.hall_locked.specs.Locks.{turns_kept}
 use Rattle.platform_sessions.specs.Halls.{View, front_in}
 use Rattle.platform_sessions.proofs.Reading.{read_so}
-use Rattle.platform_sessions.proofs.Stretches.{limits_from, stretch}
+use Rattle.platform_sessions.proofs.Stretches.{leaves_same, limits_from, stretch}
 use Rattle.platform_sessions.proofs.hall.Hall.read.Goals as goal
+
+pub leave-back-requires-clause-grown : goal.leave-back-requires-clause-grown
+leave-back-requires-clause-grown g c = leaves_same c.enter-inner.result.turn c.enter-inner.result.value c.enter-inner.ensures.turn.1
 
 pub returns-clause-read : goal.returns-clause-read
 returns-clause-read g c =
