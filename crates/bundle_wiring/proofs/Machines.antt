@@ -14,7 +14,7 @@ use Rattle.osgi_version.proofs.RangeReader.{range_reader}
 use Rattle.osgi_version.proofs.Readers.{IsReader, bad_at_end, bad_in, reads}
 use Rattle.osgi_version.proofs.VersionReader.{version_reader}
 use Rattle.bundle_wiring.specs.Readings.{IsReading}
-use Rattle.bundle_wiring.specs.Texts.{clauses_reading, range_reading, reach, reach_behind, reading_by, value_or_place, version_reading}
+use Rattle.bundle_wiring.specs.Texts.{clauses_reading, range_reading, reach, reach_behind, reading_by, value_or_place, version_of, version_reading}
 
 -- where a machine stops
 record Stops {S : Type 0} (step : S → ℕ → Option S) (s : S) (text : List ℕ) (at : ℕ) : Type 0 where
@@ -87,6 +87,12 @@ version_ok = ok_is version_reader
 
 pub version_bad : (text : List ℕ) (at : ℕ) → IsBadAt SpellsVersion text at → version_reading text ≡ Err at
 version_bad = bad_is version_reader
+
+pub version_some : (text : List ℕ) (v : Version) → IsRead SpellsVersion text v → version_of text ≡ Some v
+version_some text v h = version_reader.complete text v h.spelled
+
+pub version_none : (text : List ℕ) (at : ℕ) → IsBadAt SpellsVersion text at → version_of text ≡ None
+version_none = none_is version_reader
 
 pub version_law : (text : List ℕ) → IsReading SpellsVersion text (version_reading text)
 version_law = reading_is version_reader

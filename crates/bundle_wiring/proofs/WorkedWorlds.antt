@@ -1,4 +1,4 @@
--- The definitions, computed on two worlds that were worked out by hand.
+-- The definitions, computed on three worlds that were worked out by hand.
 use Rattle.std.proofs.Common.{◌≡◌, refl, ℕ, List, [], ◌∷◌, true, false, Some, None}
 use Rattle.std.specs.Prelude.{codes, filter}
 use Rattle.ldap_filter.specs.declared.comparison.Comparison.TheVariants.{Equal, AtLeast}
@@ -6,12 +6,13 @@ use Rattle.ldap_filter.specs.Trees.{Tree, Every, Not, Compare, Present, trees_of
 use Rattle.osgi_version.specs.declared.version.Version.{Version}
 use Rattle.prop_map.specs.Words.{has}
 use Rattle.bundle_wiring.specs.Resolution.{Bundle, is_consistent, missing_need, version_of_numbers, wires_of}
+use Rattle.bundle_wiring.specs.Wirings.{greatest, properties_of, versions_listed}
 use Rattle.bundle_wiring.specs.declared.resolved.Wire.{Wire}
 use Rattle.bundle_wiring.specs.declared.wiring.Offer.{Offer}
 use Rattle.bundle_wiring.specs.declared.wiring.WireNeed.{WireNeed}
 
 abbrev exported : List ℕ → Version → Offer
-exported name version = record { name = name; «package» = true; version = version; attributes = [] }
+exported name version = record { name = name; «package» = true; version = version; versions = version ∷ []; attributes = [] }
 
 abbrev imported : List ℕ → WireNeed
 imported name = record { name = name; «package» = true; range = None; filter = None; optional = false }
@@ -102,3 +103,39 @@ any_version = bundle 1 (required (codes "osgi.extender") (Present (codes "versio
 
 with_any_version : wires_of (any_version ∷ []) ≡ wire 1 0 0 0 ∷ wire 1 1 0 1 ∷ []
 with_any_version = refl
+
+-- ---- a contract in three versions, and bundles that ask for one of them
+
+abbrev contract : List ℕ
+contract = codes "osgi.contract"
+
+abbrev servlets : Offer
+servlets = record {
+  name = contract;
+  «package» = false;
+  version = greatest (versions_listed (codes "3.1,3.0,2.6"));
+  versions = versions_listed (codes "3.1,3.0,2.6");
+  attributes = properties_of ((contract, codes "JavaServlet") ∷ (codes "version", codes "3.1,3.0,2.6") ∷ []);
+}
+
+the_greatest : servlets.version ≡ version_of_numbers 3 1 0
+the_greatest = refl
+
+all_three : servlets.versions ≡ version_of_numbers 3 1 0 ∷ version_of_numbers 3 0 0 ∷ version_of_numbers 2 6 0 ∷ []
+all_three = refl
+
+-- a comma more, and it is no list of versions
+no_list : versions_listed (codes "3.1,3.0,") ≡ []
+no_list = refl
+
+abbrev asking : ℕ → List ℕ → Bundle
+asking number version = bundle number (required contract (Every (trees_of (Compare Equal contract (codes "JavaServlet") ∷ Compare Equal (codes "version") version ∷ []))) ∷ []) []
+
+abbrev container : Bundle
+container = bundle 1 [] (servlets ∷ [])
+
+one_of_three : wires_of (container ∷ asking 2 (codes "3.0") ∷ asking 3 (codes "2.6.0") ∷ []) ≡ wire 2 0 1 0 ∷ wire 3 0 1 0 ∷ []
+one_of_three = refl
+
+none_of_three : is_consistent (container ∷ asking 2 (codes "2.5") ∷ []) ≡ false
+none_of_three = refl

@@ -29,7 +29,7 @@ version_of_numbers major minor micro = record { major = major; minor = minor; mi
 -- with the attributes that the offer of a manifest has whose clause says this value and this version
 abbrev pub platform_offer : List ℕ → List ℕ → Version → Offer
 platform_offer name value version =
-    record { name = name; «package» = false; version = version; attributes = properties_of ((name, value) ∷ (codes "version", version_text version) ∷ []) }
+    record { name = name; «package» = false; version = version; versions = version ∷ []; attributes = properties_of ((name, value) ∷ (codes "version", version_text version) ∷ []) }
 
 -- what bundle 0 offers
 abbrev pub platform_offers : List Offer
@@ -42,7 +42,7 @@ is_in_range (Some range) version = includes range version
 
 abbrev pub is_matched : Option Tree → Offer → Bool
 is_matched None offer = true
-is_matched (Some filter) offer = matches_versioned filter offer.attributes offer.version
+is_matched (Some filter) offer = matches_versioned filter offer.attributes offer.versions
 
 -- the offer meets the need: a package, or a capability, of that name, in the range and matched by the filter
 abbrev pub meets : WireNeed → Offer → Bool

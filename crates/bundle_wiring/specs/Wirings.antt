@@ -1,13 +1,16 @@
 -- What a manifest says of its bundle's needs and offers. OSGi Core 8, chapter 3 "Module Layer": "Import-Package Header", "Export-Package Header",
 -- "Require-Capability Header", "Provide-Capability Header". The order of the faults is our own.
-use Rattle.std.specs.Prelude.{ℕ, List, [], ◌∷◌, ◌++◌, codes, map, fold, find, Bool, true, false, Option, Some, None, option_map, Result, Ok, Err, if◌then◌else◌}
+use Rattle.std.specs.Prelude.{ℕ, ◌==◌, List, [], ◌∷◌, ◌++◌, codes, map, fold, find, Bool, true, false, Option, Some, None, option_and_then, option_map, Result, Ok, Err, if◌then◌else◌}
+use Rattle.std.specs.List.{slice_split}
+use Rattle.std.specs.Option.{unwrap_or}
+use Rattle.std.specs.Ordering.{is_lt}
 use Rattle.std.specs.Str.{bytes_eq}
 use Rattle.bundle_headers.specs.Headers.{Header, header_value}
 use Rattle.bundle_headers.specs.declared.clauses.Clause.{Clause}
 use Rattle.bundle_headers.specs.declared.clauses.Clauses.{Clauses}
 use Rattle.ldap_filter.specs.Texts.{reading as filter_reading}
 use Rattle.ldap_filter.specs.Trees.{Tree}
-use Rattle.osgi_version.specs.Versions.{empty_version}
+use Rattle.osgi_version.specs.Versions.{empty_version, version_cmp}
 use Rattle.osgi_version.specs.declared.range.VersionRange.{VersionRange}
 use Rattle.osgi_version.specs.declared.version.Version.{Version}
 use Rattle.prop_map.specs.declared.properties.Property.{Property}
@@ -16,7 +19,7 @@ use Rattle.prop_map.specs.Maps.{put}
 use Rattle.text_index.specs.Texts.{has_text}
 use Rattle.prop_map.specs.Words.{after}
 use Rattle.bundle_wiring.specs.Faults.{fault_at}
-use Rattle.bundle_wiring.specs.Texts.{clauses_reading, range_reading, version_reading}
+use Rattle.bundle_wiring.specs.Texts.{clauses_reading, range_reading, version_of, version_reading}
 use Rattle.bundle_wiring.specs.declared.fault.WireFault.{WireFault}
 use Rattle.bundle_wiring.specs.declared.fault.WireFault.TheVariants.{BadClause, BadFilter, BadVersion, DuplicateImport}
 use Rattle.bundle_wiring.specs.declared.wiring.Offer.{Offer}
@@ -94,15 +97,42 @@ abbrev pub requirements_after : List WireNeed → List Clause → Result (List W
 requirements_after needs [] = Ok needs
 requirements_after needs (clause ∷ clauses) = after (filter_in clause) (λ filter. requirements_after (needs ++ requirements_of clause filter) clauses)
 
--- ---- exported packages and provided capabilities
+-- ---- versions of packages and of capabilities
 
 abbrev pub version_or_empty : Option (List ℕ) → Result Version WireFault
 version_or_empty None = Ok empty_version
 version_or_empty (Some text) = fault_at BadVersion (version_reading text)
 
--- the version, by default 0.0.0
+-- the version of a package, by default 0.0.0
 abbrev pub version_in : Clause → Result Version WireFault
 version_in clause = version_or_empty (value_of clause.attributes (codes "version"))
+
+-- the versions of these texts behind those before; nothing where a text spells none
+abbrev pub versions_after : List Version → List (List ℕ) → Option (List Version)
+versions_after versions [] = Some versions
+versions_after versions (text ∷ texts) = option_and_then (λ version. versions_after (versions ++ version ∷ []) texts) (version_of text)
+
+-- the versions between the commas of a text, one where there is no comma: the attribute types `Version` and `List<Version>`; none where it is no such list
+abbrev pub versions_listed : List ℕ → List Version
+versions_listed text = unwrap_or (versions_after [] (slice_split (λ b. b == 44) text)) []
+
+abbrev pub versions_or_empty : Option (List ℕ) → List Version
+versions_or_empty None = empty_version ∷ []
+versions_or_empty (Some text) = versions_listed text
+
+-- a package has one version, a capability those that its attribute `version` lists, by default 0.0.0
+abbrev pub versions_in : Bool → Clause → Result (List Version) WireFault
+versions_in true clause = after (version_in clause) (λ version. Ok (version ∷ []))
+versions_in false clause = Ok (versions_or_empty (value_of clause.attributes (codes "version")))
+
+abbrev pub later_of : Version → Version → Version
+later_of version other = if is_lt (version_cmp version other) then other else version
+
+-- the greatest of several versions, 0.0.0 of none
+abbrev pub greatest : List Version → Version
+greatest versions = fold later_of empty_version versions
+
+-- ---- exported packages and provided capabilities
 
 abbrev pub with_attribute : List Property → List ℕ × List ℕ → List Property
 with_attribute properties attribute = put properties attribute.0 (Text attribute.1)
@@ -116,15 +146,16 @@ abbrev pub attributes_in : Bool → Clause → List Property
 attributes_in true clause = []
 attributes_in false clause = properties_of clause.attributes
 
-abbrev pub offer_of : Bool → Clause → Version → List ℕ → Offer
-offer_of is_package clause version name = record { name = name; «package» = is_package; version = version; attributes = attributes_in is_package clause }
+abbrev pub offer_of : Bool → Clause → List Version → List ℕ → Offer
+offer_of is_package clause versions name =
+    record { name = name; «package» = is_package; version = greatest versions; versions = versions; attributes = attributes_in is_package clause }
 
-abbrev pub offers_of : Bool → Clause → Version → List Offer
-offers_of is_package clause version = map (offer_of is_package clause version) clause.paths
+abbrev pub offers_of : Bool → Clause → List Version → List Offer
+offers_of is_package clause versions = map (offer_of is_package clause versions) clause.paths
 
 abbrev pub offers_after : Bool → List Offer → List Clause → Result (List Offer) WireFault
 offers_after is_package offers [] = Ok offers
-offers_after is_package offers (clause ∷ clauses) = after (version_in clause) (λ version. offers_after is_package (offers ++ offers_of is_package clause version) clauses)
+offers_after is_package offers (clause ∷ clauses) = after (versions_in is_package clause) (λ versions. offers_after is_package (offers ++ offers_of is_package clause versions) clauses)
 
 -- ---- the whole manifest
 

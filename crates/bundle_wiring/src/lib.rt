@@ -18,6 +18,7 @@ mod resolved;
 mod resolving;
 mod standings;
 mod texts;
+mod version_list;
 mod version_text;
 mod wires;
 mod wiring;

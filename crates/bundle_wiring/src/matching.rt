@@ -1,6 +1,6 @@
 //! When an offer meets a need.
 ghost use Rattle.bundle_wiring.specs.Resolution.{is_in_range, is_matched, meets};
-ghost use Rattle.bundle_wiring.specs.Versioned.{asks_version, every_versioned, is_like, matches_versioned, order_passes, some_versioned, version_passes};
+ghost use Rattle.bundle_wiring.specs.Versioned.{asks_version, every_versioned, is_like, matches_versioned, order_passes, some_passes, some_versioned, version_passes};
 ghost use Rattle.bundle_wiring.specs.Texts.{version_of};
 ghost use Rattle.ldap_filter.specs.Matching.{passes, value_compares};
 ghost use Rattle.ldap_filter.specs.Nodes.{tree_of};
@@ -15,24 +15,25 @@ use osgi_version::{Version, VersionRange};
 use prop_map::{Properties, Shared};
 use std::cmp::Ordering;
 
-/// Whether a filter matches the attributes and the version of an offer (OSGi Core 8, section 3.2.7 "Filter Syntax"). It
+/// Whether a filter matches the attributes and the versions of an offer (OSGi Core 8, section 3.2.7 "Filter Syntax"). It
 /// matches as `Filter::matches` says, but an attribute `version`, in whatever case, under `=`, `>=` and `<=` compares the
-/// offer's version, whatever the attributes say, with the one that the filter's value spells; where it spells none, the
-/// comparison is false. It takes no memory.
-pub fn matches_versioned(filter: &Filter, properties: &Properties, version: &Version) -> bool
-    ensures { result ≡ matches_versioned filter.now properties.now version.now }
+/// offer's versions, whatever the attributes say, with the one that the filter's value spells, and is true where one of
+/// them passes; where the value spells none, the comparison is false. Without any versions it is an attribute like others.
+/// It takes no memory.
+pub fn matches_versioned(filter: &Filter, properties: &Properties, versions: &[Version]) -> bool
+    ensures { result ≡ matches_versioned filter.now properties.now versions.now }
 {
-    node_matches(filter.node(), properties, version)
+    node_matches(filter.node(), properties, versions)
 }
 
 #[cycle(versioned_nodes)]
-fn node_matches(node: &Node, properties: &Properties, version: &Version) -> bool
-    ensures { result ≡ matches_versioned (tree_of node.now) properties.now version.now }
+fn node_matches(node: &Node, properties: &Properties, versions: &[Version]) -> bool
+    ensures { result ≡ matches_versioned (tree_of node.now) properties.now versions.now }
 {
     match node {
-        Node::Every(nodes) => every_matches(nodes.as_slice(), properties, version),
-        Node::Any(nodes) => some_matches(nodes.as_slice(), properties, version),
-        Node::Not(node) => !node_matches(node, properties, version),
+        Node::Every(nodes) => every_matches(nodes.as_slice(), properties, versions),
+        Node::Any(nodes) => some_matches(nodes.as_slice(), properties, versions),
+        Node::Not(node) => !node_matches(node, properties, versions),
         Node::Present(attribute) => properties.get(attribute.as_str()).is_some(),
         Node::Compare {
             comparison,
@@ -43,7 +44,7 @@ fn node_matches(node: &Node, properties: &Properties, version: &Version) -> bool
             attribute.as_str(),
             value.as_str(),
             properties,
-            version,
+            versions,
         ),
         Node::Parts { attribute, parts } => match properties.get(attribute.as_str()) {
             Some(property) => value_has_parts(parts.as_slice(), property),
@@ -53,11 +54,11 @@ fn node_matches(node: &Node, properties: &Properties, version: &Version) -> bool
 }
 
 #[cycle(versioned_nodes)]
-fn every_matches(nodes: &[Node], properties: &Properties, version: &Version) -> bool
-    ensures { result ≡ every_versioned (trees_of (map tree_of nodes.now)) properties.now version.now }
+fn every_matches(nodes: &[Node], properties: &Properties, versions: &[Version]) -> bool
+    ensures { result ≡ every_versioned (trees_of (map tree_of nodes.now)) properties.now versions.now }
 {
     for node in nodes {
-        if !node_matches(node, properties, version) {
+        if !node_matches(node, properties, versions) {
             return false;
         }
     }
@@ -65,11 +66,11 @@ fn every_matches(nodes: &[Node], properties: &Properties, version: &Version) -> 
 }
 
 #[cycle(versioned_nodes)]
-fn some_matches(nodes: &[Node], properties: &Properties, version: &Version) -> bool
-    ensures { result ≡ some_versioned (trees_of (map tree_of nodes.now)) properties.now version.now }
+fn some_matches(nodes: &[Node], properties: &Properties, versions: &[Version]) -> bool
+    ensures { result ≡ some_versioned (trees_of (map tree_of nodes.now)) properties.now versions.now }
 {
     for node in nodes {
-        if node_matches(node, properties, version) {
+        if node_matches(node, properties, versions) {
             return true;
         }
     }
@@ -81,12 +82,12 @@ fn compares(
     attribute: &str,
     value: &str,
     properties: &Properties,
-    version: &Version,
+    versions: &[Version],
 ) -> bool
-    ensures { result ≡ (if asks_version comparison attribute.now then version_passes comparison version.now (version_of value.now) else passes (value_compares comparison value.now) (get properties.now attribute.now)) }
+    ensures { result ≡ (if asks_version comparison attribute.now versions.now then some_passes comparison versions.now (version_of value.now) else passes (value_compares comparison value.now) (get properties.now attribute.now)) }
 {
-    if asks_version(comparison, attribute) {
-        version_passes(comparison, version, value)
+    if asks_version(comparison, attribute, versions) {
+        some_passes(comparison, versions, value)
     } else {
         match properties.get(attribute) {
             Some(property) => value_compares(comparison, value, property),
@@ -95,10 +96,10 @@ fn compares(
     }
 }
 
-fn asks_version(comparison: Comparison, attribute: &str) -> bool
-    ensures { result ≡ asks_version comparison attribute.now }
+fn asks_version(comparison: Comparison, attribute: &str, versions: &[Version]) -> bool
+    ensures { result ≡ asks_version comparison attribute.now versions.now }
 {
-    "version".eq_ignore_ascii_case(attribute) && !is_like(comparison)
+    ("version".eq_ignore_ascii_case(attribute) && !is_like(comparison)) && !versions.is_empty()
 }
 
 fn is_like(comparison: Comparison) -> bool
@@ -108,6 +109,14 @@ fn is_like(comparison: Comparison) -> bool
         Comparison::Like => true,
         Comparison::Equal | Comparison::AtLeast | Comparison::AtMost => false,
     }
+}
+
+fn some_passes(comparison: Comparison, versions: &[Version], value: &str) -> bool
+    ensures { result ≡ some_passes comparison versions.now (version_of value.now) }
+{
+    versions
+        .iter()
+        .any(|version| version_passes(comparison, version, value))
 }
 
 fn version_passes(comparison: Comparison, version: &Version, value: &str) -> bool
@@ -153,7 +162,7 @@ fn is_matched(filter: &Option<Shared<Filter>>, offer: &Offer) -> bool
         Some(filter) => matches_versioned(
             filter.get(),
             offer.attributes.get(),
-            offer.version.get(),
+            offer.versions.get().as_slice(),
         ),
         None => true,
     }

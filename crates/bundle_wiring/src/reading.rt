@@ -11,14 +11,14 @@ use std::alloc::Global;
 /// Reads what a bundle needs and offers (OSGi Core 8, chapter 3 "Module Layer"). A need is a package in Import-Package with
 /// its range `version`, or a namespace in Require-Capability with its `filter:=`; `resolution:=optional` makes it optional,
 /// and one whose `effective:=` isn't `resolve` is passed over, though its range or filter has to be one. An offer is a
-/// package in Export-Package with its `version`, or a namespace in Provide-Capability with its `version` and its
-/// attributes. What a clause says, it says of each of its names.
+/// package in Export-Package with its `version`, or a namespace in Provide-Capability with its attributes and the versions
+/// that its `version` lists. What a clause says, it says of each of its names.
 ///
 /// # Errors
 /// The first fault, where the headers are read in the order Import-Package, Require-Capability, Export-Package,
 /// Provide-Capability: `BadClause` where a header is no list of clauses; then clause by clause `BadVersion` or `BadFilter`
-/// where the version, the range or the filter is none, and `DuplicateImport` for a package that an earlier clause or the
-/// same one imports too.
+/// where the range, the filter or the version of an exported package is none, and `DuplicateImport` for a package that an
+/// earlier clause or the same one imports too.
 pub fn read_wiring(alloc: Global, manifest: &Manifest) -> Result<Wiring, WireFault>
     ensures { Reads result (wiring_of manifest.now) }
 {

@@ -12,7 +12,7 @@ use crate::standings::{Stand, look_on, some_lost, stands_of, strike_lost};
 use crate::wires::wires_of;
 use crate::{Offer, Resolved, Wiring};
 use osgi_version::{Qualifier, Version};
-use prop_map::{List, OutOfMemory, Properties, Shared, Str, Value};
+use prop_map::{Copies, List, OutOfMemory, Properties, Shared, Str, Value};
 use std::alloc::Global;
 
 /// Which of these bundles resolve together, and their wires. Each bundle comes with its number; bundle 0, which offers
@@ -113,10 +113,12 @@ fn platform_offer(
     ensures { IfOk result (λ offer. offer ≡ platform_offer name.now value.now version) }
 {
     let attributes = platform_attributes(alloc, name, value, &version)?;
+    let versions = List::of(vec![in alloc; version.copy(alloc)?]?);
     Ok(Offer {
         name: Str::of(String::from_str(alloc, name)?),
         package: false,
         version: Shared::of(alloc, version)?,
+        versions: Shared::of(alloc, versions)?,
         attributes: Shared::of(alloc, attributes)?,
     })
 }

@@ -13,7 +13,7 @@ pub struct WireNeed {
     pub package: bool,
     /// The versions that will do, or none where every version will. A capability has none.
     pub range: Option<Shared<VersionRange>>,
-    /// The filter that an offer's attributes and version have to match, or none where every offer will do. A package has
+    /// The filter that an offer's attributes and versions have to match, or none where every offer will do. A package has
     /// none.
     pub filter: Option<Shared<Filter>>,
     /// Whether the bundle resolves without it too.
@@ -27,8 +27,11 @@ pub struct Offer {
     pub name: Str,
     /// Whether it is a package.
     pub package: bool,
-    /// By default 0.0.0.
+    /// The greatest of its versions, 0.0.0 where it has none.
     pub version: Shared<Version>,
+    /// One version of a package, and those that the attribute `version` of a capability lists; none where that lists
+    /// none. By default 0.0.0.
+    pub versions: Shared<List<Version>>,
     /// The attributes of a capability, each a text. A package has none.
     pub attributes: Shared<Properties>,
 }

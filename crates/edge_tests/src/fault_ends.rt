@@ -1,6 +1,7 @@
 ghost use Rattle.std.specs.Prelude.{◌≡◌, IfOk};
 
 use fault_count::{MemorySink, ReadStep, Sink, Source, StdSink, StdSource, WriteStep};
+use std::alloc::Global;
 use std::io;
 use std::io::{Error, ErrorKind, Read, Write};
 
@@ -38,26 +39,34 @@ impl Write for Interrupted {
     }
 }
 
+fn takes_two(alloc: Global) -> bool {
+    let mut sink = MemorySink::new(2, Vec::new(alloc));
+    sink.write(b"abc") == WriteStep::Took(2)
+}
+
 #[test]
 fn a_memory_sink_with_memory_takes_a_piece(rt: HostRuntime) {
-    let mut sink = MemorySink::new(2, Vec::new(rt.alloc()));
-    assert_eq!(rt; sink.write(b"abc"), WriteStep::Took(2));
+    assert!(rt; takes_two(rt.alloc()));
+}
+
+// Whether a read that is interrupted so often comes to this, with so many faults.
+fn reads(interrupts: u32, step: ReadStep, faults: u64) -> bool {
+    let mut source = StdSource::new(Interrupted(interrupts));
+    source.read(&mut [0]) == step && source.faults() == faults
 }
 
 #[test]
 fn an_interrupted_read_is_tried_again(rt: HostRuntime) {
-    let mut source = StdSource::new(Interrupted(99));
-    assert_eq!(rt; source.read(&mut [0]), ReadStep::Got(1));
-    let mut source = StdSource::new(Interrupted(100));
-    assert_eq!(rt; source.read(&mut [0]), ReadStep::Failed);
-    assert_eq!(rt; source.faults(), 1);
+    assert!(rt; reads(99, ReadStep::Got(1), 0) && reads(100, ReadStep::Failed, 1));
+}
+
+// Whether a write that is interrupted so often comes to this, with so many faults.
+fn writes(interrupts: u32, step: WriteStep, faults: u64) -> bool {
+    let mut sink = StdSink::new(Interrupted(interrupts));
+    sink.write(b"a") == step && sink.faults() == faults
 }
 
 #[test]
 fn an_interrupted_write_is_tried_again(rt: HostRuntime) {
-    let mut sink = StdSink::new(Interrupted(99));
-    assert_eq!(rt; sink.write(b"a"), WriteStep::Took(1));
-    let mut sink = StdSink::new(Interrupted(100));
-    assert_eq!(rt; sink.write(b"a"), WriteStep::Failed);
-    assert_eq!(rt; sink.faults(), 1);
+    assert!(rt; writes(99, WriteStep::Took(1), 0) && writes(100, WriteStep::Failed, 1));
 }
