@@ -11,6 +11,7 @@ use Rattle.bundle_wiring.specs.contracts.wiring.Wiring as Wiring
 use Rattle.callback_orders.proofs.callback.Callback.TheSendSync as callback
 use Rattle.callback_orders.proofs.callback.Outcome.TheSendSync as outcome
 use Rattle.component_dto.proofs.description.Description.TheSendSync as description
+use Rattle.component_dto.proofs.description.Reference.TheSendSync as reference
 use Rattle.component_state.proofs.component.Component.TheSendSync as component
 use Rattle.component_state.proofs.open_period.OpenPeriod.TheSendSync as open_period
 use Rattle.component_state.proofs.origin.Choice.TheSendSync as choice
@@ -22,11 +23,16 @@ use Rattle.ldap_filter.specs.contracts.filter.Filter as Filter
 use Rattle.osgi_version.proofs.range.VersionRange.TheSendSync as range
 use Rattle.prop_map.proofs.list.List.TheSendSync as list
 use Rattle.prop_map.proofs.properties.Properties.TheSendSync as properties
+use Rattle.prop_map.proofs.reference_words.Cardinality.TheSendSync as cardinality
+use Rattle.prop_map.proofs.reference_words.Policy.TheSendSync as policy
+use Rattle.prop_map.proofs.reference_words.PolicyOption.TheSendSync as policy_option
 use Rattle.prop_map.proofs.shared.Shared.TheSendSync as shared
 use Rattle.prop_map.proofs.text.Str.TheSendSync as text
+use Rattle.reference_match.specs.contracts.need.Need as Need
 use Rattle.scr_core.specs.contracts.platform_core.Core as Core
 use Rattle.scr_dues.proofs.making.Making.TheSendSync as making
-use Rattle.scr_dues.proofs.own_rows.OwnRows.TheSendSync as own
+use Rattle.scr_dues.specs.contracts.known_needs.KnownNeed as KnownNeed
+use Rattle.scr_dues.specs.contracts.own_rows.OwnRows as OwnRows
 use Rattle.scr_state.specs.contracts.state.State as State
 use Rattle.scr_world.proofs.command.Limits.TheSendSync as limits
 use Rattle.scr_world.proofs.contents.Contents.TheSendSync as contents
@@ -61,6 +67,17 @@ wiring_send = search (need_send, offer.the_send, list.the_send, sendable) depth 
 
 wirings_send : IsSend (KeptWirings.the_field).row
 wirings_send = search (wiring_send, wire_fault.the_field_send, Vec-send, sendable) depth 60 fits 20000
+
+-- ---- what the platform has of its own
+
+reference_need_send : IsSend (Need.the_field).row
+reference_need_send = search (filter_send, text.the_send, cardinality.the_field_send, policy.the_field_send, policy_option.the_field_send, sendable) depth 60 fits 20000
+
+known_need_send : IsSend KnownNeed.the_row
+known_need_send = search (reference_need_send, reference.the_field_send, sendable) depth 60 fits 20000
+
+own_send : IsSend OwnRows.the_row
+own_send = search (known_need_send, service.the_field_send, component.the_field_send, sendable) depth 60 fits 20000
 
 -- ---- the world
 
@@ -106,4 +123,4 @@ step_send = search (command_send, callback.the_field_send, outcome.the_field_sen
 -- ---- the core
 
 pub core_send : IsSend Core.the_row
-core_send = search (limits.the_field_send, journal.the_send, step_send, state_send, own.the_send, turn_line.the_send, making.the_field_send, wirings_send, Vec-send, sendable) depth 60 fits 20000
+core_send = search (limits.the_field_send, journal.the_send, step_send, state_send, own_send, turn_line.the_send, making.the_field_send, wirings_send, Vec-send, sendable) depth 60 fits 20000

@@ -1,6 +1,7 @@
 pub mod Rows
 pub mod Ranks
 pub mod Meeting
+pub mod DynamicNeeds
 pub mod Aside
 pub mod Desired
 pub mod Keys

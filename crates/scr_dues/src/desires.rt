@@ -7,13 +7,15 @@ ghost use Rattle.component_state.specs.declared.component.Component.{Component};
 ghost use Rattle.prop_map.specs.declared.properties.Property.{Property};
 ghost use Rattle.prop_map.specs.declared.reference_words.Policy.TheVariants.{Dynamic, Static};
 ghost use Rattle.reference_match.specs.Needs.{need_of};
-ghost use Rattle.reference_match.specs.Targets.{is_static, meets, targets};
+ghost use Rattle.reference_match.specs.Targets.{desired, is_static, meets, targets};
+ghost use Rattle.reference_match.specs.declared.need.Need.{Need};
 ghost use Rattle.scr_world.specs.Views.{desired_services, desired_unless_ending, properties_in};
 ghost use Rattle.scr_world.specs.Whiteboard.{platform_rows};
 ghost use Rattle.scr_world.specs.Worlds.{direct_services, registered_services};
+ghost use Rattle.scr_world.specs.declared.world.World.{World};
 ghost use Rattle.service_registry.specs.Services.{ranked};
 ghost use Rattle.std.specs.Option.{option_copied, option_map_or};
-ghost use Rattle.std.specs.Prelude.{◌≡◌, ◌≤◌, ◌++◌, ℕ, [], IfOk, OnOk, filter, map};
+ghost use Rattle.std.specs.Prelude.{◌≡◌, ◌≤◌, ◌++◌, ℕ, [], IfOk, OnOk, Some, filter, map};
 
 use crate::components::component_in;
 use crate::own_rows::OwnRows;
@@ -132,8 +134,34 @@ fn need_in(
     )
 }
 
-// What an instance that isn't ending desires for a dynamic reference, for which it holds these.
-fn desired_now(
+// What a reference of the whiteboard's instance needs, which is made once.
+fn own_need<'a>(own: &'a OwnRows, instance: &Instance, reference: &Reference) -> Option<&'a Need>
+    ensures { (world : World) (need : Need) → option_copied result ≡ Some need → need ≡ need_of (properties_in world instance.now) reference.now }
+{
+    if instance.origin.get().configuration == 0 {
+        own.need_of(reference)
+    } else {
+        None
+    }
+}
+
+// The services that meet a need, where these are held.
+fn desired_by(
+    alloc: Global,
+    own: &OwnRows,
+    world: &World,
+    need: &Need,
+    held: &[u64],
+) -> Result<Vec<u64>, OutOfMemory>
+    ensures { IfOk result (λ v. v.items ≡ desired need.now [] held.now (targets need.now (registered_services world.now))) }
+{
+    let targets = targets(alloc, own, world, need)?;
+    desired(alloc, need, &[], held, &targets)
+}
+
+// What an instance that isn't ending desires for a dynamic reference, for which it holds these, where what the reference needs
+// is made for this alone.
+fn desired_anew(
     alloc: Global,
     own: &OwnRows,
     world: &World,
@@ -147,8 +175,27 @@ fn desired_now(
     ensures { IfOk result (λ v. v.items ≡ desired_services world.now instance.now place reference.now) }
 {
     let need = need_in(alloc, own, world, instance, reference)?;
-    let targets = targets(alloc, own, world, &need)?;
-    desired(alloc, &need, &[], held, &targets)
+    desired_by(alloc, own, world, &need, held)
+}
+
+// The same, where what a reference of the whiteboard needs isn't made again.
+fn desired_now(
+    alloc: Global,
+    own: &OwnRows,
+    world: &World,
+    instance: &Instance,
+    held: &[u64],
+    place: u64,
+    reference: &Reference,
+) -> Result<Vec<u64>, OutOfMemory>
+    requires policy { reference.now.policy ≡ Dynamic }
+    requires held { held.now ≡ held_for reference.now.name instance.now.callbacks }
+    ensures { IfOk result (λ v. v.items ≡ desired_services world.now instance.now place reference.now) }
+{
+    match own_need(own, instance, reference) {
+        Some(need) => desired_by(alloc, own, world, need, held),
+        None => desired_anew(alloc, own, world, instance, held, place, reference),
+    }
 }
 
 /// What was chosen for the reference at a place, where that is static: it is looked for from the first of these choices on.

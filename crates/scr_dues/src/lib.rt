@@ -13,6 +13,7 @@ mod desiring;
 mod due_in_making;
 mod dues;
 mod following;
+mod known_needs;
 mod lean_views;
 mod making;
 mod own_names;

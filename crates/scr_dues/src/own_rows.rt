@@ -2,14 +2,19 @@
 //! component configuration of the whiteboard (OSGi Compendium 8, chapter 140).
 ghost use Rattle.component_state.specs.declared.component.Component.{Component};
 ghost use Rattle.scr_world.specs.Whiteboard.{condition, reference_to_all, whiteboard_component, whiteboard_description, whiteboard_references};
+ghost use Rattle.reference_match.specs.Needs.{need_of};
+ghost use Rattle.reference_match.specs.declared.need.Need.{Need};
 ghost use Rattle.service_registry.specs.declared.row.ServiceRow.{ServiceRow};
-ghost use Rattle.std.specs.Prelude.{◌≡◌, ◌∷◌, [], IfOk};
+ghost use Rattle.std.specs.Option.{option_copied};
+ghost use Rattle.std.specs.Prelude.{◌≡◌, ◌∷◌, [], IfOk, Some, codes};
 
+use crate::known_needs::KnownNeed;
 use component_dto::{ConfigurationPolicy, Description, Reference, Scope};
 use component_state::Component;
 use prop_map::{
     Cardinality, List, OutOfMemory, Policy, PolicyOption, Properties, Shared, Str, Value,
 };
+use reference_match::Need;
 use service_registry::{Interfaces, ServiceRow, with_service_properties};
 use std::alloc::Global;
 use std::marker::Model;
@@ -19,6 +24,8 @@ use std::marker::Model;
 pub struct OwnRows {
     service: ServiceRow,
     component: Component,
+    contexts: KnownNeed,
+    servlets: KnownNeed,
 }
 
 impl Model for OwnRows {
@@ -41,6 +48,8 @@ impl OwnRows {
         Ok(OwnRows {
             service: condition(alloc)?,
             component: whiteboard_component(alloc)?,
+            contexts: known_need(alloc, contexts(alloc)?)?,
+            servlets: known_need(alloc, servlets(alloc)?)?,
         })
     }
 
@@ -57,6 +66,23 @@ impl OwnRows {
     {
         &self.component
     }
+
+    /// What a reference of the whiteboard needs: none of any other reference.
+    pub(crate) fn need_of(&self, reference: &Reference) -> Option<&Need>
+        ensures { (need : Need) → option_copied result ≡ Some need → need ≡ need_of whiteboard_component.properties reference.now }
+    {
+        self.contexts
+            .need_of(reference)
+            .or(self.servlets.need_of(reference))
+    }
+}
+
+// A reference of the whiteboard with what it needs.
+fn known_need(alloc: Global, reference: Reference) -> Result<KnownNeed, OutOfMemory>
+    ensures { IfOk result (λ known. known ≡ reference) }
+{
+    let properties = whiteboard_properties(alloc)?;
+    KnownNeed::of(alloc, &properties, reference)
 }
 
 fn text(alloc: Global, text: &str) -> Result<Str, OutOfMemory>
@@ -111,19 +137,29 @@ const CONTEXT_TARGET: &str =
 
 const SERVLET_TARGET: &str = "(osgi.http.whiteboard.servlet.pattern=*)";
 
-fn whiteboard_references(alloc: Global) -> Result<List<Reference>, OutOfMemory>
-    ensures { IfOk result (λ references. references ≡ whiteboard_references) }
+fn contexts(alloc: Global) -> Result<Reference, OutOfMemory>
+    ensures { IfOk result (λ reference. reference ≡ reference_to_all (codes "contexts") (codes "org.osgi.service.http.context.ServletContextHelper") (codes "(&(osgi.http.whiteboard.context.name=*)(osgi.http.whiteboard.context.path=*))")) }
 {
-    let contexts = reference_to_all(
+    reference_to_all(
         alloc,
         "contexts",
         "org.osgi.service.http.context.ServletContextHelper",
         CONTEXT_TARGET,
-    )?;
-    let servlets = reference_to_all(alloc, "servlets", "javax.servlet.Servlet", SERVLET_TARGET)?;
+    )
+}
+
+fn servlets(alloc: Global) -> Result<Reference, OutOfMemory>
+    ensures { IfOk result (λ reference. reference ≡ reference_to_all (codes "servlets") (codes "javax.servlet.Servlet") (codes "(osgi.http.whiteboard.servlet.pattern=*)")) }
+{
+    reference_to_all(alloc, "servlets", "javax.servlet.Servlet", SERVLET_TARGET)
+}
+
+fn whiteboard_references(alloc: Global) -> Result<List<Reference>, OutOfMemory>
+    ensures { IfOk result (λ references. references ≡ whiteboard_references) }
+{
     let mut references = Vec::new(alloc);
-    references.push(contexts)?;
-    references.push(servlets)?;
+    references.push(contexts(alloc)?)?;
+    references.push(servlets(alloc)?)?;
     Ok(List::of(references))
 }
 
