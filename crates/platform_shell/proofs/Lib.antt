@@ -1,5 +1,6 @@
 pub mod LineLemmas
 pub mod ReadingLemmas
+pub mod FoundLineFeed
 pub mod Writing
 pub mod Growth
 pub mod LineGrowth

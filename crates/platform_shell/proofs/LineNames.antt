@@ -9,11 +9,11 @@ use Rattle.prop_map.specs.Words.{after}
 use Rattle.scr_world.specs.declared.command.Command.{Command}
 use Rattle.scr_world.specs.declared.command.Command.TheVariants.{Install, Update}
 use Rattle.shell_lang.specs.declared.line_fault.LineFault.{LineFault}
-use Rattle.shell_lang.specs.declared.line_fault.LineFault.TheVariants.{UnknownCommand}
+use Rattle.shell_lang.specs.declared.line_fault.LineFault.TheVariants.{NoFile, UnknownCommand}
 use Rattle.shell_lang.specs.declared.shell_line.ShellLine.{ShellLine}
 use Rattle.shell_lang.specs.declared.shell_line.ShellLine.TheVariants.{Quit, Command as Commanded, Bundles, Services, Components, Settle, Begin}
 use Rattle.shell_lang.specs.declared.words.Misfit.{Misfit}
-use Rattle.shell_lang.specs.Arguments.{document_argument, filter_argument, given_document, properties_argument}
+use Rattle.shell_lang.specs.Arguments.{document_argument, filter_argument, given_document, names_file, properties_argument}
 use Rattle.shell_lang.specs.Interfaces.{interfaces_at}
 use Rattle.shell_lang.specs.LineFaults.{fitting}
 use Rattle.shell_lang.specs.ShellLines.{Asked, alone, bundle_line, carrying_line, configuring, configuring_factory, configuring_line, finding, installing, is_silent, listening, named, named_line, numbered, other_fault, paired, paired_line, reading_line, registering, setting, shell_line, text_line, unconfiguring, updating, wiring, worded_line}
@@ -49,8 +49,12 @@ given_is : (r : Result BundleDoc DocFault) (doc : BundleDoc) → given_document 
 given_is (Ok x) doc is = let same : x ≡ doc = cc in ap (λ (y : BundleDoc). Ok y) same
 given_is (Err fault) doc is = absurd cc
 
+read_named : (is_file : Bool) (text : List ℕ) (doc : BundleDoc) → (if is_file then Err NoFile else given_document (bundle_of text)) ≡ Ok doc → AreNamed doc.descriptions
+read_named true text doc is = absurd cc
+read_named false text doc is = bundle_named text doc (given_is (bundle_of text) doc is)
+
 argument_named : (text : List ℕ) (doc : BundleDoc) → document_argument text ≡ Ok doc → AreNamed doc.descriptions
-argument_named text doc is = bundle_named text doc (given_is (bundle_of text) doc is)
+argument_named text doc is = read_named (names_file text) text doc is
 
 installing_named : (rest : Option (List ℕ)) → AskedNamed (installing rest)
 installing_named rest = when_fitting (text_at 1 rest) _ (λ text. when_read (document_argument text) _ (λ doc is. argument_named text doc is))

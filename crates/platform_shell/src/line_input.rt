@@ -4,6 +4,7 @@ ghost use Rattle.std.specs.Str.Lines.{strip_carriage_return};
 ghost use Rattle.platform_shell.specs.Reading.{not_yet_read, faults_after_fill, faults_after_line, FirstLineFeed, Fills, LineRead, NextLine, IsShorter, NoLineFeed, IsLastLine, TakesLine};
 
 use fault_count::{ReadStep, Source};
+use memchr::memchr;
 use prop_map::List;
 use std::alloc::{AllocError, Global};
 use std::mem;
@@ -109,7 +110,7 @@ fn line_feed_from(bytes: &[u8], searched: usize) -> Option<usize>
 fn first_line_feed(bytes: &[u8]) -> Option<usize>
     ensures { FirstLineFeed bytes.now result }
 {
-    bytes.iter().position(|byte| *byte == LINE_FEED)
+    memchr(LINE_FEED, bytes)
 }
 
 // Takes the line that ends with the line feed at this place.

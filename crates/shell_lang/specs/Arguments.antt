@@ -1,5 +1,5 @@
 -- What the document, the properties or the filter of a line mean. Our own form.
-use Rattle.std.specs.Prelude.{ℕ, List, Result, Ok, Err}
+use Rattle.std.specs.Prelude.{ℕ, ◌==◌, List, [], ◌∷◌, Bool, false, Result, Ok, Err, if◌then◌else◌}
 use Rattle.bundle_doc.specs.declared.document.BundleDoc.{BundleDoc}
 use Rattle.bundle_doc.specs.declared.fault.DocFault.{DocFault}
 use Rattle.bundle_doc.specs.Documents.{bundle_of}
@@ -14,7 +14,7 @@ use Rattle.prop_map.specs.declared.properties.Property.{Property}
 use Rattle.prop_map.specs.JsonProperties.{properties_of}
 use Rattle.serde_json.specs.Read.{read}
 use Rattle.shell_lang.specs.declared.line_fault.LineFault.{LineFault}
-use Rattle.shell_lang.specs.declared.line_fault.LineFault.TheVariants.{NotJson, Document, Properties, FilterText, OutOfMemory}
+use Rattle.shell_lang.specs.declared.line_fault.LineFault.TheVariants.{NoFile, NotJson, Document, Properties, FilterText, OutOfMemory}
 use Rattle.shell_lang.specs.FilterTexts.{filter_read}
 
 -- a document as a line has it
@@ -22,8 +22,13 @@ abbrev pub given_document : Result BundleDoc DocFault → Result BundleDoc LineF
 given_document (Ok doc) = Ok doc
 given_document (Err fault) = Err (Document fault)
 
+-- a text that begins with an at sign names a file: where a line is read, nothing has put its bytes there
+abbrev pub names_file : List ℕ → Bool
+names_file [] = false
+names_file (b ∷ bs) = b == 64
+
 abbrev pub document_argument : List ℕ → Result BundleDoc LineFault
-document_argument text = given_document (bundle_of text)
+document_argument text = if names_file text then Err NoFile else given_document (bundle_of text)
 
 -- why a line is refused whose properties aren't read
 abbrev pub property_fault : PropFault → LineFault

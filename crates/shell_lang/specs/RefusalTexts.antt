@@ -6,7 +6,7 @@ use Rattle.ldap_filter.specs.declared.filter_fault.FilterFault.TheVariants.{BadF
 use Rattle.shell_lang.specs.CoreFaultTexts.{core_fault_text}
 use Rattle.shell_lang.specs.FaultTexts.{document_fault_text, prop_fault_text, spaced}
 use Rattle.shell_lang.specs.declared.line_fault.LineFault.{LineFault}
-use Rattle.shell_lang.specs.declared.line_fault.LineFault.TheVariants.{NotBuilt, UnknownCommand, BadWords, Document, NotJson, Properties, FilterText, OutOfMemory}
+use Rattle.shell_lang.specs.declared.line_fault.LineFault.TheVariants.{NotBuilt, UnknownCommand, BadWords, Document, NoFile, NotJson, Properties, FilterText, OutOfMemory}
 use Rattle.shell_lang.specs.declared.shell_reply.Refusal.{Refusal}
 use Rattle.shell_lang.specs.declared.shell_reply.Refusal.TheVariants.{Line, Core, NotManual, NoTurn}
 
@@ -25,6 +25,7 @@ line_fault_text NotBuilt = codes "NotBuilt"
 line_fault_text UnknownCommand = codes "UnknownCommand"
 line_fault_text (BadWords at) = codes "BadWords" ++ spaced (decimal at)
 line_fault_text (Document fault) = document_fault_text fault
+line_fault_text NoFile = codes "NoFile"
 line_fault_text NotJson = codes "NotJson"
 line_fault_text (Properties fault) = prop_fault_text fault
 line_fault_text (FilterText fault) = filter_fault_text fault

@@ -1,7 +1,8 @@
 //! The documents, properties, filters and names of lines.
 ghost use Rattle.std.specs.Prelude.{◌≡◌, IfOk};
-ghost use Rattle.shell_lang.specs.Arguments.{document_argument, filter_argument, filter_fault, given_properties, properties_argument, property_fault};
+ghost use Rattle.shell_lang.specs.Arguments.{document_argument, filter_argument, filter_fault, given_document, given_properties, names_file, properties_argument, property_fault};
 ghost use Rattle.shell_lang.specs.LineFaults.{Reads};
+ghost use Rattle.bundle_doc.specs.Documents.{bundle_of};
 ghost use Rattle.prop_map.specs.JsonProperties.{properties_of};
 ghost use Rattle.serde_json.specs.View.{view};
 
@@ -12,9 +13,29 @@ use prop_map::{OutOfMemory, PropFault, Properties, Str};
 use serde_json::{Category, Value};
 use std::alloc::Global;
 
-// The document that a text is. Its texts are shared, so that what is told of its components takes no memory for them.
+// The document that a text is, where it names no file.
 pub(crate) fn read_document(alloc: Global, text: &str) -> Result<BundleDoc, LineFault>
     ensures { Reads (document_argument text.now) result }
+{
+    if names_file(text.as_bytes()) {
+        return Err(LineFault::NoFile);
+    }
+    json_document(alloc, text)
+}
+
+// Whether a text begins with an at sign. No JSON text does.
+fn names_file(text: &[u8]) -> bool
+    ensures { result ≡ names_file text.now }
+{
+    match text {
+        [] => false,
+        [first, ..] => *first == b'@',
+    }
+}
+
+// The document that a JSON text is. Its texts are shared, so that what is told of its components takes no memory for them.
+fn json_document(alloc: Global, text: &str) -> Result<BundleDoc, LineFault>
+    ensures { Reads (given_document (bundle_of text.now)) result }
 {
     match read_bundle(alloc, text.as_bytes()) {
         Ok(doc) => Ok(with_shared_texts(alloc, doc)?),

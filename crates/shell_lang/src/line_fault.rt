@@ -30,6 +30,9 @@ pub enum LineFault {
         /// Why, and where.
         fault: DocFault,
     },
+    /// The document is `@` and a path still: the file there wasn't put in its place.
+    #[error("the file can't be read, or the line would have more than 1,048,576 bytes with it")]
+    NoFile,
     /// The properties are no JSON text.
     #[error("the properties are no JSON text")]
     NotJson,

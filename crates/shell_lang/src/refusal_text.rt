@@ -29,6 +29,7 @@ fn line_fault_text(alloc: Global, fault: &LineFault) -> Result<String, OutOfMemo
         LineFault::UnknownCommand => String::from_str(alloc, "UnknownCommand"),
         LineFault::BadWords { at } => format!(in alloc; "BadWords {at}"),
         LineFault::Document { fault } => document_fault_text(alloc, fault),
+        LineFault::NoFile => String::from_str(alloc, "NoFile"),
         LineFault::NotJson => String::from_str(alloc, "NotJson"),
         LineFault::Properties { fault } => prop_fault_text(alloc, fault),
         LineFault::FilterText { fault } => filter_fault_text(alloc, *fault),

@@ -4,13 +4,11 @@ use clap::builder::ValueParser;
 use clap::{Arg, ArgAction, Command};
 use std::alloc::{AllocError, Global};
 
-const NAME: &str = "osgi_run";
-
 const VERSION: &str = "0.1.0";
 
-/// The command of the program.
-pub(crate) fn program<'a>(alloc: Global) -> Result<Command<'a>, AllocError> {
-    Command::new(alloc, NAME)
+/// The command of the program of this name.
+pub(crate) fn program<'a>(alloc: Global, name: &'a str) -> Result<Command<'a>, AllocError> {
+    Command::new(alloc, name)
         .version(VERSION)
         .about("Runs a service platform in the manner of an OSGi framework, by lines of a shell.")
         .no_binary_name(true)

@@ -13,16 +13,23 @@ use std::alloc::Global;
 pub struct Terminal<'t, R> {
     runtime: &'t R,
     alloc: Global,
+    program: &'t str,
     words: &'t [String],
     explains: bool,
 }
 
 impl<'t, R: Eprint> Terminal<'t, R> {
-    /// For a run that these words ask for.
-    pub fn new(alloc: Global, runtime: &'t R, words: &'t [String]) -> Terminal<'t, R> {
+    /// For a run that these words ask for, behind the name of the program.
+    pub fn new(
+        alloc: Global,
+        runtime: &'t R,
+        program: &'t str,
+        words: &'t [String],
+    ) -> Terminal<'t, R> {
         Terminal {
             runtime,
             alloc,
+            program,
             words,
             explains: words.iter().any(|word| word.as_str() == "--explain"),
         }
@@ -39,7 +46,7 @@ impl<'t, R: Eprint> Terminal<'t, R> {
 
     // Says from which word on the words are no form, and why.
     fn say_words(&self, at: u64) {
-        let told = match program(self.alloc) {
+        let told = match program(self.alloc, self.program) {
             Ok(command) => match command.try_get_matches_from(self.words) {
                 Ok(_) => false,
                 Err(error) => self.say_error(at, &error),
@@ -102,7 +109,7 @@ impl<R: Eprint> Tells for Terminal<'_, R> {
 
 impl<R> Texts for Terminal<'_, R> {
     fn text(&self, alloc: Global, asked: AskedText) -> Result<String, OutOfMemory> {
-        match program(alloc)?.try_get_matches_from(words_for(asked)) {
+        match program(alloc, self.program)?.try_get_matches_from(words_for(asked)) {
             Ok(_) => Ok(String::new(alloc)),
             Err(error) => format!(in alloc; "{error}"),
         }
