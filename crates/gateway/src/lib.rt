@@ -1,7 +1,7 @@
 //! The component code of a gateway, to be copied: two sensors, an aggregator, a store and a page.
 //!
 //! [`Gateway`] is what `Platform::new` takes. `docs/CONTRIBUTING.md` says under "Write a component" what each call is
-//! for, and `examples/gateway` has its documents, its script and its program.
+//! for, and `crates/gateway_run` is its program, with documents and a script.
 #![tactic(auto)]
 
 mod classes;

@@ -1,25 +1,29 @@
-//! The program: the words of the command line, standard input and standard output, over the component code of the
-//! demonstration. How a run ended is told on standard error.
+//! The program: the words of the command line, standard input, whose lines may name files, and standard output, over the
+//! component code of the demonstration. How a run ended is told on standard error.
 #![tactic(auto)]
 
 use demonstration_kinds::Demonstration;
 use fault_count::{StdSink, StdSource};
+use file_lines::{FileLines, StandardPrompt, StdFiles};
 use platform_shell::{Status, run_program};
 use shell_terminal::Terminal;
-use std::io::ErrorKind;
+use std::io::{ErrorKind, IsTerminal};
 use std::process::ExitCode;
 use std::rt::Env;
 use std::{env, io};
 
 fn main(rt: HostRuntime) -> ExitCode {
     let words = given_words(&rt);
+    let reader = rt.reader();
+    let prompt = StandardPrompt::new(&rt, reader.is_terminal());
+    let lines = StdSource::new(reader);
     run_program(
         rt.alloc(),
         Demonstration,
         &words,
-        &mut StdSource::new(rt.reader()),
+        &mut FileLines::new(rt.alloc(), lines, StdFiles::new(&rt), prompt),
         &mut StdSink::new(io::writer(&rt)),
-        &mut Terminal::new(rt.alloc(), &rt, known(&words)),
+        &mut Terminal::new(rt.alloc(), &rt, "osgi_run", known(&words)),
     )
 }
 

@@ -1,26 +1,30 @@
-//! A program of one's own: the words of the command line, standard input and standard output, over the component code
-//! of the gateway. `examples/gateway/run` makes it a crate, with the line
-//! `gateway_run: platform_shell shell_terminal gateway fault_count` of crates.txt.
+//! A program over component code of one's own, to be copied: that of the gateway. It hands the words of the command line,
+//! standard input, whose lines may name files, and standard output to `run_program`, which makes a platform with the code,
+//! and hands it to `run_told`. How a run ended is told on standard error.
 #![tactic(auto)]
 
 use fault_count::{StdSink, StdSource};
+use file_lines::{FileLines, StandardPrompt, StdFiles};
 use gateway::Gateway;
 use platform_shell::{Status, run_program};
 use shell_terminal::Terminal;
-use std::io::ErrorKind;
+use std::io::{ErrorKind, IsTerminal};
 use std::process::ExitCode;
 use std::rt::Env;
 use std::{env, io};
 
 fn main(rt: HostRuntime) -> ExitCode {
     let words = given_words(&rt);
+    let reader = rt.reader();
+    let prompt = StandardPrompt::new(&rt, reader.is_terminal());
+    let lines = StdSource::new(reader);
     run_program(
         rt.alloc(),
         Gateway,
         &words,
-        &mut StdSource::new(rt.reader()),
+        &mut FileLines::new(rt.alloc(), lines, StdFiles::new(&rt), prompt),
         &mut StdSink::new(io::writer(&rt)),
-        &mut Terminal::new(rt.alloc(), &rt, known(&words)),
+        &mut Terminal::new(rt.alloc(), &rt, "gateway_run", known(&words)),
     )
 }
 
