@@ -1,99 +1,135 @@
 //! Calls of the demonstration's component code.
-use crate::platforms::{Came, LIMITS, call, take};
+
+use crate::came::Came;
+use crate::steps::{Step, hold};
 use demonstration_kinds::Demonstration;
-use platform_hall::Platform;
-use std::alloc::Global;
-use std::test::Fail;
 
 const GREETER: &str = concat!(
-    r#"install {"location":"g","components":"#,
+    r#"{"location":"g","components":"#,
     r#"{"g":{"implementationClass":"com.acme.GreeterImpl","serviceInterfaces":["G"]}}}"#
 );
 
 const ECHO: &str = concat!(
-    r#"install {"location":"p","components":"#,
+    r#"{"location":"p","components":"#,
     r#"{"p":{"implementationClass":"demo.Echo","serviceInterfaces":["P"]}}}"#
 );
 
 const RELAY: &str = concat!(
-    r#"install {"location":"r","components":{"r":{"implementationClass":"demo.Relay","serviceInterfaces":["R"],"#,
+    r#"{"location":"r","components":{"r":{"implementationClass":"demo.Relay","serviceInterfaces":["R"],"#,
     r#""references":[{"name":"next","interfaceName":"P","cardinality":"0..1","policy":"dynamic"}]}}}"#
 );
 
 const FAILING: &str = concat!(
-    r#"install {"location":"f","components":{"f":{"implementationClass":"demo.Echo","serviceInterfaces":["P"],"#,
+    r#"{"location":"f","components":{"f":{"implementationClass":"demo.Echo","serviceInterfaces":["P"],"#,
     r#""properties":{"refuse":"activate"}}}}"#
 );
 
 const REFUSING: &str = concat!(
-    r#"install {"location":"f","components":{"f":{"implementationClass":"demo.Echo","serviceInterfaces":["P"],"#,
+    r#"{"location":"f","components":{"f":{"implementationClass":"demo.Echo","serviceInterfaces":["P"],"#,
     r#""properties":{"refuse":"call"}}}}"#
 );
 
-fn platform_with(alloc: Global, lines: &[&str]) -> Option<Platform<Demonstration>> {
-    let mut platform = Platform::new(alloc, Demonstration, LIMITS).ok()?;
-    for line in lines {
-        take(alloc, &mut platform, line)?;
-    }
-    Some(platform)
-}
-
-// What calls of service 1 for bundle 1 come to, one after the other.
-fn twice(alloc: Global, lines: &[&str], answer: &str) -> Option<(Came, Came)> {
-    let mut platform = platform_with(alloc, lines)?;
-    let first = call(alloc, &mut platform, 1, 1, "hi", answer);
-    let second = call(alloc, &mut platform, 1, 1, "hi", answer);
-    Some((first, second))
-}
-
-// What a relay answers while its next service is there, and once it is gone.
-fn relayed(alloc: Global) -> Option<(Came, Came)> {
-    let mut platform = platform_with(alloc, &[ECHO, RELAY, "start 1", "start 2"])?;
-    let with_next = call(alloc, &mut platform, 2, 2, "hi", "<hi>");
-    take(alloc, &mut platform, "stop 1")?;
-    let without = call(alloc, &mut platform, 2, 2, "hi", "no-service");
-    Some((with_next, without))
-}
+const GREETED: &[Step<'_>] = &[
+    Step::Install(GREETER),
+    Step::Start(1),
+    Step::Call {
+        bundle: 1,
+        service: 1,
+        came: Came::Answered(""),
+    },
+    Step::Call {
+        bundle: 1,
+        service: 1,
+        came: Came::Answered(""),
+    },
+];
 
 #[test]
-fn a_component_without_a_text_answers_the_empty_one(rt: HostRuntime) -> Result<(), Fail> {
-    assert_eq!(rt;
-        twice(rt.alloc(), &[GREETER, "start 1"], ""),
-        Some((Came::Right, Came::Right))
-    );
-    Ok(())
+fn a_component_without_a_text_answers_the_empty_one(rt: HostRuntime) {
+    assert!(rt; hold(rt.alloc(), Demonstration, GREETED));
 }
 
-#[test]
-fn a_relay_asks_the_service_that_it_holds(rt: HostRuntime) -> Result<(), Fail> {
-    assert_eq!(rt; relayed(rt.alloc()), Some((Came::Right, Came::Right)));
-    Ok(())
-}
+// With the service that it asks next, and once that is gone.
+const RELAYED: &[Step<'_>] = &[
+    Step::Install(ECHO),
+    Step::Install(RELAY),
+    Step::Start(1),
+    Step::Start(2),
+    Step::Call {
+        bundle: 2,
+        service: 2,
+        came: Came::Answered("<hi>"),
+    },
+    Step::Stop(1),
+    Step::Call {
+        bundle: 2,
+        service: 2,
+        came: Came::Answered("no-service"),
+    },
+];
 
 #[test]
-fn a_get_is_gone_where_the_activation_fails(rt: HostRuntime) -> Result<(), Fail> {
-    assert_eq!(rt;
-        twice(rt.alloc(), &[FAILING, "start 1"], "hi"),
-        Some((Came::Gone, Came::Core))
-    );
-    Ok(())
+fn a_relay_asks_the_service_that_it_holds(rt: HostRuntime) {
+    assert!(rt; hold(rt.alloc(), Demonstration, RELAYED));
 }
 
-#[test]
-fn component_code_refuses_a_request(rt: HostRuntime) -> Result<(), Fail> {
-    assert_eq!(rt;
-        twice(rt.alloc(), &[REFUSING, "start 1"], "hi"),
-        Some((Came::Refused, Came::Refused))
-    );
-    Ok(())
-}
+const FAILED: &[Step<'_>] = &[
+    Step::Install(FAILING),
+    Step::Start(1),
+    Step::Call {
+        bundle: 1,
+        service: 1,
+        came: Came::Gone,
+    },
+    Step::Call {
+        bundle: 1,
+        service: 1,
+        came: Came::Core,
+    },
+];
 
 #[test]
-fn a_service_of_a_command_has_no_object(rt: HostRuntime) -> Result<(), Fail> {
-    let lines = [r#"install {"location":"d"}"#, "start 1", "register 1 P {}"];
-    assert_eq!(rt;
-        twice(rt.alloc(), &lines, ""),
-        Some((Came::NoObject, Came::NoObject))
-    );
-    Ok(())
+fn a_get_is_gone_where_the_activation_fails(rt: HostRuntime) {
+    assert!(rt; hold(rt.alloc(), Demonstration, FAILED));
+}
+
+const REFUSED: &[Step<'_>] = &[
+    Step::Install(REFUSING),
+    Step::Start(1),
+    Step::Call {
+        bundle: 1,
+        service: 1,
+        came: Came::Refused,
+    },
+    Step::Call {
+        bundle: 1,
+        service: 1,
+        came: Came::Refused,
+    },
+];
+
+#[test]
+fn component_code_refuses_a_request(rt: HostRuntime) {
+    assert!(rt; hold(rt.alloc(), Demonstration, REFUSED));
+}
+
+const REGISTERED: &[Step<'_>] = &[
+    Step::Install(r#"{"location":"d"}"#),
+    Step::Start(1),
+    Step::Register(1),
+    Step::Call {
+        bundle: 1,
+        service: 1,
+        came: Came::NoObject,
+    },
+    Step::Call {
+        bundle: 1,
+        service: 1,
+        came: Came::NoObject,
+    },
+];
+
+#[test]
+fn a_service_of_a_command_has_no_object(rt: HostRuntime) {
+    assert!(rt; hold(rt.alloc(), Demonstration, REGISTERED));
 }

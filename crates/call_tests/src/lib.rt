@@ -2,11 +2,13 @@
 #![tactic(auto)]
 
 #[cfg(test)]
+mod came;
+#[cfg(test)]
 mod demonstration_calls;
 mod insisting;
 #[cfg(test)]
 mod long_calls;
 #[cfg(test)]
-mod platforms;
+mod steps;
 
 pub use insisting::{Insisted, Insisting};

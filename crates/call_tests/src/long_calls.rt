@@ -1,14 +1,13 @@
 //! Calls that are as long as may be, and longer.
+
 use crate::Insisting;
-use crate::platforms::{Came, LIMITS, call, take};
+use crate::came::Came;
+use crate::steps::{Step, hold};
 use demonstration_kinds::Demonstration;
-use platform_hall::Platform;
-use std::alloc::Global;
-use std::test::Fail;
 
 // An echo and 17 relays, each on the one before.
 const CHAIN: &str = concat!(
-    r#"install {"location":"c","components":{"#,
+    r#"{"location":"c","components":{"#,
     r#""e":{"name":"e","implementationClass":"demo.Echo","serviceInterfaces":["I0"]}"#,
     r#","r1":{"name":"r1","implementationClass":"demo.Relay","serviceInterfaces":["I1"],"#,
     r#""references":[{"name":"next","interfaceName":"I0"}]}"#,
@@ -48,43 +47,42 @@ const CHAIN: &str = concat!(
 );
 
 const INSISTING: &str = concat!(
-    r#"install {"location":"i","components":"#,
+    r#"{"location":"i","components":"#,
     r#"{"i":{"implementationClass":"I","serviceInterfaces":["I"]}}}"#
 );
 
-// What calls of the sixteenth and of the seventeenth relay come to.
-fn chained(alloc: Global) -> Option<(Came, Came)> {
-    let mut platform = Platform::new(alloc, Demonstration, LIMITS).ok()?;
-    take(alloc, &mut platform, CHAIN)?;
-    take(alloc, &mut platform, "start 1")?;
-    let sixteen = call(
-        alloc,
-        &mut platform,
-        1,
-        17,
-        "hi",
-        "<<<<<<<<<<<<<<<<hi>>>>>>>>>>>>>>>>",
-    );
-    let seventeen = call(alloc, &mut platform, 1, 18, "hi", "");
-    Some((sixteen, seventeen))
-}
-
-// What a call of component code comes to that makes one nested call after the other.
-fn insisted(alloc: Global) -> Option<Came> {
-    let mut platform = Platform::new(alloc, Insisting, LIMITS).ok()?;
-    take(alloc, &mut platform, INSISTING)?;
-    take(alloc, &mut platform, "start 1")?;
-    Some(call(alloc, &mut platform, 1, 1, "hi", ""))
-}
+// The sixteenth relay is asked, and the seventeenth.
+const CHAINED: &[Step<'_>] = &[
+    Step::Install(CHAIN),
+    Step::Start(1),
+    Step::Call {
+        bundle: 1,
+        service: 17,
+        came: Came::Answered("<<<<<<<<<<<<<<<<hi>>>>>>>>>>>>>>>>"),
+    },
+    Step::Call {
+        bundle: 1,
+        service: 18,
+        came: Came::TooLong(16),
+    },
+];
 
 #[test]
-fn sixteen_calls_may_wait_and_not_seventeen(rt: HostRuntime) -> Result<(), Fail> {
-    assert_eq!(rt; chained(rt.alloc()), Some((Came::Right, Came::TooLong(16))));
-    Ok(())
+fn sixteen_calls_may_wait_and_not_seventeen(rt: HostRuntime) {
+    assert!(rt; hold(rt.alloc(), Demonstration, CHAINED));
 }
 
+const INSISTED: &[Step<'_>] = &[
+    Step::Install(INSISTING),
+    Step::Start(1),
+    Step::Call {
+        bundle: 1,
+        service: 1,
+        came: Came::TooLong(64),
+    },
+];
+
 #[test]
-fn sixty_four_nested_calls_may_be_made(rt: HostRuntime) -> Result<(), Fail> {
-    assert_eq!(rt; insisted(rt.alloc()), Some(Came::TooLong(64)));
-    Ok(())
+fn sixty_four_nested_calls_may_be_made(rt: HostRuntime) {
+    assert!(rt; hold(rt.alloc(), Insisting, INSISTED));
 }

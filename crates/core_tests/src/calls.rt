@@ -1,67 +1,110 @@
 //! Whom calls reach.
 
-use crate::samples::{on_core, text};
-use crate::turns::settle_both;
+use crate::samples::{LIMITS, on_core};
+use crate::turns::settles_both;
 use crate::uses::got;
-use scr_core::{Core, Inward, InwardAt, Outer, OuterAt};
+use prop_map::Str;
+use scr_core::{Core, Inward, InwardAt, Outer, OuterAt, UseNote};
 use std::alloc::Global;
 
-// The instance that bundle 1 uses of the provider's service, each way.
-fn active(alloc: Global, core: &mut Core) -> Option<[u64; 2]> {
-    settle_both(alloc, core)?;
-    let live = core.active(alloc, 1, 1).ok()??;
-    let at = core.active_at(1, 1)?;
-    Some([live.instance, at.instance])
+// Bundle 1 uses instance 2 of the provider's service.
+fn uses_instance(alloc: Global, core: &Core) -> bool {
+    match core.active(alloc, 1, 1) {
+        Ok(Some(live)) => live.instance == 2,
+        _ => false,
+    }
+}
+
+fn uses_instance_at(core: &Core) -> bool {
+    match core.active_at(1, 1) {
+        Some(at) => at.instance == 2,
+        None => false,
+    }
+}
+
+fn tells_active(alloc: Global, core: &mut Core) -> bool {
+    settles_both(alloc, core) && uses_instance(alloc, core) && uses_instance_at(core)
 }
 
 #[test]
 fn an_active_instance_is_told(rt: HostRuntime) {
-    assert!(rt; on_core(rt.alloc(), active) == Some([2, 2]));
+    assert!(rt; on_core(rt.alloc(), LIMITS, tells_active));
 }
 
-// Whom a get reaches, each way.
-fn outer(alloc: Global, core: &mut Core) -> Option<[u64; 2]> {
-    let note = got(alloc, core)?;
-    match (core.outer(alloc, &note), core.outer_at(&note)) {
-        (Ok(Outer::Live(live)), OuterAt::Live(at)) => Some([live.instance, at.instance]),
-        _ => None,
+// A get reaches instance 2.
+fn reaches(alloc: Global, core: &Core, note: &UseNote) -> bool {
+    match core.outer(alloc, note) {
+        Ok(Outer::Live(live)) => live.instance == 2,
+        _ => false,
+    }
+}
+
+fn reaches_at(core: &Core, note: &UseNote) -> bool {
+    match core.outer_at(note) {
+        OuterAt::Live(at) => at.instance == 2,
+        _ => false,
+    }
+}
+
+fn get_reaches(alloc: Global, core: &mut Core) -> bool {
+    match got(alloc, core) {
+        Some(note) => reaches(alloc, core, &note) && reaches_at(core, &note),
+        None => false,
     }
 }
 
 #[test]
 fn a_get_reaches_an_instance(rt: HostRuntime) {
-    assert!(rt; on_core(rt.alloc(), outer) == Some([2, 2]));
+    assert!(rt; on_core(rt.alloc(), LIMITS, get_reaches));
 }
 
-// Whom the consumer's instance reaches, each way.
-fn nested(alloc: Global, core: &mut Core) -> Option<[u64; 2]> {
-    settle_both(alloc, core)?;
-    let reference = text(alloc, "P")?;
-    match (
-        core.nested(alloc, 1, &reference),
-        core.nested_at(1, &reference),
-    ) {
-        (Ok(Inward::Live { live, .. }), InwardAt::Live { live: at, .. }) => {
-            Some([live.instance, at.instance])
+// The consumer's instance reaches instance 2.
+fn reaches_nested(alloc: Global, core: &Core, reference: &Str) -> bool {
+    match core.nested(alloc, 1, reference) {
+        Ok(Inward::Live { live, .. }) => live.instance == 2,
+        _ => false,
+    }
+}
+
+fn reaches_nested_at(core: &Core, reference: &Str) -> bool {
+    match core.nested_at(1, reference) {
+        InwardAt::Live { live: at, .. } => at.instance == 2,
+        _ => false,
+    }
+}
+
+// It holds one service, and isn't ending.
+fn holds_one(alloc: Global, core: &Core, reference: &Str) -> bool {
+    match core.held_services(alloc, 1, reference) {
+        Ok(held) => held.as_slice().len() == 1 && !core.ending(1),
+        Err(_) => false,
+    }
+}
+
+fn nested_reaches(alloc: Global, core: &mut Core) -> bool {
+    match Str::spell(alloc, "P") {
+        Ok(reference) => {
+            settles_both(alloc, core)
+                && reaches_nested(alloc, core, &reference)
+                && reaches_nested_at(core, &reference)
         }
-        _ => None,
+        Err(_) => false,
     }
 }
 
 #[test]
 fn a_nested_call_reaches_an_instance(rt: HostRuntime) {
-    assert!(rt; on_core(rt.alloc(), nested) == Some([2, 2]));
+    assert!(rt; on_core(rt.alloc(), LIMITS, nested_reaches));
 }
 
-// How many services the consumer's instance holds, and whether it is ending.
-fn holding(alloc: Global, core: &mut Core) -> Option<(usize, bool)> {
-    settle_both(alloc, core)?;
-    let reference = text(alloc, "P")?;
-    let held = core.held_services(alloc, 1, &reference).ok()?;
-    Some((held.as_slice().len(), core.ending(1)))
+fn instance_holds(alloc: Global, core: &mut Core) -> bool {
+    match Str::spell(alloc, "P") {
+        Ok(reference) => settles_both(alloc, core) && holds_one(alloc, core, &reference),
+        Err(_) => false,
+    }
 }
 
 #[test]
 fn an_instance_holds_a_service(rt: HostRuntime) {
-    assert!(rt; on_core(rt.alloc(), holding) == Some((1, false)));
+    assert!(rt; on_core(rt.alloc(), LIMITS, instance_holds));
 }

@@ -1,134 +1,151 @@
 //! Each command once.
 
 use crate::samples::{
-    CONSUMER, PROVIDER, install, listen, on_core, register, run, start, stop, taken, text,
+    CONSUMER, LIMITS, PROVIDER, installs, listens, on_core, registers, runs, starts, takes, updates,
 };
-use bundle_doc::read_bundle;
-use prop_map::Properties;
+use prop_map::{Properties, Str};
 use scr_core::{Command, Core, Reply};
 use std::alloc::Global;
-use std::test::Fail;
 
-fn update(alloc: Global, core: &mut Core, document: &str) -> Option<Reply> {
-    match read_bundle(alloc, document.as_bytes()) {
-        Ok(doc) => taken(alloc, core, Command::Update { bundle: 1, doc }),
-        Err(_) => None,
-    }
-}
-
-fn bundle_life(alloc: Global, core: &mut Core) -> Option<[Reply; 5]> {
-    let installed = install(alloc, core, PROVIDER)?;
-    let started = start(alloc, core, 1)?;
-    let stopped = stop(alloc, core, 1)?;
-    let updated = update(alloc, core, CONSUMER)?;
-    let uninstalled = taken(alloc, core, Command::Uninstall { bundle: 1 })?;
-    Some([installed, started, stopped, updated, uninstalled])
+fn bundle_lives(alloc: Global, core: &mut Core) -> bool {
+    installs(alloc, core, PROVIDER, 1)
+        && starts(alloc, core, 1)
+        && takes(alloc, core, Command::Stop { bundle: 1 }, Reply::Done)
+        && updates(alloc, core, CONSUMER)
+        && takes(alloc, core, Command::Uninstall { bundle: 1 }, Reply::Done)
 }
 
 #[test]
 fn a_bundle_lives(rt: HostRuntime) {
-    let lived = on_core(rt.alloc(), bundle_life);
-    let done = Reply::Done;
-    assert!(rt; lived == Some([Reply::Bundle(1), done, done, done, done]));
+    assert!(rt; on_core(rt.alloc(), LIMITS, bundle_lives));
 }
 
-fn switch(alloc: Global, core: &mut Core, is_enabled: bool) -> Option<Reply> {
-    // A component without a name has that of its class.
-    let name = text(alloc, "D")?;
-    let command = if is_enabled {
+fn switched(name: Str, is_enabled: bool) -> Command {
+    if is_enabled {
         Command::Enable { bundle: 1, name }
     } else {
         Command::Disable { bundle: 1, name }
-    };
-    taken(alloc, core, command)
+    }
 }
 
-fn switch_twice(alloc: Global, core: &mut Core) -> Option<[Reply; 2]> {
-    run(alloc, core, PROVIDER)?;
-    Some([switch(alloc, core, false)?, switch(alloc, core, true)?])
+fn switches(alloc: Global, core: &mut Core, is_enabled: bool) -> bool {
+    // A component without a name has that of its class.
+    match Str::spell(alloc, "D") {
+        Ok(name) => takes(alloc, core, switched(name, is_enabled), Reply::Done),
+        Err(_) => false,
+    }
+}
+
+fn switches_twice(alloc: Global, core: &mut Core) -> bool {
+    runs(alloc, core, PROVIDER, 1) && switches(alloc, core, false) && switches(alloc, core, true)
 }
 
 #[test]
 fn a_component_is_disabled_and_enabled(rt: HostRuntime) {
-    assert!(rt; on_core(rt.alloc(), switch_twice) == Some([Reply::Done, Reply::Done]));
+    assert!(rt; on_core(rt.alloc(), LIMITS, switches_twice));
 }
 
-fn set_properties(alloc: Global, core: &mut Core) -> Option<Reply> {
+fn sets_properties(alloc: Global, core: &mut Core) -> bool {
     let command = Command::SetProperties {
         bundle: 1,
         service: 1,
         properties: Properties::new(alloc),
     };
-    taken(alloc, core, command)
+    takes(alloc, core, command, Reply::Done)
 }
 
-// Service 1 in the hands of bundle 1: it comes, is used, and goes.
-fn service_life(alloc: Global, core: &mut Core) -> Option<[Reply; 5]> {
-    let (bundle, service) = (1, 1);
-    let registered = register(alloc, core)?;
-    let set = set_properties(alloc, core)?;
-    let got = taken(alloc, core, Command::Get { bundle, service })?;
-    let released = taken(alloc, core, Command::Unget { bundle, service })?;
-    let gone = taken(alloc, core, Command::Unregister { bundle, service })?;
-    Some([registered, set, got, released, gone])
+// Service 1 in the hands of bundle 1: it is used and released, and goes.
+fn is_used_and_goes(alloc: Global, core: &mut Core, bundle: u64, service: u64) -> bool {
+    takes(
+        alloc,
+        core,
+        Command::Get { bundle, service },
+        Reply::Uses(1),
+    ) && takes(
+        alloc,
+        core,
+        Command::Unget { bundle, service },
+        Reply::Uses(0),
+    ) && takes(
+        alloc,
+        core,
+        Command::Unregister { bundle, service },
+        Reply::Done,
+    )
 }
 
-fn run_for_a_service(alloc: Global, core: &mut Core) -> Option<[Reply; 5]> {
-    run(alloc, core, CONSUMER)?;
-    service_life(alloc, core)
+fn service_lives(alloc: Global, core: &mut Core) -> bool {
+    runs(alloc, core, CONSUMER, 1)
+        && registers(alloc, core, 1)
+        && sets_properties(alloc, core)
+        && is_used_and_goes(alloc, core, 1, 1)
 }
 
 #[test]
 fn a_service_comes_and_goes(rt: HostRuntime) {
-    let lived = on_core(rt.alloc(), run_for_a_service);
-    let (one, none) = (Reply::Uses(1), Reply::Uses(0));
-    assert!(rt; lived == Some([Reply::Service(1), Reply::Done, one, none, Reply::Done]));
+    assert!(rt; on_core(rt.alloc(), LIMITS, service_lives));
 }
 
-fn listener_life(alloc: Global, core: &mut Core) -> Option<[Reply; 2]> {
-    run(alloc, core, CONSUMER)?;
-    let listened = listen(alloc, core)?;
-    let unlistened = taken(alloc, core, Command::Unlisten { listener: 1 })?;
-    Some([listened, unlistened])
+fn listener_lives(alloc: Global, core: &mut Core) -> bool {
+    runs(alloc, core, CONSUMER, 1)
+        && listens(alloc, core)
+        && takes(alloc, core, Command::Unlisten { listener: 1 }, Reply::Done)
 }
 
 #[test]
 fn a_listener_comes_and_goes(rt: HostRuntime) {
-    assert!(rt; on_core(rt.alloc(), listener_life) == Some([Reply::Listener(1), Reply::Done]));
+    assert!(rt; on_core(rt.alloc(), LIMITS, listener_lives));
 }
 
-fn configure(alloc: Global, core: &mut Core) -> Option<Reply> {
-    let pid = text(alloc, "one")?;
-    let properties = Properties::new(alloc);
-    taken(alloc, core, Command::Configure { pid, properties })
+fn configures(alloc: Global, core: &mut Core) -> bool {
+    match Str::spell(alloc, "one") {
+        Ok(pid) => {
+            let properties = Properties::new(alloc);
+            let command = Command::Configure { pid, properties };
+            takes(alloc, core, command, Reply::Done)
+        }
+        Err(_) => false,
+    }
 }
 
-fn configure_factory(alloc: Global, core: &mut Core) -> Option<Reply> {
-    let factory = text(alloc, "many")?;
-    let name = text(alloc, "first")?;
-    let properties = Properties::new(alloc);
+fn configures_named(alloc: Global, core: &mut Core, factory: Str, name: Str) -> bool {
     let command = Command::ConfigureFactory {
         factory,
         name,
-        properties,
+        properties: Properties::new(alloc),
     };
-    taken(alloc, core, command)
+    takes(alloc, core, command, Reply::Done)
 }
 
-fn unconfigure(alloc: Global, core: &mut Core, pid: &str) -> Option<Reply> {
-    let pid = text(alloc, pid)?;
-    taken(alloc, core, Command::Unconfigure { pid })
+fn configures_first(alloc: Global, core: &mut Core, factory: Str) -> bool {
+    match Str::spell(alloc, "first") {
+        Ok(name) => configures_named(alloc, core, factory, name),
+        Err(_) => false,
+    }
 }
 
-fn configuration_life(alloc: Global, core: &mut Core) -> Option<[Reply; 4]> {
-    let set = configure(alloc, core)?;
-    let made = configure_factory(alloc, core)?;
-    let one_gone = unconfigure(alloc, core, "one")?;
-    let both_gone = unconfigure(alloc, core, "many~first")?;
-    Some([set, made, one_gone, both_gone])
+fn configures_factory(alloc: Global, core: &mut Core) -> bool {
+    match Str::spell(alloc, "many") {
+        Ok(factory) => configures_first(alloc, core, factory),
+        Err(_) => false,
+    }
+}
+
+fn unconfigures(alloc: Global, core: &mut Core, pid: &str) -> bool {
+    match Str::spell(alloc, pid) {
+        Ok(pid) => takes(alloc, core, Command::Unconfigure { pid }, Reply::Done),
+        Err(_) => false,
+    }
+}
+
+fn configurations_live(alloc: Global, core: &mut Core) -> bool {
+    configures(alloc, core)
+        && configures_factory(alloc, core)
+        && unconfigures(alloc, core, "one")
+        && unconfigures(alloc, core, "many~first")
 }
 
 #[test]
 fn configurations_come_and_go(rt: HostRuntime) {
-    assert!(rt; on_core(rt.alloc(), configuration_life) == Some([Reply::Done; 4]));
+    assert!(rt; on_core(rt.alloc(), LIMITS, configurations_live));
 }

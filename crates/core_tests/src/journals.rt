@@ -1,35 +1,37 @@
 //! The journal and the limits of a core.
 
-use crate::samples::{LIMITS, PROVIDER, on_core, run};
-use scr_core::{Core, Limits, core_is_send};
+use crate::samples::{LIMITS, PROVIDER, on_core, runs};
+use scr_core::{Core, core_is_send};
 use std::alloc::Global;
 
-fn limits_and_length(alloc: Global, core: &mut Core) -> Option<(Limits, u64)> {
-    run(alloc, core, PROVIDER)?;
+fn tells_limits_and_length(alloc: Global, core: &mut Core) -> bool {
+    if !runs(alloc, core, PROVIDER, 1) {
+        return false;
+    }
     core.note_legal();
-    Some((core.limits(), core.journal().length()))
+    core.limits() == LIMITS && core.journal().length() == 2
 }
 
 #[test]
 fn a_core_tells_its_limits_and_its_journal(rt: HostRuntime) {
-    assert!(rt; on_core(rt.alloc(), limits_and_length) == Some((LIMITS, 2)));
+    assert!(rt; on_core(rt.alloc(), LIMITS, tells_limits_and_length));
 }
 
-// How many entries a core leaves behind on which a bundle runs.
-fn left(alloc: Global) -> Option<u64> {
+// Whether a core on which a bundle runs leaves so many entries behind.
+fn leaves(alloc: Global, length: u64) -> bool {
     match Core::new(alloc, LIMITS) {
         Ok(mut core) => {
-            let ran = run(alloc, &mut core, PROVIDER);
+            let ran = runs(alloc, &mut core, PROVIDER, 1);
             let journal = core.into_journal();
-            ran.map(|_| journal.length())
+            ran && journal.length() == length
         }
-        Err(_) => None,
+        Err(_) => false,
     }
 }
 
 #[test]
 fn a_journal_is_left(rt: HostRuntime) {
-    assert!(rt; left(rt.alloc()) == Some(2));
+    assert!(rt; leaves(rt.alloc(), 2));
 }
 
 #[test]

@@ -1,7 +1,7 @@
 //! A journal that is too full for the turn that is due.
 
-use crate::samples::run;
-use crate::turns::run_turn;
+use crate::samples::{on_core, runs};
+use crate::turns::runs_turn;
 use callback_orders::Outcome;
 use scr_core::{Core, CoreFault, Limits};
 use std::alloc::Global;
@@ -20,36 +20,32 @@ const JUST_ENOUGH: Limits = Limits {
     turns: 100,
 };
 
-// Why the Activate that is due doesn't begin, nothing where it does.
-fn refusal_of_activate(alloc: Global, core: &mut Core) -> Option<Option<CoreFault>> {
-    run(alloc, core, IMMEDIATE)?;
-    run_turn(alloc, core, Outcome::Done)?;
+// An Activate is due.
+fn comes_to_activate(alloc: Global, core: &mut Core) -> bool {
+    runs(alloc, core, IMMEDIATE, 1) && runs_turn(alloc, core, Outcome::Done)
+}
+
+fn finds_no_room(alloc: Global, core: &mut Core) -> bool {
     match core.take_turn(alloc) {
-        Ok(_) => Some(None),
-        Err(fault) => Some(Some(fault)),
+        Ok(_) => false,
+        Err(fault) => fault == CoreFault::JournalFull,
     }
 }
 
-fn one_short(alloc: Global) -> Option<Option<CoreFault>> {
-    match Core::new(alloc, ONE_SHORT) {
-        Ok(mut core) => refusal_of_activate(alloc, &mut core),
-        Err(_) => None,
-    }
+fn is_refused(alloc: Global, core: &mut Core) -> bool {
+    comes_to_activate(alloc, core) && finds_no_room(alloc, core)
 }
 
 #[test]
 fn an_activate_without_room_for_its_drain_is_refused(rt: HostRuntime) {
-    assert!(rt; one_short(rt.alloc()) == Some(Some(CoreFault::JournalFull)));
+    assert!(rt; on_core(rt.alloc(), ONE_SHORT, is_refused));
 }
 
-fn just_enough(alloc: Global) -> Option<Option<CoreFault>> {
-    match Core::new(alloc, JUST_ENOUGH) {
-        Ok(mut core) => refusal_of_activate(alloc, &mut core),
-        Err(_) => None,
-    }
+fn begins(alloc: Global, core: &mut Core) -> bool {
+    comes_to_activate(alloc, core) && core.take_turn(alloc).is_ok()
 }
 
 #[test]
 fn an_activate_with_room_for_its_drain_begins(rt: HostRuntime) {
-    assert!(rt; just_enough(rt.alloc()) == Some(None));
+    assert!(rt; on_core(rt.alloc(), JUST_ENOUGH, begins));
 }

@@ -10,13 +10,34 @@ pub(crate) fn text(alloc: Global, text: &str) -> Result<Value, OutOfMemory> {
     Ok(Value::Text(Str::spell(alloc, text)?))
 }
 
+fn add(alloc: Global, list: &mut Vec<Str>, text: &str) -> Result<(), OutOfMemory> {
+    let text = Str::spell(alloc, text)?;
+    list.push(text)?;
+    Ok(())
+}
+
 /// Several texts.
 pub(crate) fn texts(alloc: Global, texts: &[&str]) -> Result<Value, OutOfMemory> {
     let mut list = Vec::new(alloc);
     for text in texts {
-        list.push(Str::spell(alloc, text)?)?;
+        add(alloc, &mut list, text)?;
     }
     Ok(Value::Texts(List::of(list)))
+}
+
+fn ranked(
+    alloc: Global,
+    properties: &mut Properties,
+    ranking: i64,
+    key: &str,
+    value: Value,
+) -> Result<(), OutOfMemory> {
+    properties.set(alloc, key, value)?;
+    properties.set(alloc, "service.ranking", Value::Whole(ranking))
+}
+
+fn without_interfaces(alloc: Global) -> Result<Interfaces, OutOfMemory> {
+    Interfaces::of(alloc, List::of(Vec::new(alloc)))
 }
 
 /// A service with a ranking and one property more.
@@ -27,13 +48,13 @@ pub(crate) fn service(
     key: &str,
     value: Value,
 ) -> Result<ServiceRow, OutOfMemory> {
+    let interfaces = without_interfaces(alloc)?;
     let mut properties = Properties::new(alloc);
-    properties.set(alloc, "service.ranking", Value::Whole(ranking))?;
-    properties.set(alloc, key, value)?;
+    ranked(alloc, &mut properties, ranking, key, value)?;
     Ok(ServiceRow {
         id,
         bundle: 1,
-        interfaces: Interfaces::of(alloc, List::of(Vec::new(alloc)))?,
+        interfaces,
         properties,
         revision: 0,
         direct: false,

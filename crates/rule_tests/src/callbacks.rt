@@ -1,40 +1,85 @@
 //! The callbacks of one instance so far.
 
-use crate::samples::text;
 use callback_orders::{
-    Callback, Outcome, Phase, Word, held_for, is_held, is_living, is_outstanding, phase_of,
+    Callback, Called, Outcome, Phase, Word, held_for, is_held, is_living, is_outstanding, phase_of,
 };
-use prop_map::Copies;
-use std::test::Fail;
+use prop_map::{Copies, Str};
+use std::alloc::Global;
 
-#[test]
-fn a_service_is_held_from_its_bind_on(rt: HostRuntime) -> Result<(), Fail> {
-    let alloc = rt.alloc();
-    let mut word = Word::new(alloc)?;
-    word.push(Callback::Create)?;
-    word.end(Outcome::Done);
-    word.push(Callback::Bind {
-        reference: text(alloc, "log")?,
+fn is_held_alone(alloc: Global, log: &Str, calls: &[Called]) -> bool {
+    match held_for(alloc, log, calls) {
+        Ok(held) => held.as_slice() == [4u64].as_slice() && is_held(calls, log, 4),
+        Err(_) => false,
+    }
+}
+
+fn copy_is_same(alloc: Global, word: &Word) -> bool {
+    match word.copy(alloc) {
+        Ok(copy) => copy.calls() == word.calls(),
+        Err(_) => false,
+    }
+}
+
+// Service 4 is held once it is bound to this reference.
+fn holds_from_its_bind_on(alloc: Global, log: &Str, reference: Str) -> bool {
+    let mut word = match Word::new(alloc) {
+        Ok(word) => word,
+        Err(_) => return false,
+    };
+    match word.push(Callback::Create) {
+        Ok(()) => word.end(Outcome::Done),
+        Err(_) => return false,
+    }
+    let bind = Callback::Bind {
+        reference,
         service: 4,
-    })?;
-    let log = text(alloc, "log")?;
-    let held = held_for(alloc, &log, word.calls())?;
-    assert_eq!(rt; held.as_slice(), [4u64].as_slice());
-    assert!(rt; is_held(word.calls(), &log, 4));
-    assert_eq!(rt; word.copy(alloc)?.calls(), word.calls());
-    Ok(())
+    };
+    word.push(bind).is_ok() && is_held_alone(alloc, log, word.calls()) && copy_is_same(alloc, &word)
+}
+
+fn holds_for(alloc: Global, log: &Str) -> bool {
+    match log.copy(alloc) {
+        Ok(reference) => holds_from_its_bind_on(alloc, log, reference),
+        Err(_) => false,
+    }
+}
+
+fn holds_for_log(alloc: Global) -> bool {
+    match Str::spell(alloc, "log") {
+        Ok(log) => holds_for(alloc, &log),
+        Err(_) => false,
+    }
 }
 
 #[test]
-fn a_begun_callback_is_taken_back(rt: HostRuntime) -> Result<(), Fail> {
+fn a_service_is_held_from_its_bind_on(rt: HostRuntime) {
+    assert!(rt; holds_for_log(rt.alloc()));
+}
+
+// Whether no callback is under way, and the object is still to be made.
+fn is_to_be_made(calls: &[Called]) -> bool {
+    !is_outstanding(calls) && is_living(calls) && phase_of(calls) == Phase::Making
+}
+
+fn is_taken_back(alloc: Global) -> bool {
+    let mut word = match Word::new(alloc) {
+        Ok(word) => word,
+        Err(_) => return false,
+    };
+    match word.push(Callback::Create) {
+        Ok(()) => {}
+        Err(_) => return false,
+    }
+    if !word.is_outstanding() {
+        return false;
+    }
+    word.take_back();
+    is_to_be_made(word.calls())
+}
+
+#[test]
+fn a_begun_callback_is_taken_back(rt: HostRuntime) {
     Word::note_grammar();
     Word::note_due();
-    let mut word = Word::new(rt.alloc())?;
-    word.push(Callback::Create)?;
-    assert!(rt; word.is_outstanding());
-    word.take_back();
-    assert!(rt; !is_outstanding(word.calls()));
-    assert!(rt; is_living(word.calls()));
-    assert_eq!(rt; phase_of(word.calls()), Phase::Making);
-    Ok(())
+    assert!(rt; is_taken_back(rt.alloc()));
 }

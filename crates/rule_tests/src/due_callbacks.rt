@@ -1,30 +1,36 @@
 //! Which callback is due.
 
+use crate::samples::one;
 use callback_orders::{
     DueRef, HeldService, InstanceView, Key, Phase, ReferenceView, Wish, due_of, first_due,
 };
-use prop_map::List;
-use std::alloc::{AllocError, Global};
-use std::test::Fail;
+use prop_map::{List, OutOfMemory};
+use std::alloc::Global;
 
-// An active instance that desires service 2 in place of service 1, which it holds.
-fn outdated(alloc: Global, instance: u64) -> Result<InstanceView, AllocError> {
-    let mut desired = Vec::new(alloc);
-    desired.push(Wish {
-        service: 2,
-        ready: true,
-    })?;
-    let mut held = Vec::new(alloc);
-    held.push(HeldService {
-        service: 1,
-        changed: false,
-    })?;
-    let mut references = Vec::new(alloc);
-    references.push(ReferenceView {
+const WISH: Wish = Wish {
+    service: 2,
+    ready: true,
+};
+
+const HELD: HeldService = HeldService {
+    service: 1,
+    changed: false,
+};
+
+// Service 2 is desired in place of service 1, which is held.
+fn outdated_references(alloc: Global) -> Result<List<ReferenceView>, OutOfMemory> {
+    let desired = one(alloc, WISH)?;
+    let held = one(alloc, HELD)?;
+    let reference = ReferenceView {
         told: false,
-        desired: List::of(desired),
-        held: List::of(held),
-    })?;
+        desired,
+        held,
+    };
+    one(alloc, reference)
+}
+
+// An active instance that desires so.
+fn outdated(alloc: Global, instance: u64) -> Result<InstanceView, OutOfMemory> {
     Ok(InstanceView {
         instance,
         phase: Phase::Active,
@@ -33,28 +39,34 @@ fn outdated(alloc: Global, instance: u64) -> Result<InstanceView, AllocError> {
         drained: false,
         unheld: true,
         stale: false,
-        references: List::of(references),
+        references: outdated_references(alloc)?,
     })
 }
 
-#[test]
-fn a_replacement_is_bound_first(rt: HostRuntime) -> Result<(), Fail> {
-    let view = outdated(rt.alloc(), 4)?;
-    let due = DueRef::Bind {
-        instance: 4,
-        reference: 0,
-        service: 2,
-    };
-    assert!(rt; due_of(&view) == Some(due));
-    Ok(())
+const BIND: DueRef = DueRef::Bind {
+    instance: 4,
+    reference: 0,
+    service: 2,
+};
+
+fn binds_first(alloc: Global) -> bool {
+    match outdated(alloc, 4) {
+        Ok(view) => due_of(&view) == Some(BIND),
+        Err(_) => false,
+    }
 }
 
 #[test]
-fn a_wanted_instance_is_created(rt: HostRuntime) -> Result<(), Fail> {
-    let key = Key {
-        configuration: 5,
-        consumer: 0,
-    };
-    assert!(rt; first_due(&[], &[key]) == Some(DueRef::Create { key }));
-    Ok(())
+fn a_replacement_is_bound_first(rt: HostRuntime) {
+    assert!(rt; binds_first(rt.alloc()));
+}
+
+const KEY: Key = Key {
+    configuration: 5,
+    consumer: 0,
+};
+
+#[test]
+fn a_wanted_instance_is_created(rt: HostRuntime) {
+    assert!(rt; first_due(&[], &[KEY]) == Some(DueRef::Create { key: KEY }));
 }

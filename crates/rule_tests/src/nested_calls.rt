@@ -1,36 +1,65 @@
 //! Calls that wait for the reply of a nested one.
 
-use crate::samples::text;
 use kind_trait::{CallStack, CallTooLong, KindFault, NestedReply};
-use prop_map::Copies;
-use std::test::Fail;
+use prop_map::{Copies, Str};
+use std::alloc::Global;
+use std::fmt::Display;
 
-#[test]
-fn a_call_waits_for_its_nested_one(rt: HostRuntime) -> Result<(), Fail> {
-    let mut stack = CallStack::new(rt.alloc())?;
-    stack.make_room()?;
-    assert!(rt; stack.push(3, 7u64).is_ok());
-    assert_eq!(rt; stack.waiting().len(), 1);
-    assert_eq!(rt; stack.pop(), Some(7));
+fn waits(alloc: Global) -> bool {
+    let mut stack = match CallStack::new(alloc) {
+        Ok(stack) => stack,
+        Err(_) => return false,
+    };
+    match stack.make_room() {
+        Ok(()) => {}
+        Err(_) => return false,
+    }
+    let waited = stack.push(3, 7u64).is_ok()
+        && stack.waiting().len() == 1
+        && stack.pop() == Some(7);
     if stack.waiting().is_empty() {
         stack.close();
     }
-    Ok(())
+    waited
 }
 
 #[test]
-fn a_reply_is_copied(rt: HostRuntime) -> Result<(), Fail> {
-    let reply = NestedReply::Text(text(rt.alloc(), "hello")?);
-    assert!(rt; reply.copy(rt.alloc())? == reply);
-    Ok(())
+fn a_call_waits_for_its_nested_one(rt: HostRuntime) {
+    assert!(rt; waits(rt.alloc()));
+}
+
+fn copy_is_same(alloc: Global, reply: &NestedReply) -> bool {
+    match reply.copy(alloc) {
+        Ok(copy) => copy == *reply,
+        Err(_) => false,
+    }
+}
+
+fn is_copied(alloc: Global) -> bool {
+    match Str::spell(alloc, "hello") {
+        Ok(text) => copy_is_same(alloc, &NestedReply::Text(text)),
+        Err(_) => false,
+    }
 }
 
 #[test]
-fn faults_are_printed(rt: HostRuntime) -> Result<(), Fail> {
-    let printed = format!(in rt.alloc(); "{CallTooLong} / {}", KindFault::Refused)?;
-    assert_eq!(rt;
-        printed.as_str(),
-        "the call is too long / the component refuses"
+fn a_reply_is_copied(rt: HostRuntime) {
+    assert!(rt; is_copied(rt.alloc()));
+}
+
+// Whether it is printed so.
+pub(crate) fn is_printed<T: Display>(alloc: Global, value: &T, wanted: &str) -> bool {
+    match format!(in alloc; "{value}") {
+        Ok(text) => text.as_str() == wanted,
+        Err(_) => false,
+    }
+}
+
+#[test]
+fn faults_are_printed(rt: HostRuntime) {
+    let alloc = rt.alloc();
+    assert!(rt;
+        is_printed(alloc, &CallTooLong, "the call is too long")
+            && is_printed(alloc, &KindFault::Refused, "the component refuses")
     );
-    Ok(())
 }

@@ -2,65 +2,91 @@
 ghost use Rattle.std.specs.Prelude.{◌≡◌, IfOk};
 
 use crate::MemoryDesk;
-use crate::samples::{site, text};
+use crate::nested_calls::is_printed;
+use crate::samples::site;
 use callback_orders::{Callback, Outcome};
 use demonstration_kinds::Demonstration;
-use std::alloc::{AllocError, Global};
+use prop_map::{OutOfMemory, Str};
+use std::alloc::Global;
 use std::collections::VecDeque;
-use std::test::Fail;
 use turn_runner::{DeskFault, SettleFault, TurnWork, run_turn, settle};
 
 // A turn of instance 1, which refuses its Activate.
-fn work(alloc: Global, number: u64, callback: Callback) -> Result<TurnWork, AllocError>
+fn work(alloc: Global, number: u64, callback: Callback) -> Result<TurnWork, OutOfMemory>
     ensures { IfOk result (λ work. work.callback ≡ callback) }
 {
-    Ok(TurnWork {
-        number,
-        callback,
-        instance: 1,
-        name: text(alloc, "echo")?,
-        site: site(alloc, "demo.Echo", "refuse", "activate")?,
-    })
+    let name = Str::spell(alloc, "echo")?;
+    match site(alloc, "demo.Echo", "refuse", "activate") {
+        Ok(site) => Ok(TurnWork {
+            number,
+            callback,
+            instance: 1,
+            name,
+            site,
+        }),
+        Err(error) => Err(error),
+    }
 }
 
-fn settled(alloc: Global, desk: &mut MemoryDesk<()>) -> Result<u64, SettleFault> {
-    settle(alloc, desk, &Demonstration, 4)
+fn comes(
+    alloc: Global,
+    turns: &mut VecDeque<TurnWork>,
+    number: u64,
+    callback: Callback,
+) -> Result<(), OutOfMemory> {
+    let work = work(alloc, number, callback)?;
+    turns.push_back(work)?;
+    Ok(())
+}
+
+// Two turns run, the second of which is refused.
+fn run_until_nothing_is_due(alloc: Global, turns: VecDeque<TurnWork>) -> bool {
+    let mut desk = MemoryDesk::new(alloc, turns, 4);
+    let ran: Result<u64, SettleFault> = settle(alloc, &mut desk, &Demonstration, 4);
+    let is_refused = match desk.ended().last() {
+        Some(last) => last.outcome == Outcome::Refused,
+        None => false,
+    };
+    ran == Ok(2) && is_refused
+}
+
+fn come(alloc: Global, turns: &mut VecDeque<TurnWork>) -> bool {
+    comes(alloc, turns, 1, Callback::Create).is_ok()
+        && comes(alloc, turns, 2, Callback::Activate).is_ok()
+}
+
+fn two_run(alloc: Global) -> bool {
+    let mut turns = VecDeque::new(alloc);
+    if !come(alloc, &mut turns) {
+        return false;
+    }
+    run_until_nothing_is_due(alloc, turns)
 }
 
 #[test]
-fn turns_run_until_nothing_is_due(rt: HostRuntime) -> Result<(), Fail> {
+fn turns_run_until_nothing_is_due(rt: HostRuntime) {
+    assert!(rt; two_run(rt.alloc()));
+}
+
+fn makes_an_object(alloc: Global) -> bool {
+    match work(alloc, 1, Callback::Create) {
+        Ok(create) => run_turn(alloc, &Demonstration, None, &create)
+            .made
+            .is_some(),
+        Err(_) => false,
+    }
+}
+
+#[test]
+fn a_create_makes_an_object(rt: HostRuntime) {
+    assert!(rt; makes_an_object(rt.alloc()));
+}
+
+#[test]
+fn faults_are_printed(rt: HostRuntime) {
     let alloc = rt.alloc();
-    let mut turns_to_come = VecDeque::new(alloc);
-    turns_to_come.push_back(work(alloc, 1, Callback::Create)?)?;
-    turns_to_come.push_back(work(alloc, 2, Callback::Activate)?)?;
-    let mut desk = MemoryDesk::new(alloc, turns_to_come, 4);
-    assert!(rt; settled(alloc, &mut desk) == Ok(2));
     assert!(rt;
-        desk.ended()
-            .last()
-            .is_some_and(|last| last.outcome == Outcome::Refused)
+        is_printed(alloc, &DeskFault::JournalFull, "the journal is full")
+            && is_printed(alloc, &SettleFault::Unsettled, "a turn is still due")
     );
-    Ok(())
-}
-
-#[test]
-fn a_create_makes_an_object(rt: HostRuntime) -> Result<(), Fail> {
-    let create = work(rt.alloc(), 1, Callback::Create)?;
-    let ran = run_turn(rt.alloc(), &Demonstration, None, &create);
-    assert!(rt; ran.made.is_some());
-    Ok(())
-}
-
-#[test]
-fn faults_are_printed(rt: HostRuntime) -> Result<(), Fail> {
-    let printed = format!(in rt.alloc();
-        "{} / {}",
-        DeskFault::JournalFull,
-        SettleFault::Unsettled
-    )?;
-    assert_eq!(rt;
-        printed.as_str(),
-        "the journal is full / a turn is still due"
-    );
-    Ok(())
 }

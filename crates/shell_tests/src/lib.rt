@@ -2,9 +2,17 @@
 #![tactic(auto)]
 
 #[cfg(test)]
+mod ends;
+#[cfg(test)]
+mod forms;
+#[cfg(test)]
 mod loads;
 #[cfg(test)]
 mod platforms;
+#[cfg(test)]
+mod programs;
+#[cfg(test)]
+mod runs;
 #[cfg(test)]
 mod samples;
 #[cfg(test)]
@@ -13,6 +21,8 @@ mod script_runs;
 mod shell_texts;
 #[cfg(test)]
 mod told_runs;
+#[cfg(test)]
+mod turns;
 #[cfg(test)]
 mod watched_turns;
 mod watching;

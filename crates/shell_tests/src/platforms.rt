@@ -1,58 +1,58 @@
-//! Turns of a platform.
+//! New platforms, and what is done on one.
+ghost use Rattle.platform_hall.specs.Cores.{AreWithinGreatest};
 
-use crate::samples::{LIMITS, start_both};
-use callback_orders::Outcome;
-use demonstration_kinds::Demonstration;
-use platform_hall::{FinishFault, Platform, note_rest, note_turns_end};
+use crate::loads::{Loading, loads};
+use crate::runs::{Script, runs};
+use crate::turns::{settles, settles_behind_a_turn, turns_by_hand};
+use kind_trait::Kinds;
+use platform_shell::Platform;
+use scr_world::Limits;
 use std::alloc::Global;
-use std::test::Fail;
 
-// Runs the first due turn by hand, and answers its number and its outcome.
-fn run_by_hand(alloc: Global, platform: &mut Platform<Demonstration>) -> Option<(u64, Outcome)> {
-    start_both(alloc, platform)?;
-    let turn = platform.begin(alloc).ok()??;
-    let outcome = platform.finish(alloc, turn).ok()?;
-    Some((turn, outcome))
+pub(crate) const LIMITS: Limits = Limits {
+    journal: 100,
+    turns: 100,
+};
+
+/// What is done on a new platform, with what it comes to.
+#[derive(Clone, Copy)]
+pub(crate) enum Deed<'d> {
+    /// A script is run.
+    Run(&'d Script<'d>),
+    /// A load is run.
+    Load(&'d Loading<'d>),
+    /// A consumer and its provider are started, and the first due turn is run by hand.
+    Turn,
+    /// The same, and then so many turns run.
+    TurnAndSettling { turns: u64, journal: u64 },
+    /// A consumer and its provider are started, and then so many turns run.
+    Settling { turns: u64 },
 }
 
-// The same on an empty platform.
-fn ran_by_hand(alloc: Global) -> Option<(u64, Outcome)> {
-    match Platform::new(alloc, Demonstration, LIMITS) {
-        Ok(mut platform) => run_by_hand(alloc, &mut platform),
-        Err(_) => None,
+// Whether what is done comes to what it is to.
+fn comes_true<K: Kinds + Drop>(alloc: Global, platform: &mut Platform<K>, deed: &Deed<'_>) -> bool {
+    match deed {
+        Deed::Run(script) => runs(alloc, platform, script),
+        Deed::Load(load) => loads(alloc, platform, load),
+        Deed::Turn => turns_by_hand(alloc, platform),
+        Deed::TurnAndSettling { turns, journal } => {
+            settles_behind_a_turn(alloc, platform, *turns, *journal)
+        }
+        Deed::Settling { turns } => settles(alloc, platform, *turns),
     }
 }
 
-#[test]
-fn a_turn_runs_by_hand(rt: HostRuntime) {
-    assert!(rt; ran_by_hand(rt.alloc()) == Some((1, Outcome::Done)));
-}
-
-// Settles behind a turn by hand, and answers how many turns ran and how long the journal is then.
-fn settle_on(alloc: Global, platform: &mut Platform<Demonstration>) -> Option<(u64, u64)> {
-    run_by_hand(alloc, platform)?;
-    let count = platform.settle(alloc).ok()?;
-    Some((count, platform.core().journal().length()))
-}
-
-// The same on an empty platform.
-fn settled_on(alloc: Global) -> Option<(u64, u64)> {
-    match Platform::new(alloc, Demonstration, LIMITS) {
-        Ok(mut platform) => settle_on(alloc, &mut platform),
-        Err(_) => None,
+// The same on a new platform. No other function owns one.
+pub(crate) fn holds<K: Kinds + Drop>(
+    alloc: Global,
+    kinds: K,
+    limits: Limits,
+    deed: &Deed<'_>,
+) -> bool
+    requires { AreWithinGreatest limits }
+{
+    match Platform::new(alloc, kinds, limits) {
+        Ok(mut platform) => comes_true(alloc, &mut platform, deed),
+        Err(_) => false,
     }
-}
-
-#[test]
-fn a_settling_goes_on_from_a_turn_by_hand(rt: HostRuntime) {
-    assert!(rt; settled_on(rt.alloc()) == Some((4, 14)));
-    note_turns_end();
-    note_rest();
-}
-
-#[test]
-fn a_fault_is_printed(rt: HostRuntime) -> Result<(), Fail> {
-    let printed = format!(in rt.alloc(); "{}", FinishFault::NoTurn)?;
-    assert_eq!(rt; printed.as_str(), "no such turn is under way");
-    Ok(())
 }

@@ -1,147 +1,91 @@
-//! Runs over a source and a sink in memory.
-ghost use Rattle.platform_hall.specs.Cores.{AreWithinGreatest};
+//! Runs of which nobody is told.
 
-use crate::samples::{LIMITS, LINES, PROVIDER};
+use crate::platforms::{Deed, LIMITS, holds};
+use crate::runs::{Front, Script, Wanted};
+use crate::samples::{BOTH, PROVIDER};
 use demonstration_kinds::Demonstration;
-use fault_count::{MemorySink, MemorySource};
-use platform_shell::{Platform, run_script};
 use scr_world::Limits;
 use std::alloc::Global;
 
-// The words of a script, its lines, what it is answered, and which reads and writes fail.
-#[derive(Clone, Copy)]
-struct Script<'s> {
-    words: &'s [&'s str],
-    lines: &'s [&'s str],
-    replies: &'s [u8],
-    reads: &'s [u64],
-    writes: &'s [u64],
-}
-
-// Starts a consumer and its provider.
-fn starts<'s>(reads: &'s [u64], writes: &'s [u64]) -> Script<'s> {
-    Script {
+// Whether a consumer and its provider are started so where these reads and writes fail.
+fn starts(alloc: Global, reads: &[u64], writes: &[u64], code: u8, front: Front) -> bool {
+    let script = Script {
         words: &["script"],
-        lines: &LINES,
+        lines: BOTH,
         replies: b"ok bundle 1\nok bundle 2\nok\nok\n",
         reads,
         writes,
-    }
-}
-
-fn bytes_of(alloc: Global, lines: &[&str]) -> Option<Vec<u8>> {
-    let mut text = String::new(alloc);
-    for line in lines {
-        text.push_str(line).ok()?;
-        text.push_str("\n").ok()?;
-    }
-    Some(text.into_bytes())
-}
-
-fn source(alloc: Global, script: &Script<'_>) -> Option<MemorySource> {
-    let bytes = bytes_of(alloc, script.lines)?;
-    let failing = script.reads.to_vec(alloc).ok()?;
-    Some(MemorySource::new(bytes, 40, failing))
-}
-
-fn sink(alloc: Global, script: &Script<'_>) -> Option<MemorySink> {
-    let failing = script.writes.to_vec(alloc).ok()?;
-    Some(MemorySink::new(5, failing))
-}
-
-// The number that the run ends with, and how many bytes of the replies it wrote; nothing where it wrote others.
-fn run(
-    alloc: Global,
-    platform: &mut Platform<Demonstration>,
-    script: &Script<'_>,
-) -> Option<(u8, usize)> {
-    let mut input = source(alloc, script)?;
-    let mut output = sink(alloc, script)?;
-    let status = run_script(alloc, platform, script.words, &mut input, &mut output);
-    let written = output.written();
-    if script.replies.starts_with(written) {
-        Some((status.code(), written.len()))
-    } else {
-        None
-    }
-}
-
-// The same on an empty platform.
-fn ran(alloc: Global, limits: Limits, script: &Script<'_>) -> Option<(u8, usize)>
-    requires { AreWithinGreatest limits }
-{
-    match Platform::new(alloc, Demonstration, limits) {
-        Ok(mut platform) => run(alloc, &mut platform, script),
-        Err(_) => None,
-    }
+        is_told: false,
+        wanted: Wanted::Code(code),
+        front,
+    };
+    holds(alloc, Demonstration, LIMITS, &Deed::Run(&script))
 }
 
 #[test]
 fn a_script_runs_to_its_end(rt: HostRuntime) {
-    assert!(rt; ran(rt.alloc(), LIMITS, &starts(&[], &[])) == Some((0, 30)));
+    assert!(rt; starts(rt.alloc(), &[], &[], 0, Front::Bytes(30)));
+}
+
+// Whether each of these reads ends the run where it fails.
+fn each_read_ends(alloc: Global, calls: u64) -> bool {
+    for call in 0..calls {
+        if !starts(alloc, &[call], &[], 2, Front::Some) {
+            return false;
+        }
+    }
+    true
 }
 
 #[test]
 fn each_read_fails_in_turn(rt: HostRuntime) {
-    for call in 0..7u64 {
-        let ended = ran(rt.alloc(), LIMITS, &starts(&[call], &[]));
-        assert!(rt; ended.is_some_and(|(code, count)| code == 2 && count <= 30));
+    assert!(rt; each_read_ends(rt.alloc(), 7));
+}
+
+// How many bytes are written before the write of each number.
+const BEFORE: [(u64, usize); 8] = [
+    (0, 0),
+    (1, 5),
+    (2, 10),
+    (3, 12),
+    (4, 17),
+    (5, 22),
+    (6, 24),
+    (7, 27),
+];
+
+// Whether each write ends the run where it fails, behind so many bytes.
+fn each_write_ends(alloc: Global, before: &[(u64, usize)]) -> bool {
+    for (call, count) in before {
+        if !starts(alloc, &[], &[*call], 3, Front::Bytes(*count)) {
+            return false;
+        }
     }
+    true
 }
 
 #[test]
 fn each_write_fails_in_turn(rt: HostRuntime) {
-    for (call, count) in [
-        (0, 0),
-        (1, 5),
-        (2, 10),
-        (3, 12),
-        (4, 17),
-        (5, 22),
-        (6, 24),
-        (7, 27),
-    ] {
-        let ended = ran(rt.alloc(), LIMITS, &starts(&[], &[call]));
-        assert!(rt; ended == Some((3, count)));
-    }
+    assert!(rt; each_write_ends(rt.alloc(), &BEFORE));
 }
 
-// Sets, reads and deletes a configuration.
-fn configures<'s>() -> Script<'s> {
-    Script {
-        words: &["script"],
-        lines: &[
-            r#"install {"location":"q","components":{"q":{"implementationClass":"Q","configurationPolicy":"require"}}}"#,
-            "start 1",
-            "config Q {}",
-            "components",
-            "report 2",
-            "unconfig Q",
-            "components",
-        ],
-        replies: b"ok bundle 1\nok\nok\nok 1\n1 Q 8\nrefused NoComponent 2\nok\nok 1\n1 Q 1\n",
-        reads: &[],
-        writes: &[],
-    }
-}
+const SHORT: Limits = Limits {
+    journal: 3,
+    turns: 100,
+};
 
-#[test]
-fn a_configuration_comes_and_goes(rt: HostRuntime) {
-    assert!(rt; ran(rt.alloc(), LIMITS, &configures()) == Some((0, 65)));
-}
+const FULL: Script<'_> = Script {
+    words: &["script"],
+    lines: PROVIDER,
+    replies: b"ok bundle 1\nok\nok\n",
+    reads: &[],
+    writes: &[],
+    is_told: false,
+    wanted: Wanted::Code(5),
+    front: Front::Bytes(18),
+};
 
 #[test]
 fn a_full_journal_ends_a_script(rt: HostRuntime) {
-    let script = Script {
-        words: &["script"],
-        lines: &[PROVIDER, "start 1", "stop 1", "start 1"],
-        replies: b"ok bundle 1\nok\nok\n",
-        reads: &[],
-        writes: &[],
-    };
-    let limits = Limits {
-        journal: 3,
-        turns: 100,
-    };
-    assert!(rt; ran(rt.alloc(), limits, &script) == Some((5, 18)));
+    assert!(rt; holds(rt.alloc(), Demonstration, SHORT, &Deed::Run(&FULL)));
 }

@@ -1,35 +1,42 @@
 //! That each object is told of its own instance.
 
 use crate::Watching;
-use crate::samples::{LIMITS, start_both};
-use platform_shell::Platform;
+use crate::platforms::{Deed, LIMITS, holds};
 use std::alloc::Global;
 use std::sync::Arc;
 use std::sync::atomic::{AtomicU64, Ordering};
-use std::test::Fail;
 
-// Starts both, settles, and answers how many turns ran.
-fn settle_both(alloc: Global, platform: &mut Platform<Watching>) -> Option<u64> {
-    start_both(alloc, platform)?;
-    platform.settle(alloc).ok()
+// Whether two Creates, an Activate, a Bind and an Activate run.
+fn settles(alloc: Global, heard: &Arc<AtomicU64>) -> bool {
+    match Arc::try_clone(heard) {
+        Ok(heard) => holds(
+            alloc,
+            Watching { heard },
+            LIMITS,
+            &Deed::Settling { turns: 5 },
+        ),
+        Err(_) => false,
+    }
 }
 
-// The same on an empty platform.
-fn settled(alloc: Global, kinds: Watching) -> Option<u64> {
-    match Platform::new(alloc, kinds, LIMITS) {
-        Ok(mut platform) => settle_both(alloc, &mut platform),
-        Err(_) => None,
+// How often an object was told something then.
+fn counted(alloc: Global, heard: &Arc<AtomicU64>) -> u64 {
+    if settles(alloc, heard) {
+        heard.load(Ordering::SeqCst)
+    } else {
+        0
+    }
+}
+
+// The same from 0 on.
+fn times_heard(alloc: Global) -> u64 {
+    match Arc::new(alloc, AtomicU64::new(0)) {
+        Ok(heard) => counted(alloc, &heard),
+        Err(_) => 0,
     }
 }
 
 #[test]
-fn each_object_hears_of_its_own_instance_once(rt: HostRuntime) -> Result<(), Fail> {
-    let heard = Arc::new(rt.alloc(), AtomicU64::new(0))?;
-    let kinds = Watching {
-        heard: Arc::try_clone(&heard)?,
-    };
-    // Two Creates, an Activate, a Bind, an Activate.
-    assert!(rt; settled(rt.alloc(), kinds) == Some(5));
-    assert_eq!(rt; heard.load(Ordering::SeqCst), 3);
-    Ok(())
+fn each_object_hears_of_its_own_instance_once(rt: HostRuntime) {
+    assert!(rt; times_heard(rt.alloc()) == 3);
 }

@@ -2,17 +2,7 @@
 
 use bundle_life::{BundleState, Bundles, Installed, LifeFault};
 use osgi_version::Version;
-use std::alloc::{AllocError, Global};
-use std::test::Fail;
-
-// A table with bundle 1, whose location is `one`, its name `a` and its version empty.
-fn with_one(alloc: Global) -> Result<Option<Bundles>, AllocError> {
-    let mut bundles = Bundles::new(alloc)?;
-    match bundles.install(alloc, "one", "a", &Version::empty(alloc)) {
-        Ok(Installed::New(1)) => Ok(Some(bundles)),
-        _ => Ok(None),
-    }
-}
+use std::alloc::Global;
 
 // Whether the events behind the first `after` are these, all of bundle 1.
 fn are_events(bundles: &Bundles, after: u64, values: &[u32]) -> bool {
@@ -22,78 +12,63 @@ fn are_events(bundles: &Bundles, after: u64, values: &[u32]) -> bool {
             && event.value == *value)
 }
 
-#[test]
-fn an_installed_bundle_is_found(rt: HostRuntime) -> Result<(), Fail> {
-    let alloc = rt.alloc();
-    let bundles = with_one(alloc)?.ok_or("a bundle")?;
-    assert!(rt; !bundles.is_full());
-    assert!(rt; bundles.rows().len() == 1);
-    assert!(rt; bundles.at_location("one").is_some());
-    assert!(rt; bundles.namesake("a", &Version::empty(alloc), 0).is_some());
-    Ok(())
+fn is_found(alloc: Global, bundles: &Bundles) -> bool {
+    !bundles.is_full()
+        && bundles.rows().len() == 1
+        && bundles.at_location("one").is_some()
+        && bundles.namesake("a", &Version::empty(alloc), 0).is_some()
 }
 
-#[test]
-fn a_bundle_starts_and_stops(rt: HostRuntime) -> Result<(), Fail> {
-    let mut bundles = with_one(rt.alloc())?.ok_or("a bundle")?;
-    assert!(rt; bundles.start(1).is_ok());
-    assert!(rt; bundles.stop(1).is_ok());
-    assert!(rt; bundles.is_stopping(1));
+fn starts_and_stops(bundles: &mut Bundles) -> bool {
+    if !(bundles.start(1).is_ok() && bundles.stop(1).is_ok()) {
+        return false;
+    }
+    if !bundles.is_stopping(1) {
+        return false;
+    }
     bundles.stopped(1);
-    assert!(rt; bundles.state(1) == Some(4));
-    assert!(rt; bundles.state_of(1) == Some(BundleState::Resolved));
-    assert!(rt; are_events(&bundles, 0, &[1, 32, 128, 2, 256, 4]));
-    Ok(())
+    bundles.state(1) == Some(4)
+        && bundles.state_of(1) == Some(BundleState::Resolved)
+        && are_events(bundles, 0, &[1, 32, 128, 2, 256, 4])
 }
 
-#[test]
-fn a_bundle_is_updated_and_uninstalled(rt: HostRuntime) -> Result<(), Fail> {
-    let alloc = rt.alloc();
-    let mut bundles = with_one(alloc)?.ok_or("a bundle")?;
-    assert!(rt;
-        bundles
-            .update(alloc, 1, "b", &Version::empty(alloc))
-            .is_ok()
-    );
-    assert!(rt;
-        bundles
-            .bundle(1)
-            .is_some_and(|bundle| bundle.name.as_str() == "b")
-    );
-    assert!(rt; bundles.uninstall(1).is_ok());
-    assert!(rt; are_events(&bundles, 1, &[8, 16]));
-    assert!(rt; bundles.numbered() == 1);
-    Ok(())
+fn is_named(bundles: &Bundles, name: &str) -> bool {
+    match bundles.bundle(1) {
+        Some(bundle) => bundle.name.as_str() == name,
+        None => false,
+    }
 }
 
-#[test]
-fn bundles_go_back_to_what_was_saved(rt: HostRuntime) -> Result<(), Fail> {
-    let alloc = rt.alloc();
-    let mut bundles = with_one(alloc)?.ok_or("a bundle")?;
-    let saved = bundles.save(alloc)?;
-    bundles.go_back(saved);
-    assert!(rt; are_events(&bundles, 0, &[1]));
-    Ok(())
+fn is_updated_and_uninstalled(alloc: Global, bundles: &mut Bundles) -> bool {
+    bundles
+        .update(alloc, 1, "b", &Version::empty(alloc))
+        .is_ok()
+        && is_named(bundles, "b")
+        && bundles.uninstall(1).is_ok()
+        && are_events(bundles, 1, &[8, 16])
+        && bundles.numbered() == 1
 }
 
-#[test]
-fn an_install_is_taken_back(rt: HostRuntime) -> Result<(), Fail> {
-    let mut bundles = with_one(rt.alloc())?.ok_or("a bundle")?;
-    assert!(rt; bundles.undo_install().is_some());
-    assert!(rt; bundles.rows().is_empty());
-    assert!(rt; bundles.numbered() == 0);
-    assert!(rt; are_events(&bundles, 0, &[]));
-    Ok(())
+fn goes_back(alloc: Global, bundles: &mut Bundles) -> bool {
+    match bundles.save(alloc) {
+        Ok(saved) => bundles.go_back(saved),
+        Err(_) => return false,
+    }
+    are_events(bundles, 0, &[1])
 }
 
-#[test]
-fn a_start_is_no_install_to_take_back(rt: HostRuntime) -> Result<(), Fail> {
-    let mut bundles = with_one(rt.alloc())?.ok_or("a bundle")?;
-    assert!(rt; bundles.start(1).is_ok());
-    assert!(rt; bundles.undo_install().is_none());
-    assert!(rt; bundles.numbered() == 1);
-    assert!(rt; are_events(&bundles, 0, &[1, 32, 128, 2]));
-    Ok(())
+fn install_is_undone(bundles: &mut Bundles) -> bool {
+    bundles.undo_install().is_some()
+        && bundles.rows().is_empty()
+        && bundles.numbered() == 0
+        && are_events(bundles, 0, &[])
+}
+
+fn start_stays(bundles: &mut Bundles) -> bool {
+    bundles.start(1).is_ok()
+        && bundles.undo_install().is_none()
+        && bundles.numbered() == 1
+        && are_events(bundles, 0, &[1, 32, 128, 2])
 }
 
 // A stop of bundle 1, and as it was again.
@@ -105,13 +80,86 @@ fn stop_undone(alloc: Global, bundles: &mut Bundles) -> Result<(), LifeFault> {
     Ok(())
 }
 
+fn stop_is_undone(alloc: Global, bundles: &mut Bundles) -> bool {
+    bundles.start(1).is_ok()
+        && stop_undone(alloc, bundles).is_ok()
+        && bundles.state_of(1) == Some(BundleState::Active)
+        && are_events(bundles, 0, &[1, 32, 128, 2])
+}
+
+/// What happens to bundle 1.
+#[derive(Clone, Copy)]
+enum Story {
+    Found,
+    StartedAndStopped,
+    UpdatedAndUninstalled,
+    GoneBack,
+    InstallUndone,
+    Started,
+    StopUndone,
+}
+
+fn comes_true(alloc: Global, bundles: &mut Bundles, story: Story) -> bool {
+    match story {
+        Story::Found => is_found(alloc, bundles),
+        Story::StartedAndStopped => starts_and_stops(bundles),
+        Story::UpdatedAndUninstalled => is_updated_and_uninstalled(alloc, bundles),
+        Story::GoneBack => goes_back(alloc, bundles),
+        Story::InstallUndone => install_is_undone(bundles),
+        Story::Started => start_stays(bundles),
+        Story::StopUndone => stop_is_undone(alloc, bundles),
+    }
+}
+
+// Bundle 1 is installed, at the location `one`, with the name `a` and the empty version.
+fn is_installed(alloc: Global, bundles: &mut Bundles) -> bool {
+    match bundles.install(alloc, "one", "a", &Version::empty(alloc)) {
+        Ok(Installed::New(number)) => number == 1,
+        _ => false,
+    }
+}
+
+// The same in a new table, and then the story. No other function owns a table.
+fn holds(alloc: Global, story: Story) -> bool {
+    match Bundles::new(alloc) {
+        Ok(mut bundles) => {
+            is_installed(alloc, &mut bundles) && comes_true(alloc, &mut bundles, story)
+        }
+        Err(_) => false,
+    }
+}
+
 #[test]
-fn a_stop_is_taken_back(rt: HostRuntime) -> Result<(), Fail> {
-    let alloc = rt.alloc();
-    let mut bundles = with_one(alloc)?.ok_or("a bundle")?;
-    assert!(rt; bundles.start(1).is_ok());
-    assert!(rt; stop_undone(alloc, &mut bundles).is_ok());
-    assert!(rt; bundles.state_of(1) == Some(BundleState::Active));
-    assert!(rt; are_events(&bundles, 0, &[1, 32, 128, 2]));
-    Ok(())
+fn an_installed_bundle_is_found(rt: HostRuntime) {
+    assert!(rt; holds(rt.alloc(), Story::Found));
+}
+
+#[test]
+fn a_bundle_starts_and_stops(rt: HostRuntime) {
+    assert!(rt; holds(rt.alloc(), Story::StartedAndStopped));
+}
+
+#[test]
+fn a_bundle_is_updated_and_uninstalled(rt: HostRuntime) {
+    assert!(rt; holds(rt.alloc(), Story::UpdatedAndUninstalled));
+}
+
+#[test]
+fn bundles_go_back_to_what_was_saved(rt: HostRuntime) {
+    assert!(rt; holds(rt.alloc(), Story::GoneBack));
+}
+
+#[test]
+fn an_install_is_taken_back(rt: HostRuntime) {
+    assert!(rt; holds(rt.alloc(), Story::InstallUndone));
+}
+
+#[test]
+fn a_start_is_no_install_to_take_back(rt: HostRuntime) {
+    assert!(rt; holds(rt.alloc(), Story::Started));
+}
+
+#[test]
+fn a_stop_is_taken_back(rt: HostRuntime) {
+    assert!(rt; holds(rt.alloc(), Story::StopUndone));
 }

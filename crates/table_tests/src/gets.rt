@@ -2,7 +2,6 @@
 
 use prop_map::OutOfMemory;
 use std::alloc::Global;
-use std::test::Fail;
 use use_counts::{Holder, UseCounts};
 
 // A get, where there may be one more.
@@ -13,31 +12,39 @@ fn get(uses: &mut UseCounts, bundle: u64, service: u64, holder: Holder) -> Optio
     uses.get(bundle, service, holder).ok()
 }
 
-#[test]
-fn gets_are_counted_by_holder(rt: HostRuntime) -> Result<(), Fail> {
-    let mut uses = UseCounts::new(rt.alloc())?;
-    assert!(rt; get(&mut uses, 1, 5, Holder::Token) == Some(1));
-    assert!(rt; get(&mut uses, 1, 5, Holder::Shell) == Some(2));
-    assert!(rt; uses.unget(1, 5, Holder::Shell) == Ok(1));
-    assert!(rt; uses.count_of(1, 5, Holder::Token) == 1);
-    Ok(())
+fn are_counted_by_holder(uses: &mut UseCounts) -> bool {
+    get(uses, 1, 5, Holder::Token) == Some(1)
+        && get(uses, 1, 5, Holder::Shell) == Some(2)
+        && uses.unget(1, 5, Holder::Shell) == Ok(1)
+        && uses.count_of(1, 5, Holder::Token) == 1
 }
 
-#[test]
-fn a_service_and_a_bundle_leave_no_gets(rt: HostRuntime) -> Result<(), Fail> {
-    let mut uses = UseCounts::new(rt.alloc())?;
-    assert!(rt; get(&mut uses, 2, 5, Holder::Shell) == Some(1));
-    assert!(rt; get(&mut uses, 1, 5, Holder::Shell) == Some(1));
-    let using = uses.using_bundles(rt.alloc(), 5)?;
-    assert!(rt; using.as_slice() == [1, 2].as_slice());
-    let saved = uses.save(rt.alloc())?;
+fn are_using(alloc: Global, uses: &UseCounts, bundles: &[u64]) -> bool {
+    match uses.using_bundles(alloc, 5) {
+        Ok(using) => using.as_slice() == bundles,
+        Err(_) => false,
+    }
+}
+
+// Releases a bundle and a service, and goes back to what was saved before.
+fn are_released(alloc: Global, uses: &mut UseCounts) -> bool {
+    let saved = match uses.save(alloc) {
+        Ok(saved) => saved,
+        Err(_) => return false,
+    };
     uses.release_bundle(2);
-    assert!(rt; uses.rows().len() == 1);
+    let one_is_left = uses.rows().len() == 1;
     uses.release_service(5);
-    assert!(rt; uses.rows().is_empty());
+    let none_is_left = uses.rows().is_empty();
     uses.go_back(saved);
-    assert!(rt; uses.rows().len() == 2);
-    Ok(())
+    one_is_left && none_is_left && uses.rows().len() == 2
+}
+
+fn leave_no_gets(alloc: Global, uses: &mut UseCounts) -> bool {
+    get(uses, 2, 5, Holder::Shell) == Some(1)
+        && get(uses, 1, 5, Holder::Shell) == Some(1)
+        && are_using(alloc, uses, &[1, 2])
+        && are_released(alloc, uses)
 }
 
 // Ends a get that the shell holds, and puts it back.
@@ -69,14 +76,45 @@ fn bundle_put_back(alloc: Global, uses: &mut UseCounts, bundle: u64) -> Result<(
     Ok(())
 }
 
+fn are_put_back(alloc: Global, uses: &mut UseCounts) -> bool {
+    get(uses, 1, 5, Holder::Shell) == Some(1)
+        && unget_undone(alloc, uses, 1, 5) == Ok(true)
+        && service_put_back(alloc, uses, 5).is_ok()
+        && bundle_put_back(alloc, uses, 1).is_ok()
+        && uses.count(1, 5) == 1
+}
+
+/// What happens to a table.
+#[derive(Clone, Copy)]
+enum Story {
+    CountedByHolder,
+    Released,
+    PutBack,
+}
+
+// Whether the story comes true in a new table. No other function owns one.
+fn holds(alloc: Global, story: Story) -> bool {
+    match UseCounts::new(alloc) {
+        Ok(mut uses) => match story {
+            Story::CountedByHolder => are_counted_by_holder(&mut uses),
+            Story::Released => leave_no_gets(alloc, &mut uses),
+            Story::PutBack => are_put_back(alloc, &mut uses),
+        },
+        Err(_) => false,
+    }
+}
+
 #[test]
-fn ended_gets_are_put_back(rt: HostRuntime) -> Result<(), Fail> {
-    let alloc = rt.alloc();
-    let mut uses = UseCounts::new(alloc)?;
-    assert!(rt; get(&mut uses, 1, 5, Holder::Shell) == Some(1));
-    assert!(rt; unget_undone(alloc, &mut uses, 1, 5)?);
-    service_put_back(alloc, &mut uses, 5)?;
-    bundle_put_back(alloc, &mut uses, 1)?;
-    assert!(rt; uses.count(1, 5) == 1);
-    Ok(())
+fn gets_are_counted_by_holder(rt: HostRuntime) {
+    assert!(rt; holds(rt.alloc(), Story::CountedByHolder));
+}
+
+#[test]
+fn a_service_and_a_bundle_leave_no_gets(rt: HostRuntime) {
+    assert!(rt; holds(rt.alloc(), Story::Released));
+}
+
+#[test]
+fn ended_gets_are_put_back(rt: HostRuntime) {
+    assert!(rt; holds(rt.alloc(), Story::PutBack));
 }

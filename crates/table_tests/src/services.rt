@@ -1,5 +1,6 @@
 //! Services: their table, what references need of them, and which of them they take.
 
+use crate::samples::text;
 use component_dto::Reference;
 use prop_map::{Cardinality, OutOfMemory, Policy, PolicyOption, Properties, Str, Value};
 use reference_match::{
@@ -8,57 +9,91 @@ use reference_match::{
 };
 use service_registry::{Registry, RegistryFault};
 use std::alloc::Global;
-use std::test::Fail;
 
-fn text(alloc: Global, text: &str) -> Result<Str, OutOfMemory> {
-    Ok(Str::of(String::from_str(alloc, text)?))
+// Whether the numbers are these.
+fn are(found: Result<Vec<u64>, OutOfMemory>, wanted: &[u64]) -> bool {
+    match found {
+        Ok(found) => found.as_slice() == wanted,
+        Err(_) => false,
+    }
 }
 
-fn ranked(alloc: Global, ranking: i64) -> Result<Properties, OutOfMemory> {
+// Properties with a number at a key.
+fn whole(alloc: Global, key: &str, value: i64) -> Result<Properties, OutOfMemory> {
     let mut properties = Properties::new(alloc);
-    properties.set(alloc, "service.ranking", Value::Whole(ranking))?;
+    properties.set(alloc, key, Value::Whole(value))?;
     Ok(properties)
 }
 
-// A table whose services have the interface X and these rankings, in the order of their numbers.
-fn registry(alloc: Global, rankings: &[i64]) -> Result<Registry, RegistryFault> {
-    let mut registry = Registry::new(alloc)?;
-    let interfaces = [text(alloc, "X")?];
-    for ranking in rankings {
-        let properties = ranked(alloc, *ranking)?;
-        registry.register(alloc, 1, &interfaces, "singleton", properties, true)?;
+fn ranked(alloc: Global, ranking: i64) -> Result<Properties, OutOfMemory> {
+    whole(alloc, "service.ranking", ranking)
+}
+
+fn registers(alloc: Global, registry: &mut Registry, interfaces: &[Str], ranking: i64) -> bool {
+    match ranked(alloc, ranking) {
+        Ok(properties) => registry
+            .register(alloc, 1, interfaces, "singleton", properties, true)
+            .is_ok(),
+        Err(_) => false,
     }
-    Ok(registry)
 }
 
-#[test]
-fn the_best_service_is_found_first(rt: HostRuntime) -> Result<(), Fail> {
-    let registry = registry(rt.alloc(), &[5, 7]).ok().ok_or("a registry")?;
-    let found = registry.find(rt.alloc(), "X")?;
-    assert!(rt; found.as_slice() == [2, 1].as_slice());
-    assert!(rt; registry.best("X").is_some_and(|best| best.id == 2));
-    Ok(())
+fn registers_all(
+    alloc: Global,
+    registry: &mut Registry,
+    interfaces: &[Str],
+    rankings: &[i64],
+) -> bool {
+    for ranking in rankings {
+        if !registers(alloc, registry, interfaces, *ranking) {
+            return false;
+        }
+    }
+    true
 }
 
-#[test]
-fn its_bundle_changes_a_service(rt: HostRuntime) -> Result<(), Fail> {
-    let alloc = rt.alloc();
-    let mut registry = registry(alloc, &[1]).ok().ok_or("a registry")?;
-    let properties = ranked(alloc, 3)?;
-    assert!(rt; registry.set_properties(alloc, 1, 1, properties).is_ok());
-    assert!(rt; registry.row(1).is_some_and(|row| row.revision == 1));
-    assert!(rt; registry.unregister(1, 1).is_ok());
-    Ok(())
+// Registers services with the interface X and these rankings, in the order of their numbers.
+fn fill(alloc: Global, registry: &mut Registry, rankings: &[i64]) -> bool {
+    match text(alloc, "X") {
+        Ok(name) => registers_all(alloc, registry, &[name], rankings),
+        Err(_) => false,
+    }
 }
 
-#[test]
-fn a_saved_table_comes_back(rt: HostRuntime) -> Result<(), Fail> {
-    let mut registry = registry(rt.alloc(), &[1]).ok().ok_or("a registry")?;
-    let saved = registry.save(rt.alloc())?;
-    assert!(rt; registry.unregister(1, 1).is_ok());
+fn best_comes_first(alloc: Global, registry: &Registry) -> bool {
+    let is_best = match registry.best("X") {
+        Some(best) => best.id == 2,
+        None => false,
+    };
+    is_best && are(registry.find(alloc, "X"), &[2, 1])
+}
+
+fn has_revision(registry: &Registry, service: u64, revision: u64) -> bool {
+    match registry.row(service) {
+        Some(row) => row.revision == revision,
+        None => false,
+    }
+}
+
+fn is_changed(alloc: Global, registry: &mut Registry) -> bool {
+    match ranked(alloc, 3) {
+        Ok(properties) => registry.set_properties(alloc, 1, 1, properties).is_ok(),
+        Err(_) => false,
+    }
+}
+
+fn changes_and_leaves(alloc: Global, registry: &mut Registry) -> bool {
+    is_changed(alloc, registry) && has_revision(registry, 1, 1) && registry.unregister(1, 1).is_ok()
+}
+
+fn comes_back(alloc: Global, registry: &mut Registry) -> bool {
+    let saved = match registry.save(alloc) {
+        Ok(saved) => saved,
+        Err(_) => return false,
+    };
+    let has_left = registry.unregister(1, 1).is_ok();
     registry.go_back(saved);
-    assert!(rt; registry.rows().len() == 1);
-    Ok(())
+    has_left && registry.rows().len() == 1
 }
 
 // Takes a service out and puts it back.
@@ -78,26 +113,20 @@ fn exchanged(alloc: Global, registry: &mut Registry, service: u64) -> Result<boo
     }
 }
 
-#[test]
-fn each_change_is_undone(rt: HostRuntime) -> Result<(), Fail> {
-    let alloc = rt.alloc();
-    let mut registry = registry(alloc, &[1, 2]).ok().ok_or("a registry")?;
-    assert!(rt; restored(alloc, &mut registry, 1) == Ok(true));
-    assert!(rt; exchanged(alloc, &mut registry, 1) == Ok(true));
-    assert!(rt; registry.undo_register().is_some());
-    assert!(rt; registry.give(4)? == 1);
-    registry.give_back(4);
-    assert!(rt; registry.numbered() == 1);
-    Ok(())
+// Whether a number is given, which is this, and given back.
+fn gives(registry: &mut Registry, count: u64, number: u64, back: u64, numbered: u64) -> bool {
+    if registry.give(count) != Ok(number) {
+        return false;
+    }
+    registry.give_back(back);
+    registry.numbered() == numbered
 }
 
-#[test]
-fn the_number_of_a_standing_row_stays_given(rt: HostRuntime) -> Result<(), Fail> {
-    let mut registry = registry(rt.alloc(), &[1, 2]).ok().ok_or("a registry")?;
-    assert!(rt; registry.give(4)? == 2);
-    registry.give_back(9);
-    assert!(rt; registry.numbered() == 2);
-    Ok(())
+fn changes_are_undone(alloc: Global, registry: &mut Registry) -> bool {
+    restored(alloc, registry, 1) == Ok(true)
+        && exchanged(alloc, registry, 1) == Ok(true)
+        && registry.undo_register().is_some()
+        && gives(registry, 4, 1, 4, 1)
 }
 
 // A dynamic reference x to services X.
@@ -106,9 +135,11 @@ fn reference(
     cardinality: Cardinality,
     policy_option: PolicyOption,
 ) -> Result<Reference, OutOfMemory> {
+    let name = text(alloc, "x")?;
+    let interface_name = text(alloc, "X")?;
     Ok(Reference {
-        name: text(alloc, "x")?,
-        interface_name: text(alloc, "X")?,
+        name,
+        interface_name,
         cardinality,
         policy: Policy::Dynamic,
         policy_option,
@@ -117,71 +148,199 @@ fn reference(
     })
 }
 
+// What a reference x needs by these properties of its component.
+fn need(
+    alloc: Global,
+    properties: &Properties,
+    cardinality: Cardinality,
+    policy_option: PolicyOption,
+) -> Result<Need, OutOfMemory> {
+    let reference = reference(alloc, cardinality, policy_option)?;
+    need_of(alloc, properties, &reference)
+}
+
+fn aims(alloc: Global, target: &str) -> Result<Properties, OutOfMemory> {
+    let target = text(alloc, target)?;
+    let mut properties = Properties::new(alloc);
+    properties.set(alloc, "x.target", Value::Text(target))?;
+    Ok(properties)
+}
+
 // What a reference x needs where its target is this text.
 fn aimed(alloc: Global, target: &str) -> Result<Need, OutOfMemory> {
-    let mut properties = Properties::new(alloc);
-    properties.set(alloc, "x.target", Value::Text(text(alloc, target)?))?;
-    let reference = reference(alloc, Cardinality::ZeroOrMore, PolicyOption::Greedy)?;
-    need_of(alloc, &properties, &reference)
-}
-
-#[test]
-fn targets_match_the_filter(rt: HostRuntime) -> Result<(), Fail> {
-    let alloc = rt.alloc();
-    let registry = registry(alloc, &[5, 0]).ok().ok_or("a registry")?;
-    let need = aimed(alloc, "(service.ranking>=5)")?;
-    let found = targets(alloc, &need, registry.rows())?;
-    assert!(rt; found.as_slice() == [1].as_slice());
-    let both = standing_targets(alloc, &need, registry.rows(), registry.rows())?;
-    assert!(rt; both.as_slice() == [1, 1].as_slice());
-    Ok(())
-}
-
-#[test]
-fn nothing_meets_a_target_that_is_no_filter(rt: HostRuntime) -> Result<(), Fail> {
-    let alloc = rt.alloc();
-    let registry = registry(alloc, &[5]).ok().ok_or("a registry")?;
-    let need = aimed(alloc, "(service.ranking>=5")?;
-    assert!(rt; registry.rows().iter().all(|row| !meets(&need, row)));
-    Ok(())
+    let properties = aims(alloc, target)?;
+    need(
+        alloc,
+        &properties,
+        Cardinality::ZeroOrMore,
+        PolicyOption::Greedy,
+    )
 }
 
 // What a reference x needs where its minimum is this.
 fn counted(alloc: Global, minimum: i64) -> Result<Need, OutOfMemory> {
-    let mut properties = Properties::new(alloc);
-    properties.set(alloc, "x.cardinality.minimum", Value::Whole(minimum))?;
-    let reference = reference(alloc, Cardinality::ZeroOrMore, PolicyOption::Greedy)?;
-    need_of(alloc, &properties, &reference)
+    let properties = whole(alloc, "x.cardinality.minimum", minimum)?;
+    need(
+        alloc,
+        &properties,
+        Cardinality::ZeroOrMore,
+        PolicyOption::Greedy,
+    )
+}
+
+// Whether the first service alone is a target, once among those of the table and once among the others.
+fn first_is_target(alloc: Global, registry: &Registry, need: &Need) -> bool {
+    are(targets(alloc, need, registry.rows()), &[1])
+        && are(
+            standing_targets(alloc, need, registry.rows(), registry.rows()),
+            &[1, 1],
+        )
+}
+
+fn has_first_as_target(alloc: Global, registry: &Registry) -> bool {
+    match aimed(alloc, "(service.ranking>=5)") {
+        Ok(need) => first_is_target(alloc, registry, &need),
+        Err(_) => false,
+    }
+}
+
+fn is_met_by_none(alloc: Global, registry: &Registry) -> bool {
+    match aimed(alloc, "(service.ranking>=5") {
+        Ok(need) => registry.rows().iter().all(|row| !meets(&need, row)),
+        Err(_) => false,
+    }
+}
+
+fn wants_three(alloc: Global, registry: &Registry) -> bool {
+    match counted(alloc, 3) {
+        Ok(need) => {
+            !is_met(&need, registry.rows())
+                && is_met_standing(&need, registry.rows(), registry.rows())
+        }
+        Err(_) => false,
+    }
+}
+
+/// What is done with a table of services.
+#[derive(Clone, Copy)]
+enum Story {
+    Best,
+    Changed,
+    Saved,
+    Undone,
+    Given,
+    Targeted,
+    NoFilter,
+    Minimum,
+}
+
+fn comes_true(alloc: Global, registry: &mut Registry, story: Story) -> bool {
+    match story {
+        Story::Best => best_comes_first(alloc, registry),
+        Story::Changed => changes_and_leaves(alloc, registry),
+        Story::Saved => comes_back(alloc, registry),
+        Story::Undone => changes_are_undone(alloc, registry),
+        Story::Given => gives(registry, 4, 2, 9, 2),
+        Story::Targeted => has_first_as_target(alloc, registry),
+        Story::NoFilter => is_met_by_none(alloc, registry),
+        Story::Minimum => wants_three(alloc, registry),
+    }
+}
+
+// The same in a table whose services have these rankings. No other function owns one.
+fn holds(alloc: Global, rankings: &[i64], story: Story) -> bool {
+    match Registry::new(alloc) {
+        Ok(mut registry) => {
+            fill(alloc, &mut registry, rankings) && comes_true(alloc, &mut registry, story)
+        }
+        Err(_) => false,
+    }
 }
 
 #[test]
-fn a_minimum_is_met_by_so_many(rt: HostRuntime) -> Result<(), Fail> {
-    let alloc = rt.alloc();
-    let registry = registry(alloc, &[5, 5]).ok().ok_or("a registry")?;
-    let need = counted(alloc, 3)?;
-    assert!(rt; !is_met(&need, registry.rows()));
-    assert!(rt; is_met_standing(&need, registry.rows(), registry.rows()));
-    Ok(())
+fn the_best_service_is_found_first(rt: HostRuntime) {
+    assert!(rt; holds(rt.alloc(), &[5, 7], Story::Best));
 }
 
 #[test]
-fn a_reluctant_reference_keeps_its_service(rt: HostRuntime) -> Result<(), Fail> {
-    let alloc = rt.alloc();
-    let reference = reference(alloc, Cardinality::One, PolicyOption::Reluctant)?;
-    let need = need_of(alloc, &Properties::new(alloc), &reference)?;
-    let first = chosen(alloc, &need, &[4, 1, 2])?;
-    assert!(rt; first.as_slice() == [4].as_slice());
-    let kept = desired(alloc, &need, &[], &[2], &[4, 1, 2])?;
-    assert!(rt; kept.as_slice() == [2].as_slice());
-    Ok(())
+fn its_bundle_changes_a_service(rt: HostRuntime) {
+    assert!(rt; holds(rt.alloc(), &[1], Story::Changed));
 }
 
 #[test]
-fn the_implicit_reference_comes_last(rt: HostRuntime) -> Result<(), Fail> {
-    let alloc = rt.alloc();
-    let references = [reference(alloc, Cardinality::One, PolicyOption::Greedy)?];
-    let needs = needs_with(alloc, true, &references, &Properties::new(alloc))?;
-    assert!(rt; needs.as_slice().len() == 2);
-    assert!(rt; needs.as_slice()[1].direct_only);
-    Ok(())
+fn a_saved_table_comes_back(rt: HostRuntime) {
+    assert!(rt; holds(rt.alloc(), &[1], Story::Saved));
+}
+
+#[test]
+fn each_change_is_undone(rt: HostRuntime) {
+    assert!(rt; holds(rt.alloc(), &[1, 2], Story::Undone));
+}
+
+#[test]
+fn the_number_of_a_standing_row_stays_given(rt: HostRuntime) {
+    assert!(rt; holds(rt.alloc(), &[1, 2], Story::Given));
+}
+
+#[test]
+fn targets_match_the_filter(rt: HostRuntime) {
+    assert!(rt; holds(rt.alloc(), &[5, 0], Story::Targeted));
+}
+
+#[test]
+fn nothing_meets_a_target_that_is_no_filter(rt: HostRuntime) {
+    assert!(rt; holds(rt.alloc(), &[5], Story::NoFilter));
+}
+
+#[test]
+fn a_minimum_is_met_by_so_many(rt: HostRuntime) {
+    assert!(rt; holds(rt.alloc(), &[5, 5], Story::Minimum));
+}
+
+fn keeps_its_choice(alloc: Global) -> bool {
+    let properties = Properties::new(alloc);
+    match need(
+        alloc,
+        &properties,
+        Cardinality::One,
+        PolicyOption::Reluctant,
+    ) {
+        Ok(need) => {
+            are(chosen(alloc, &need, &[4, 1, 2]), &[4])
+                && are(desired(alloc, &need, &[], &[2], &[4, 1, 2]), &[2])
+        }
+        Err(_) => false,
+    }
+}
+
+#[test]
+fn a_reluctant_reference_keeps_its_service(rt: HostRuntime) {
+    assert!(rt; keeps_its_choice(rt.alloc()));
+}
+
+// Whether the second of two needs takes services of its own table alone.
+fn second_is_direct(needs: &[Need]) -> bool {
+    match needs {
+        [_, second] => second.direct_only,
+        _ => false,
+    }
+}
+
+fn adds_the_implicit(alloc: Global, references: &[Reference]) -> bool {
+    match needs_with(alloc, true, references, &Properties::new(alloc)) {
+        Ok(needs) => second_is_direct(needs.as_slice()),
+        Err(_) => false,
+    }
+}
+
+fn implicit_comes_last(alloc: Global) -> bool {
+    match reference(alloc, Cardinality::One, PolicyOption::Greedy) {
+        Ok(reference) => adds_the_implicit(alloc, &[reference]),
+        Err(_) => false,
+    }
+}
+
+#[test]
+fn the_implicit_reference_comes_last(rt: HostRuntime) {
+    assert!(rt; implicit_comes_last(rt.alloc()));
 }

@@ -1,21 +1,41 @@
 ghost use Rattle.std.specs.Prelude.{◌≡◌, ◌<◌};
 
+use crate::shown::is_printed;
 use ldap_filter::{Filter, FilterFault, Steps};
 use prop_map::{Copies, Properties, Value};
+use std::alloc::Global;
 use std::marker::Brand;
 use std::sync::ledger::{Blank, Ledger};
-use std::test::Fail;
+
+// Properties with 1 at `a`.
+fn one_at_a(alloc: Global) -> Properties {
+    let mut properties = Properties::new(alloc);
+    let _set = properties.set(alloc, "a", Value::Whole(1)).is_ok();
+    properties
+}
+
+fn copy_is_same(alloc: Global, filter: &Filter) -> bool {
+    match filter.copy(alloc) {
+        Ok(copy) => copy == *filter,
+        Err(_) => false,
+    }
+}
+
+// Whether the filter of a text has a copy that is the same, and matches 1 at `a`, and nothing where nothing is.
+fn finds(alloc: Global, text: &str) -> bool {
+    match Filter::parse(alloc, text) {
+        Ok(filter) => {
+            !filter.matches(&Properties::new(alloc))
+                && filter.matches(&one_at_a(alloc))
+                && copy_is_same(alloc, &filter)
+        }
+        Err(_) => false,
+    }
+}
 
 #[test]
-fn services_are_found_by_a_filter(rt: HostRuntime) -> Result<(), Fail> {
-    let alloc = rt.alloc();
-    let filter = Filter::parse(alloc, " ( & (A =1)(!(b=x*y)) ) ").expect(&rt, "a filter");
-    let mut properties = Properties::new(alloc);
-    assert!(rt; !filter.matches(&properties));
-    properties.set(alloc, "a", Value::Whole(1))?;
-    assert!(rt; filter.matches(&properties));
-    assert!(rt; filter.copy(alloc)? == filter);
-    Ok(())
+fn services_are_found_by_a_filter(rt: HostRuntime) {
+    assert!(rt; finds(rt.alloc(), " ( & (A =1)(!(b=x*y)) ) "));
 }
 
 fn counted<L: Ledger>(blank: Blank, filter: &Filter, properties: &Properties) -> bool
@@ -34,18 +54,25 @@ fn a_match_may_be_counted(rt: HostRuntime) {
     assert!(rt; counted::<Brand>(Blank::new(1), &filter, &Properties::new(alloc)));
 }
 
+fn ends_at(alloc: Global, text: &str, place: usize) -> bool {
+    match Filter::parse(alloc, text) {
+        Ok(_) => false,
+        Err(fault) => {
+            fault
+                == FilterFault::BadFilter {
+                    at: place,
+                    ended: false,
+                }
+        }
+    }
+}
+
 #[test]
-fn a_fault_tells_its_place(rt: HostRuntime) -> Result<(), Fail> {
+fn a_fault_tells_its_place(rt: HostRuntime) {
     let alloc = rt.alloc();
-    let fault = Filter::parse(alloc, "(é=ü)é").err();
+    let deep = FilterFault::TooDeep { at: 128 };
     assert!(rt;
-        fault
-            == Some(FilterFault::BadFilter {
-                at: 7,
-                ended: false
-            })
+        ends_at(alloc, "(é=ü)é", 7)
+            && is_printed(alloc, &deep, "the bracket at 128 is one too deep")
     );
-    let shown = format!(in alloc; "{}", FilterFault::TooDeep { at: 128 })?;
-    assert_eq!(rt; shown.as_str(), "the bracket at 128 is one too deep");
-    Ok(())
 }

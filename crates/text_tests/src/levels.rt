@@ -1,47 +1,38 @@
-use bundle_doc::{BundleDoc, read_bundle};
+use crate::shown::{is_printed, is_shown};
+use bundle_doc::{BundleDoc, DocFault, read_bundle};
 use component_dto::Description;
 use level_order::{LevelFault, consumes, levels, provides};
 use prop_map::{List, Str};
-use std::test::Fail;
+use std::alloc::Global;
 
 // Components in byte order of the names of their entries; each provides what its class is called.
-fn document(rt: HostRuntime, components: &str) -> Result<BundleDoc, Fail> {
-    let text = format!(in rt.alloc(); "{{\"location\":\"x\",\"components\":{{{components}}}}}")?;
-    Ok(
-        read_bundle(rt.alloc(), text.as_bytes())
-            .ok()
-            .ok_or("a document")?,
-    )
+fn document(alloc: Global, components: &str) -> Result<BundleDoc, DocFault> {
+    match format!(in alloc; "{{\"location\":\"x\",\"components\":{{{components}}}}}") {
+        Ok(text) => read_bundle(alloc, text.as_bytes()),
+        Err(_) => Err(DocFault::OutOfMemory),
+    }
 }
 
 const CYCLE: &str =
     "\"a\":{\"implementationClass\":\"A\",\"serviceInterfaces\":[\"A\"],\"references\":[{\"interfaceName\":\"B\"}]},\
     \"b\":{\"implementationClass\":\"B\",\"serviceInterfaces\":[\"B\"],\"references\":[{\"interfaceName\":\"A\"}]}";
 
-#[test]
-fn levels_stand_above_what_is_consumed(rt: HostRuntime) -> Result<(), Fail> {
-    let document = document(
-        rt,
-        "\"a\":{\"implementationClass\":\"A\",\"references\":[{\"interfaceName\":\"B\"}]},\
-        \"b\":{\"implementationClass\":\"B\",\"serviceInterfaces\":[\"B\"]}",
-    )?;
-    let found = levels(rt.alloc(), document.descriptions.as_slice())
-        .ok()
-        .ok_or("levels")?;
-    assert_eq!(rt; found.as_slice(), [1u32, 0].as_slice());
-    Ok(())
+const CHAIN: &str =
+    "\"a\":{\"implementationClass\":\"A\",\"references\":[{\"interfaceName\":\"B\"}]},\
+    \"b\":{\"implementationClass\":\"B\",\"serviceInterfaces\":[\"B\"]}";
+
+fn have_levels(alloc: Global, descriptions: &[Description], wanted: &[u32]) -> bool {
+    match levels(alloc, descriptions) {
+        Ok(found) => found.as_slice() == wanted,
+        Err(_) => false,
+    }
 }
 
-#[test]
-fn a_cycle_is_told(rt: HostRuntime) -> Result<(), Fail> {
-    let document = document(rt, CYCLE)?;
-    let found = levels(rt.alloc(), document.descriptions.as_slice());
-    let shown = format!(in rt.alloc(); "{found:?}")?;
-    assert_eq!(rt;
-        shown.as_str(),
-        "Err(Cycle { path: [\"A\", \"B\", \"A\"] })"
-    );
-    Ok(())
+fn have_a_cycle(alloc: Global, descriptions: &[Description], wanted: &str) -> bool {
+    match levels(alloc, descriptions) {
+        Ok(_) => false,
+        Err(fault) => is_shown(alloc, &fault, wanted),
+    }
 }
 
 fn consume(descriptions: &[Description], interface: &Str) -> bool {
@@ -51,25 +42,65 @@ fn consume(descriptions: &[Description], interface: &Str) -> bool {
     }
 }
 
-#[test]
-fn one_description_consumes_another(rt: HostRuntime) -> Result<(), Fail> {
-    let document = document(rt, CYCLE)?;
-    let interface = Str::of(String::from_str(rt.alloc(), "B")?);
-    assert!(rt; consume(document.descriptions.as_slice(), &interface));
-    Ok(())
+fn consume_b(alloc: Global, descriptions: &[Description]) -> bool {
+    match Str::spell(alloc, "B") {
+        Ok(interface) => consume(descriptions, &interface),
+        Err(_) => false,
+    }
+}
+
+/// What holds of two components.
+#[derive(Clone, Copy)]
+enum Truth {
+    /// The first stands one level above the second.
+    Levels,
+    /// They consume each other.
+    Cycle,
+    /// The first consumes B of the second.
+    Consumer,
+}
+
+fn holds(alloc: Global, descriptions: &[Description], truth: Truth) -> bool {
+    match truth {
+        Truth::Levels => have_levels(alloc, descriptions, &[1, 0]),
+        Truth::Cycle => have_a_cycle(alloc, descriptions, "Cycle { path: [\"A\", \"B\", \"A\"] }"),
+        Truth::Consumer => consume_b(alloc, descriptions),
+    }
+}
+
+// The same of the components of a document.
+fn hold(alloc: Global, components: &str, truth: Truth) -> bool {
+    match document(alloc, components) {
+        Ok(document) => holds(alloc, document.descriptions.as_slice(), truth),
+        Err(_) => false,
+    }
 }
 
 #[test]
-fn faults_of_levels_are_printed(rt: HostRuntime) -> Result<(), Fail> {
-    let path = List::of(Vec::new(rt.alloc()));
-    let shown = format!(in rt.alloc();
-        "{}, {}",
-        LevelFault::Cycle { path },
-        LevelFault::OutOfMemory
-    )?;
-    assert_eq!(rt;
-        shown.as_str(),
-        "some components consume each other in a circle, out of memory"
+fn levels_stand_above_what_is_consumed(rt: HostRuntime) {
+    assert!(rt; hold(rt.alloc(), CHAIN, Truth::Levels));
+}
+
+#[test]
+fn a_cycle_is_told(rt: HostRuntime) {
+    assert!(rt; hold(rt.alloc(), CYCLE, Truth::Cycle));
+}
+
+#[test]
+fn one_description_consumes_another(rt: HostRuntime) {
+    assert!(rt; hold(rt.alloc(), CYCLE, Truth::Consumer));
+}
+
+fn cycle_is_printed(alloc: Global, wanted: &str) -> bool {
+    let path = List::of(Vec::new(alloc));
+    is_printed(alloc, &LevelFault::Cycle { path }, wanted)
+}
+
+#[test]
+fn faults_of_levels_are_printed(rt: HostRuntime) {
+    let alloc = rt.alloc();
+    assert!(rt;
+        cycle_is_printed(alloc, "some components consume each other in a circle")
+            && is_printed(alloc, &LevelFault::OutOfMemory, "out of memory")
     );
-    Ok(())
 }

@@ -14,4 +14,6 @@ mod manifests;
 #[cfg(test)]
 mod properties;
 #[cfg(test)]
+mod shown;
+#[cfg(test)]
 mod versions;
