@@ -16,7 +16,7 @@ use Rattle.turn_runner.specs.declared.settle_fault.SettleFault.TheVariants.{Unse
 use Rattle.platform_hall.specs.declared.finish_fault.FinishFault.{FinishFault}
 use Rattle.platform_hall.specs.declared.finish_fault.FinishFault.TheVariants.{NoTurn as NoSuchTurn, OutOfMemory as NoMemoryLeft}
 use Rattle.platform_hall.specs.Platforms.{BeginsTurn, Finishes, FinishesTurn}
-use Rattle.shell_lang.specs.declared.shell_line.ShellLine.TheVariants.{Silent, Quit, Command as Commanded, Bundles, Services, Components, Report, Held, Find, Events, BundleEvents, Trace, Wiring, BundleWiring, Settle, Begin, Finish}
+use Rattle.shell_lang.specs.declared.shell_line.ShellLine.TheVariants.{Silent, Quit, Help, Command as Commanded, Bundles, Services, Components, Report, Held, Find, Events, BundleEvents, Trace, Wiring, BundleWiring, Settle, Begin, Finish}
 use Rattle.shell_lang.specs.declared.shell_reply.ShellReply.{ShellReply}
 use Rattle.shell_lang.specs.ShellLines.{Asked, shell_line}
 use Rattle.platform_shell.specs.declared.status.Status.{Status}
@@ -54,6 +54,7 @@ grew_manually false asks before after said grows (is, same) = grew_not before af
 pub grew_asks : (s : Setting) (asked : Asked) (before after : CoreView) (told : Option ShellReply) → Asks s asked before told after → Grew before after (commands_of before asked)
 grew_asks s (Ok Silent) before after told (none, same) = grew_not before after same
 grew_asks s (Ok Quit) before after told (none, same) = grew_not before after same
+grew_asks s (Ok (Help rows)) before after told (is, same) = grew_not before after same
 grew_asks s (Ok (Commanded command)) before after told (said, is, (answer, takes, tells, replied)) = grew_takes before after command answer takes (answered answer tells)
 grew_asks s (Ok Bundles) before after told (is, same) = grew_not before after same
 grew_asks s (Ok Services) before after told (is, same) = grew_not before after same
@@ -105,6 +106,7 @@ grew_cut_finish refuses turn OutOfMemory before after (inr finishes) = grew_fini
 grew_cut_asked : (s : Setting) (asked : Asked) (fault : SettleFault) (before after : CoreView) (commands : List Command) → CutsAsked s asked fault before after commands → Grew before after commands
 grew_cut_asked s (Ok Silent) fault before after commands (is, (same, none)) = grew_none before after commands none (grew_not before after same)
 grew_cut_asked s (Ok Quit) fault before after commands (is, (same, none)) = grew_none before after commands none (grew_not before after same)
+grew_cut_asked s (Ok (Help rows)) fault before after commands (is, (same, none)) = grew_none before after commands none (grew_not before after same)
 grew_cut_asked s (Ok (Commanded command)) fault before after commands cut = grew_cut_command command fault before after commands cut
 grew_cut_asked s (Ok Bundles) fault before after commands (is, (same, none)) = grew_none before after commands none (grew_not before after same)
 grew_cut_asked s (Ok Services) fault before after commands (is, (same, none)) = grew_none before after commands none (grew_not before after same)

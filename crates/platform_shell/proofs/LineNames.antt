@@ -14,6 +14,7 @@ use Rattle.shell_lang.specs.declared.shell_line.ShellLine.{ShellLine}
 use Rattle.shell_lang.specs.declared.shell_line.ShellLine.TheVariants.{Quit, Command as Commanded, Bundles, Services, Components, Settle, Begin}
 use Rattle.shell_lang.specs.declared.words.Misfit.{Misfit}
 use Rattle.shell_lang.specs.Arguments.{document_argument, filter_argument, given_document, names_file, properties_argument}
+use Rattle.shell_lang.specs.Help.{helping, line_word_at}
 use Rattle.shell_lang.specs.Interfaces.{interfaces_at}
 use Rattle.shell_lang.specs.LineFaults.{fitting}
 use Rattle.shell_lang.specs.ShellLines.{Asked, alone, bundle_line, carrying_line, configuring, configuring_factory, configuring_line, finding, installing, is_silent, listening, named, named_line, numbered, other_fault, paired, paired_line, reading_line, registering, setting, shell_line, text_line, unconfiguring, updating, wiring, worded_line}
@@ -73,6 +74,10 @@ numbered_named line rest its = when_fitting (only_number rest) _ (λ n. its n)
 wiring_named : (rest : Option (List ℕ)) → AskedNamed (wiring rest)
 wiring_named None = tt
 wiring_named (Some text) = numbered_named _ (Some text) (λ n. tt)
+
+helping_named : (rest : Option (List ℕ)) → AskedNamed (helping rest)
+helping_named None = tt
+helping_named (Some text) = when_fitting (line_word_at 1 (Some text)) _ (λ word. when_fitting (nothing_at 2 word.1) _ (λ none. tt))
 
 paired_named : (line : ℕ → ℕ → ShellLine) (rest : Option (List ℕ)) → ((n m : ℕ) → AskedNamed (Ok (line n m))) → AskedNamed (paired line rest)
 paired_named line rest its = when_fitting (two_numbers rest) _ (λ words. its words.0 words.1)
@@ -155,7 +160,8 @@ module _ (word : List ℕ) (rest : Option (List ℕ)) where
       (either_line (bytes_eq word (codes "services")) (alone Services rest) _ (alone_named Services rest tt)
       (either_line (bytes_eq word (codes "components")) (alone Components rest) _ (alone_named Components rest tt)
       (either_line (bytes_eq word (codes "settle")) (alone Settle rest) _ (alone_named Settle rest tt)
-      (either_line (bytes_eq word (codes "begin")) (alone Begin rest) (bundle_line word rest) (alone_named Begin rest tt) bundle_line_named)))))
+      (either_line (bytes_eq word (codes "begin")) (alone Begin rest) _ (alone_named Begin rest tt)
+      (either_line (bytes_eq word (codes "help")) (helping rest) (bundle_line word rest) (helping_named rest) bundle_line_named))))))
 
 pub line_named : (line : List ℕ) → AskedNamed (shell_line line)
 line_named line = either_line (is_silent line) _ _ tt (either_line (is_utf8 line) (text_line line) (Err UnknownCommand) (worded_line_named (first_word line) (behind_word line)) tt)

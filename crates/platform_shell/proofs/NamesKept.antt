@@ -8,7 +8,7 @@ use Rattle.scr_world.specs.declared.command.Command.{Command}
 use Rattle.scr_world.specs.declared.command.Limits.{Limits}
 use Rattle.scr_world.specs.Lists.{world_of}
 use Rattle.scr_world.specs.Replies.{changes}
-use Rattle.shell_lang.specs.declared.shell_line.ShellLine.TheVariants.{Silent, Quit, Command as Commanded, Bundles, Services, Components, Report, Held, Find, Events, BundleEvents, Trace, Wiring, BundleWiring, Settle, Begin, Finish}
+use Rattle.shell_lang.specs.declared.shell_line.ShellLine.TheVariants.{Silent, Quit, Help, Command as Commanded, Bundles, Services, Components, Report, Held, Find, Events, BundleEvents, Trace, Wiring, BundleWiring, Settle, Begin, Finish}
 use Rattle.shell_lang.specs.declared.shell_reply.ShellReply.{ShellReply}
 use Rattle.shell_lang.specs.ShellLines.{Asked, shell_line}
 use Rattle.platform_hall.specs.Platforms.{world}
@@ -36,6 +36,7 @@ if_named false command its = none_named
 asked_all : (asked : Asked) (before : CoreView) → AskedNamed asked → AllNamed (commands_of before asked)
 asked_all (Ok Silent) before its = none_named
 asked_all (Ok Quit) before its = none_named
+asked_all (Ok (Help rows)) before its = none_named
 asked_all (Ok (Commanded command)) before its = if_named (changes before.limits.journal (world before) command) command its
 asked_all (Ok Bundles) before its = none_named
 asked_all (Ok Services) before its = none_named

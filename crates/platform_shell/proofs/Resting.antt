@@ -25,7 +25,7 @@ use Rattle.scr_world.specs.Steps.{history_of}
 use Rattle.scr_world.specs.Worlds.{all_instances}
 use Rattle.platform_hall.specs.Platforms.{Accepts, Drained, SettlesAs, TakesCommand, none_under_way, world}
 use Rattle.platform_hall.proofs.Steps.{grown_after}
-use Rattle.shell_lang.specs.declared.shell_line.ShellLine.TheVariants.{Silent, Quit, Command as Commanded, Bundles, Services, Components, Report, Held, Find, Events, BundleEvents, Trace, Wiring, BundleWiring, Settle, Begin, Finish}
+use Rattle.shell_lang.specs.declared.shell_line.ShellLine.TheVariants.{Silent, Quit, Help, Command as Commanded, Bundles, Services, Components, Report, Held, Find, Events, BundleEvents, Trace, Wiring, BundleWiring, Settle, Begin, Finish}
 use Rattle.shell_lang.specs.declared.shell_reply.ShellReply.{ShellReply}
 use Rattle.shell_lang.specs.ShellLines.{Asked}
 use Rattle.platform_shell.specs.Asks.{Asks, AsksBegin, AsksFinish, IsAnswer, Manually, Setting, is_told}
@@ -97,6 +97,7 @@ pub asks_still : TurnsEnd → (s : Setting) (asked : Asked) (before after : Core
     → Asks s asked before told after → none_under_way before ≡ true → none_under_way after ≡ true
 asks_still turns_end s (Ok Silent) before after told auto legal (is, same) none = same_still before after same none
 asks_still turns_end s (Ok Quit) before after told auto legal (is, same) none = same_still before after same none
+asks_still turns_end s (Ok (Help rows)) before after told auto legal (is, same) none = same_still before after same none
 asks_still turns_end s (Ok (Commanded command)) before after told auto legal (said, is, (answer, takes, tells, replied)) none = takes_still before after command answer takes tells ∙ none
 asks_still turns_end s (Ok Bundles) before after told auto legal (is, same) none = same_still before after same none
 asks_still turns_end s (Ok Services) before after told auto legal (is, same) none = same_still before after same none

@@ -27,10 +27,10 @@ use Rattle.platform_hall.specs.declared.finish_fault.FinishFault.{FinishFault}
 use Rattle.platform_hall.specs.declared.finish_fault.FinishFault.TheVariants.{NoTurn as NoSuchTurn, OutOfMemory as NoMemoryLeft}
 use Rattle.platform_hall.specs.Platforms.{BeginsTurn, FinishesTurn, TakesCommand, running, world}
 use Rattle.platform_hall.specs.SettleBounds.{SettlesWithin}
-use Rattle.shell_lang.specs.declared.shell_line.ShellLine.TheVariants.{Silent, Quit, Command as Commanded, Bundles as AskBundles, Services as AskServices, Components as AskComponents, Report as AskReport, Held as AskHeld, Find as AskFind, Events as AskEvents, BundleEvents as AskBundleEvents, Trace as AskTrace, Wiring as AskWiring, BundleWiring as AskBundleWiring, Settle, Begin, Finish}
+use Rattle.shell_lang.specs.declared.shell_line.ShellLine.TheVariants.{Silent, Quit, Help as AskHelp, Command as Commanded, Bundles as AskBundles, Services as AskServices, Components as AskComponents, Report as AskReport, Held as AskHeld, Find as AskFind, Events as AskEvents, BundleEvents as AskBundleEvents, Trace as AskTrace, Wiring as AskWiring, BundleWiring as AskBundleWiring, Settle, Begin, Finish}
 use Rattle.shell_lang.specs.declared.shell_reply.Refusal.TheVariants.{Line as InLine, Core as OfCore, NotManual, NoTurn}
 use Rattle.shell_lang.specs.declared.shell_reply.ShellReply.{ShellReply}
-use Rattle.shell_lang.specs.declared.shell_reply.ShellReply.TheVariants.{Done, Bundle, Service, Uses, Listener, Bundles, Services, Components, Report, Held, Found, Events, BundleEvents, Trace, Turns, Begun, Idle, Finished, Refused}
+use Rattle.shell_lang.specs.declared.shell_reply.ShellReply.TheVariants.{Done, Help, Bundle, Service, Uses, Listener, Bundles, Services, Components, Report, Held, Found, Events, BundleEvents, Trace, Turns, Begun, Idle, Finished, Refused}
 use Rattle.shell_lang.specs.ShellLines.{Asked}
 use Rattle.platform_shell.specs.Wiring.{AsksBundleWiring, AsksWiring}
 
@@ -136,6 +136,7 @@ Does asks before told after = (reply : ShellReply) × (told ≡ Some reply) × a
 abbrev pub Asks : Setting → Asked → CoreView → Option ShellReply → CoreView → Type 0
 Asks s (Ok Silent) before told after = IsStill before told after
 Asks s (Ok Quit) before told after = IsStill before told after
+Asks s (Ok (AskHelp rows)) before told after = Says (Help rows) before told after
 Asks s (Ok (Commanded command)) before told after = Does (AsksCommand command) before told after
 Asks s (Ok AskBundles) before told after = Says (Bundles (bundle_lines (world before))) before told after
 Asks s (Ok AskServices) before told after = Says (Services (service_lines (world before))) before told after

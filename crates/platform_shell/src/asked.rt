@@ -29,6 +29,7 @@ pub(crate) fn carry_out<K: Kinds + Drop>(
     match asked {
         Err(fault) => Ok(Some(ShellReply::Refused(Refusal::Line { fault }))),
         Ok(ShellLine::Silent | ShellLine::Quit) => Ok(None),
+        Ok(ShellLine::Help(rows)) => Ok(Some(ShellReply::Help(rows))),
         Ok(ShellLine::Command(command)) => Ok(Some(run_command(alloc, platform, command)?)),
         Ok(ShellLine::Bundles) => Ok(Some(bundles(alloc, platform)?)),
         Ok(ShellLine::Services) => Ok(Some(services(alloc, platform)?)),

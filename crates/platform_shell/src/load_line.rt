@@ -65,6 +65,7 @@ pub(crate) fn is_refusal(reply: &ShellReply) -> bool
     match reply {
         ShellReply::Refused(_) => true,
         ShellReply::Done => false,
+        ShellReply::Help(_) => false,
         ShellReply::Bundle(_) => false,
         ShellReply::Service(_) => false,
         ShellReply::Uses(_) => false,

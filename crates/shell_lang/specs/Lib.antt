@@ -3,6 +3,7 @@ pub mod LineFaults
 pub mod FilterTexts
 pub mod Arguments
 pub mod Interfaces
+pub mod Help
 pub mod ShellLines
 pub mod JoinedTexts
 pub mod FaultTexts

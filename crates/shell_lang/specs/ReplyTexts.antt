@@ -1,16 +1,18 @@
 -- The text of a reply. Our own form.
 use Rattle.std.specs.Prelude.{ℕ, List, ◌++◌, codes}
 use Rattle.std.specs.Fmt.{decimal}
+use Rattle.shell_lang.specs.Help.{help_text}
 use Rattle.shell_lang.specs.RefusalTexts.{refusal_text}
 use Rattle.shell_lang.specs.RowTexts.{bundle_event_text, bundle_text, component_text, held_text, number_text, placed_rows_text, registered_text, rows_text, service_event_text}
 use Rattle.shell_lang.specs.TurnTexts.{finished_text, trace_text, turn_text}
 use Rattle.shell_lang.specs.WiringTexts.{need_text, wiring_text}
 use Rattle.shell_lang.specs.declared.shell_reply.ShellReply.{ShellReply}
-use Rattle.shell_lang.specs.declared.shell_reply.ShellReply.TheVariants.{Done, Bundle, Service, Uses, Listener, Bundles, Services, Components, Report, Held, Found, Events, BundleEvents, Trace, Wiring, BundleWiring, Turns, Begun, Idle, Finished, Refused}
+use Rattle.shell_lang.specs.declared.shell_reply.ShellReply.TheVariants.{Done, Help, Bundle, Service, Uses, Listener, Bundles, Services, Components, Report, Held, Found, Events, BundleEvents, Trace, Wiring, BundleWiring, Turns, Begun, Idle, Finished, Refused}
 
 -- the text of a reply
 abbrev pub reply_text : ShellReply → List ℕ
 reply_text Done = codes "ok\n"
+reply_text (Help rows) = rows_text help_text rows
 reply_text (Bundle bundle) = codes "ok bundle " ++ decimal bundle ++ codes "\n"
 reply_text (Service service) = codes "ok service " ++ decimal service ++ codes "\n"
 reply_text (Uses uses) = codes "ok uses " ++ decimal uses ++ codes "\n"

@@ -10,6 +10,7 @@ use Rattle.shell_lang.specs.declared.line_fault.LineFault.TheVariants.{NotBuilt,
 use Rattle.shell_lang.specs.declared.shell_line.ShellLine.{ShellLine}
 use Rattle.shell_lang.specs.declared.shell_line.ShellLine.TheVariants.{Silent, Quit, Command as Commanded, Bundles, Services, Components, Report, Held, Find, Events, BundleEvents, Trace, Wiring, BundleWiring, Settle, Begin, Finish}
 use Rattle.shell_lang.specs.Arguments.{document_argument, filter_argument, properties_argument}
+use Rattle.shell_lang.specs.Help.{helping}
 use Rattle.shell_lang.specs.Interfaces.{interfaces_at}
 use Rattle.shell_lang.specs.LineFaults.{Reads, fitting}
 use Rattle.shell_lang.specs.Words.{behind_word, first_word, nothing_at, number_and_text, number_and_word, number_at, only_number, only_word, text_at, two_numbers, two_numbers_and_text, two_words_and_text, word_and_text, word_at}
@@ -131,7 +132,7 @@ bundle_line word rest =
     else (if bytes_eq word (codes "uninstall") then numbered (λ bundle. Commanded (Uninstall bundle)) rest
     else (if bytes_eq word (codes "unlisten") then numbered (λ listener. Commanded (Unlisten listener)) rest else reading_line word rest)))
 
--- alone
+-- alone, or with a word of a line
 abbrev pub worded_line : List ℕ → Option (List ℕ) → Asked
 worded_line word rest =
     if bytes_eq word (codes "quit") then alone Quit rest
@@ -139,7 +140,8 @@ worded_line word rest =
     else (if bytes_eq word (codes "services") then alone Services rest
     else (if bytes_eq word (codes "components") then alone Components rest
     else (if bytes_eq word (codes "settle") then alone Settle rest
-    else (if bytes_eq word (codes "begin") then alone Begin rest else bundle_line word rest)))))
+    else (if bytes_eq word (codes "begin") then alone Begin rest
+    else (if bytes_eq word (codes "help") then helping rest else bundle_line word rest))))))
 
 abbrev pub text_line : List ℕ → Asked
 text_line line = worded_line (first_word line) (behind_word line)

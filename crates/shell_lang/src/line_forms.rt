@@ -5,6 +5,7 @@ ghost use Rattle.shell_lang.specs.ShellLines.{alone, bundle_line, carrying_line,
 
 use crate::arguments::{owned, read_document, read_filter, read_properties};
 use crate::interfaces::interfaces_at;
+use crate::line_help::helping;
 use crate::words::{
     nothing_at, number_and_text, number_and_word, number_at, only_number, only_word, text_at,
     two_numbers, two_numbers_and_text, two_words_and_text, word_and_text, word_at,
@@ -28,6 +29,7 @@ pub(crate) fn worded_line(
         "components" => alone(ShellLine::Components, rest),
         "settle" => alone(ShellLine::Settle, rest),
         "begin" => alone(ShellLine::Begin, rest),
+        "help" => helping(alloc, rest),
         _ => bundle_line(alloc, word, rest),
     }
 }

@@ -26,6 +26,7 @@ fn reply_text(alloc: Global, reply: &ShellReply) -> Result<String, OutOfMemory>
 {
     match reply {
         ShellReply::Done => String::from_str(alloc, "ok\n"),
+        ShellReply::Help(rows) => rows_text(alloc, rows.as_slice()),
         ShellReply::Bundle(bundle) => format!(in alloc; "ok bundle {bundle}\n"),
         ShellReply::Service(service) => format!(in alloc; "ok service {service}\n"),
         ShellReply::Uses(uses) => format!(in alloc; "ok uses {uses}\n"),

@@ -1,7 +1,9 @@
 //! The rows that a reply tells, each on a line of its own.
 ghost use Rattle.std.specs.Prelude.{◌≡◌, IfOk, codes, string_bytes};
+ghost use Rattle.shell_lang.specs.Help.{help_text};
 ghost use Rattle.shell_lang.specs.RowTexts.{bundle_event_text, bundle_text, component_text, held_text, number_text, placed_rows_text, registered_text, rows_text, service_event_text, versioned_text};
 
+use crate::LineHelp;
 use crate::joined_text::joined;
 use bundle_life::BundleEvent;
 use prop_map::OutOfMemory;
@@ -19,6 +21,16 @@ pub(crate) trait Row {
     // The line, with its end.
     fn text(&self, alloc: Global) -> Result<String, OutOfMemory>
         ensures { IfOk result (λ text. string_bytes text ≡ row_text self.now) };
+}
+
+impl Row for LineHelp {
+    ghost row_text = { help_text };
+
+    fn text(&self, alloc: Global) -> Result<String, OutOfMemory> {
+        let words = self.words.as_str();
+        let sentence = self.sentence.as_str();
+        format!(in alloc; "{words}: {sentence}\n")
+    }
 }
 
 impl Row for BundleLine {

@@ -1,5 +1,7 @@
 //! What a line asks.
+use crate::LineHelp;
 use ldap_filter::Filter;
+use prop_map::List;
 use scr_world::Command;
 
 /// What a line asks.
@@ -9,6 +11,8 @@ pub enum ShellLine {
     Silent,
     /// To end the run. It has no reply.
     Quit,
+    /// What is told of lines of the shell.
+    Help(List<LineHelp>),
     /// A command.
     Command(Command),
     /// The bundles and their states.

@@ -1,6 +1,6 @@
 //! What lines are answered.
 
-use crate::LineFault;
+use crate::{LineFault, LineHelp};
 use bundle_life::BundleEvent;
 use callback_orders::Outcome;
 use prop_map::{List, Str};
@@ -36,6 +36,8 @@ pub enum Refusal {
 pub enum ShellReply {
     /// It is done.
     Done,
+    /// Lines of the shell, and what each does.
+    Help(List<LineHelp>),
     /// The number of a bundle.
     Bundle(u64),
     /// The number of a service.

@@ -1,0 +1,81 @@
+//! The lines of the shell.
+
+/// The lines of the shell, in the order in which they are told: the words of each as they are shown, and what it does.
+pub const LINES: &[(&str, &str)] = &[
+    ("install DOC", "installs a bundle"),
+    (
+        "update B DOC",
+        "gives a bundle that isn't active another document",
+    ),
+    ("uninstall B", "uninstalls a bundle that isn't active"),
+    ("start B", "starts a bundle"),
+    ("stop B", "stops a bundle"),
+    ("enable B NAME", "enables a component of an active bundle"),
+    ("disable B NAME", "disables a component of an active bundle"),
+    (
+        "register B I,I JSON",
+        "registers a service with these interfaces and properties",
+    ),
+    ("set B S JSON", "gives a service other properties"),
+    ("unregister B S", "unregisters a service"),
+    (
+        "get B S",
+        "gets a service, and tells how often the bundle uses it",
+    ),
+    (
+        "unget B S",
+        "lets a service go, and tells how often the bundle still uses it",
+    ),
+    (
+        "listen B FILTER",
+        "adds a listener to the events of the services that the filter matches",
+    ),
+    (
+        "events L P",
+        "tells what a listener was told behind position P",
+    ),
+    ("unlisten L", "takes a listener away"),
+    ("bundles", "tells each bundle: number, state, name, version"),
+    (
+        "bundle-events P",
+        "tells what happened to bundles behind position P",
+    ),
+    (
+        "services",
+        "tells each service: number, bundle, interfaces, ranking",
+    ),
+    (
+        "find FILTER",
+        "tells the services that the filter matches, the best first",
+    ),
+    ("config PID JSON", "sets the configuration of a PID"),
+    (
+        "factory PID NAME JSON",
+        "sets the configuration of this name of a factory",
+    ),
+    ("unconfig PID", "deletes a configuration"),
+    (
+        "components",
+        "tells each component configuration: number, name, state",
+    ),
+    ("report C", "tells of a component configuration, as JSON"),
+    (
+        "held C",
+        "tells the services that the instances of a component configuration hold",
+    ),
+    ("trace P", "tells the turns behind number P"),
+    (
+        "wiring",
+        "tells which bundles resolve by their manifests, and their wires",
+    ),
+    ("wiring B", "tells the needs and offers of a bundle"),
+    (
+        "settle",
+        "runs turns until none is due, and tells how many ran",
+    ),
+    ("begin", "with --manual: begins the first turn that is due"),
+    ("finish N", "with --manual: ends a turn that is under way"),
+    ("help", "tells each line of the shell"),
+    ("help WORD", "tells the lines that begin with this word"),
+    ("quit", "ends the run"),
+];
