@@ -3,7 +3,17 @@
 //! A [`Terminal`] is told of a run. No clause speaks of its texts, and a write to standard error that fails is passed over.
 #![tactic(auto)]
 
+mod argument;
 mod command;
+mod document_hints;
+mod excerpt;
+mod faulty_fields;
+mod fields;
+mod hints;
+mod like_fields;
+mod near_words;
+mod places;
+mod refusal_hints;
 mod sentences;
 mod terminal;
 

@@ -1,6 +1,8 @@
 //! Who tells people of a run.
 
 use crate::command::program;
+use crate::hints::Hints;
+use crate::refusal_hints::tell_of_refusal;
 use crate::sentences::sentence;
 use clap::Error;
 use platform_shell::{AskedText, Status, Tells, Texts};
@@ -83,17 +85,27 @@ impl<'t, R: Eprint> Terminal<'t, R> {
             }
         };
     }
+
+    // Says what there is to say beside that, each on a line of its own; where memory is wanting, what there was before.
+    fn hint(&self, line: u64, text: &[u8], refusal: &Refusal) {
+        let mut hints = Hints::new(self.alloc);
+        let _ = tell_of_refusal(&mut hints, text, refusal);
+        for hint in hints.texts() {
+            self.say(line, hint.as_str());
+        }
+    }
 }
 
 impl<R: Eprint> Tells for Terminal<'_, R> {
-    fn refused(&mut self, line: u64, _text: &[u8], reply: &ShellReply) {
+    fn refused(&mut self, line: u64, text: &[u8], reply: &ShellReply) {
         if !self.explains {
             return;
         }
         if let ShellReply::Refused(refusal) = reply {
-            if let Ok(text) = write_reply(self.alloc, reply) {
-                self.explain(line, name_in(text.as_slice()), refusal);
+            if let Ok(told) = write_reply(self.alloc, reply) {
+                self.explain(line, name_in(told.as_slice()), refusal);
             }
+            self.hint(line, text, refusal);
         }
     }
 
