@@ -1,4 +1,4 @@
-//! Tests of calls by gets on a platform.
+//! Tests of calls by gets and of requests on a platform.
 #![tactic(auto)]
 
 #[cfg(test)]
@@ -9,6 +9,10 @@ mod insisting;
 #[cfg(test)]
 mod long_calls;
 #[cfg(test)]
+mod servlet_requests;
+#[cfg(test)]
 mod steps;
+#[cfg(test)]
+mod told;
 
 pub use insisting::{Insisted, Insisting};

@@ -1,10 +1,11 @@
 //! What is done on a new platform, step by step.
 
 use crate::came::Came;
+use crate::told::{Told, request};
 use bundle_doc::read_bundle;
 use kind_trait::Kinds;
 use platform_hall::Platform;
-use prop_map::{List, OutOfMemory, Properties, Str};
+use prop_map::{List, OutOfMemory, Properties, Str, Value};
 use scr_world::{Command, Limits};
 use std::alloc::Global;
 
@@ -13,7 +14,7 @@ const LIMITS: Limits = Limits {
     turns: 100,
 };
 
-/// A step. A command is to be taken, and a call to come to what it says.
+/// A step. A command is to be taken, and a call or a request to come to what it says.
 pub(crate) enum Step<'s> {
     /// A bundle of this document is installed.
     Install(&'s str),
@@ -23,12 +24,18 @@ pub(crate) enum Step<'s> {
     Stop(u64),
     /// The bundle registers a service of the interface P.
     Register(u64),
+    /// The bundle registers a servlet for the path `/s`.
+    RegisterServlet(u64),
+    /// What is due runs.
+    Settle,
     /// The bundle asks the service for "hi".
     Call {
         bundle: u64,
         service: u64,
         came: Came<'s>,
     },
+    /// A request for the path `/s` is answered so.
+    Ask(Told<'s>),
 }
 
 // Whether the platform takes the command.
@@ -47,17 +54,30 @@ fn installs<K: Kinds + Drop>(alloc: Global, platform: &mut Platform<K>, document
 }
 
 // The names of one interface.
-fn interfaces(alloc: Global) -> Result<List<Str>, OutOfMemory> {
-    let name = Str::spell(alloc, "P")?;
+fn interfaces(alloc: Global, name: &str) -> Result<List<Str>, OutOfMemory> {
+    let name = Str::spell(alloc, name)?;
     let mut names = Vec::new(alloc);
     names.push(name)?;
     Ok(List::of(names))
 }
 
-fn registers<K: Kinds + Drop>(alloc: Global, platform: &mut Platform<K>, bundle: u64) -> bool {
-    match interfaces(alloc) {
+// The properties of a servlet for the path `/s`.
+fn at_its_path(alloc: Global) -> Result<Properties, OutOfMemory> {
+    let pattern = Value::Text(Str::spell(alloc, "/s")?);
+    let mut properties = Properties::new(alloc);
+    properties.set(alloc, "osgi.http.whiteboard.servlet.pattern", pattern)?;
+    Ok(properties)
+}
+
+fn registers<K: Kinds + Drop>(
+    alloc: Global,
+    platform: &mut Platform<K>,
+    bundle: u64,
+    interface: &str,
+    properties: Properties,
+) -> bool {
+    match interfaces(alloc, interface) {
         Ok(interfaces) => {
-            let properties = Properties::new(alloc);
             let command = Command::Register {
                 bundle,
                 interfaces,
@@ -65,6 +85,17 @@ fn registers<K: Kinds + Drop>(alloc: Global, platform: &mut Platform<K>, bundle:
             };
             takes(alloc, platform, command)
         }
+        Err(_) => false,
+    }
+}
+
+fn registers_servlet<K: Kinds + Drop>(
+    alloc: Global,
+    platform: &mut Platform<K>,
+    bundle: u64,
+) -> bool {
+    match at_its_path(alloc) {
+        Ok(properties) => registers(alloc, platform, bundle, "javax.servlet.Servlet", properties),
         Err(_) => false,
     }
 }
@@ -80,17 +111,32 @@ fn calls<K: Kinds + Drop>(
     came.is(&answer)
 }
 
+fn asks<K: Kinds + Drop>(alloc: Global, platform: &mut Platform<K>, told: &Told<'_>) -> bool {
+    match request(alloc) {
+        Some(request) => {
+            let answer = platform.http(alloc, &request);
+            told.is(&answer)
+        }
+        None => false,
+    }
+}
+
 fn comes_true<K: Kinds + Drop>(alloc: Global, platform: &mut Platform<K>, step: &Step<'_>) -> bool {
     match step {
         Step::Install(document) => installs(alloc, platform, document),
         Step::Start(bundle) => takes(alloc, platform, Command::Start { bundle: *bundle }),
         Step::Stop(bundle) => takes(alloc, platform, Command::Stop { bundle: *bundle }),
-        Step::Register(bundle) => registers(alloc, platform, *bundle),
+        Step::Register(bundle) => {
+            registers(alloc, platform, *bundle, "P", Properties::new(alloc))
+        }
+        Step::RegisterServlet(bundle) => registers_servlet(alloc, platform, *bundle),
+        Step::Settle => platform.settle(alloc).is_ok(),
         Step::Call {
             bundle,
             service,
             came,
         } => calls(alloc, platform, *bundle, *service, came),
+        Step::Ask(told) => asks(alloc, platform, told),
     }
 }
 

@@ -13,7 +13,7 @@ use Rattle.scr_calls.specs.declared.call.Called.{Called}
 use Rattle.scr_calls.specs.declared.call_fault.CallFault.{CallFault}
 use Rattle.scr_calls.specs.declared.call_fault.CallFault.TheVariants.{Gone, NoObject, Pending, Refused, CallTooLong, Core, Settle, OutOfMemory}
 use Rattle.scr_calls.specs.Evaluates.{Rising, reaching, world_up_to}
-use Rattle.scr_core.specs.Cores.{CoreView}
+use Rattle.scr_requests.specs.Cores.{CoreView}
 use Rattle.scr_readers.specs.Reaching.{outer}
 use Rattle.scr_readers.specs.declared.live.Live.{Live}
 use Rattle.scr_readers.specs.declared.live.Outer.{Outer}

@@ -8,7 +8,7 @@ use Rattle.kind_trait.specs.Meanings.{Told}
 use Rattle.prop_map.specs.declared.properties.Property.{Property}
 use Rattle.turn_runner.specs.declared.settle_fault.SettleFault.{SettleFault}
 use Rattle.turn_runner.specs.declared.settle_fault.SettleFault.TheVariants.{Unsettled, JournalFull, OutOfMemory}
-use Rattle.scr_core.specs.Cores.{CoreView}
+use Rattle.scr_requests.specs.Cores.{CoreView}
 use Rattle.scr_promises.specs.Bounds.{IsWithinBound}
 use Rattle.scr_promises.specs.Names.{HaveOwnNames}
 use Rattle.scr_promises.specs.Settlings.{OnlySettles, is_settling}

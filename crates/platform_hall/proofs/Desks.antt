@@ -15,7 +15,7 @@ use Rattle.scr_world.specs.declared.command.Limits.{Limits}
 use Rattle.scr_world.specs.declared.step.Step.{Step}
 use Rattle.scr_world.specs.declared.step.Step.TheVariants.{End}
 use Rattle.scr_world.specs.declared.instance.Instance.{Instance}
-use Rattle.scr_core.specs.Cores.{CoreView}
+use Rattle.scr_requests.specs.Cores.{CoreView}
 use Rattle.scr_world.specs.Instances.{has_turn}
 use Rattle.scr_world.specs.Calls.{world_at}
 use Rattle.scr_world.specs.Legal.{is_under_way}

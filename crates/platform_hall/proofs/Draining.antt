@@ -11,7 +11,7 @@ use Rattle.scr_world.specs.declared.step.Step.TheVariants.{Drained as DrainedSte
 use Rattle.scr_world.specs.declared.instance.Instance.{Instance}
 use Rattle.scr_world.specs.Calls.{Drains, awaits_drain_at, next_drain}
 use Rattle.scr_world.specs.Consequences.{gate_of}
-use Rattle.scr_core.specs.Cores.{CoreView}
+use Rattle.scr_requests.specs.Cores.{CoreView}
 use Rattle.scr_world.specs.Legal.{awaits_drain}
 use Rattle.scr_world.specs.declared.world.World.{World}
 use Rattle.platform_hall.specs.Platforms.{world}

@@ -20,3 +20,5 @@ pub mod Commanding
 pub mod Using
 pub mod Objects
 pub mod Answering
+pub mod Growing
+pub mod Requesting

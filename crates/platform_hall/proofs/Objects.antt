@@ -10,10 +10,10 @@ use Rattle.callback_orders.specs.Lives.{phase_by, phase_of}
 use Rattle.callback_orders.specs.Sequences.{is_done, is_sequence}
 use Rattle.component_state.proofs.Apart.{any_from}
 use Rattle.journal_core.specs.declared.entry.Entry.{Entry}
-use Rattle.scr_callees.specs.Callees.{IsActiveAt}
-use Rattle.scr_callees.proofs.Reaching.{reach_active}
+use Rattle.scr_requests.specs.Cores.{IsActiveAt}
+use Rattle.scr_requests.proofs.Reaches.{reach_active}
 use Rattle.scr_calls.specs.Evaluates.{reaching, whom, world_up_to}
-use Rattle.scr_core.specs.Cores.{CoreView}
+use Rattle.scr_requests.specs.Cores.{CoreView}
 use Rattle.scr_readers.specs.Reaching.{inward, outer}
 use Rattle.scr_readers.specs.declared.live.Inward.{Inward}
 use Rattle.scr_readers.specs.declared.live.Inward.TheVariants.{NoService, NoObject, Gone, Live as ToInward}

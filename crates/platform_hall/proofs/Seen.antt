@@ -12,7 +12,7 @@ use Rattle.turn_runner.proofs.Settlings.{Follows, Known, settled_seen}
 use Rattle.platform_hall.specs.declared.held.Held.{Held}
 use Rattle.platform_hall.specs.Desks.{DeskBegins, DeskEnds, DeskHears, DeskPosts, DeskSettles, DeskView, HandsOut}
 use Rattle.platform_hall.specs.Platforms.{Begins, Ends, Posts, SettlesAs, has_drain, has_due, has_room, running}
-use Rattle.scr_core.specs.Cores.{CoreView}
+use Rattle.scr_requests.specs.Cores.{CoreView}
 
 module _ {O : Type 0} where
   -- a desk of this core, which keeps these objects, of which these turns were heard

@@ -15,7 +15,7 @@ use Rattle.scr_world.specs.declared.step.Step.{Step}
 use Rattle.scr_world.specs.declared.step.Step.TheVariants.{End, Drained as DrainedStep}
 use Rattle.scr_world.specs.declared.instance.Instance.{Instance}
 use Rattle.scr_world.specs.Calls.{world_at}
-use Rattle.scr_core.specs.Cores.{CoreView}
+use Rattle.scr_requests.specs.Cores.{CoreView}
 use Rattle.scr_world.specs.Dues.{due_in}
 use Rattle.scr_world.specs.Instances.{has_turn}
 use Rattle.scr_world.specs.Legal.{IsLegal}

@@ -7,7 +7,7 @@ use Rattle.kind_trait.specs.Meanings.{Told}
 use Rattle.prop_map.specs.declared.properties.Property.{Property}
 use Rattle.turn_work.specs.declared.work.TurnWork.{TurnWork}
 use Rattle.turn_runner.specs.Turns.{Ends as EndsTurn, IsCutOff, Settles, Turns}
-use Rattle.scr_core.specs.Cores.{CoreView}
+use Rattle.scr_requests.specs.Cores.{CoreView}
 use Rattle.scr_promises.specs.Bounds.{turns_begun_in}
 use Rattle.scr_promises.proofs.Sums.{total_cons, total_over}
 use Rattle.scr_world.specs.declared.command.Limits.{Limits}

@@ -3,7 +3,7 @@ use Rattle.std.proofs.Common.{◌≡◌, refl, ap, ◌∙◌, Bool, true, false,
 use Rattle.std.specs.Prelude.{is_some, option_and_then}
 use Rattle.std.specs.Option.{option_map_or}
 use Rattle.callback_orders.specs.declared.due.DueRef.{DueRef}
-use Rattle.scr_core.specs.Cores.{CoreView}
+use Rattle.scr_requests.specs.Cores.{CoreView}
 use Rattle.scr_world.specs.Calls.{FindsNoRoom, IsIdle}
 use Rattle.scr_world.specs.Dues.{begin_of, due_in, next_begin}
 use Rattle.scr_world.specs.Room.{has_room as has_room_for, needed_by}

@@ -6,7 +6,7 @@ use Rattle.call_runner.specs.declared.run.End.TheVariants.{Said, Declined, TooLo
 use Rattle.scr_calls.specs.declared.call.Called.{Called}
 use Rattle.scr_calls.specs.declared.call_fault.CallFault.{CallFault}
 use Rattle.scr_calls.specs.declared.call_fault.CallFault.TheVariants.{Refused, CallTooLong}
-use Rattle.scr_core.specs.Cores.{CoreView}
+use Rattle.scr_requests.specs.Cores.{CoreView}
 use Rattle.scr_readers.specs.declared.live.Inward.{Inward}
 use Rattle.scr_readers.specs.declared.live.Inward.TheVariants.{NoService, NoObject, Gone, Live}
 use Rattle.scr_readers.specs.declared.live.Outer.{Outer}

@@ -8,7 +8,7 @@ use Rattle.scr_calls.specs.Evaluates.{world_up_to}
 use Rattle.scr_calls.specs.declared.call.Called.{Called}
 use Rattle.scr_calls.specs.declared.call_fault.CallFault.{CallFault}
 use Rattle.scr_calls.specs.declared.call_fault.CallFault.TheVariants.{Core, Settle, OutOfMemory}
-use Rattle.scr_core.specs.Cores.{CoreView}
+use Rattle.scr_requests.specs.Cores.{CoreView}
 use Rattle.scr_world.specs.Calls.{EndsUse, Gets}
 use Rattle.scr_world.specs.declared.marks.Token.{Token}
 use Rattle.scr_world.specs.declared.reply.CoreFault.{CoreFault}

@@ -1,2 +1,2 @@
 -- The core as contracts see it, passed on to whoever stands on the platform. Our own.
-pub use Rattle.scr_core.specs.Cores.{AreWithinGreatest, CoreView}
+pub use Rattle.scr_requests.specs.Cores.{AreWithinGreatest, CoreView}

@@ -14,7 +14,7 @@ use Rattle.turn_runner.specs.declared.settle_fault.SettleFault.{SettleFault}
 use Rattle.turn_runner.specs.Outcomes.{needs_object}
 use Rattle.turn_runner.specs.Turns.{HeardEnds, IsSettled, Starts}
 use Rattle.platform_hall.specs.declared.held.Held.{Held}
-use Rattle.scr_core.specs.Cores.{CoreView}
+use Rattle.scr_requests.specs.Cores.{CoreView}
 use Rattle.scr_world.specs.Legal.{is_under_way}
 use Rattle.platform_hall.specs.Platforms.{Begins, Ends, Posts, has_drain, has_due, has_object, has_room, running, world}
 use Rattle.prop_map.specs.Words.{one_if}

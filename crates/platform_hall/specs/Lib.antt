@@ -4,3 +4,4 @@ pub mod SettleBounds
 pub mod Desks
 pub mod Calls
 pub mod Callees
+pub mod Requests

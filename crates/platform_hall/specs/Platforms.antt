@@ -20,7 +20,7 @@ use Rattle.scr_world.specs.declared.step.Step.{Step}
 use Rattle.scr_world.specs.declared.step.Step.TheVariants.{End}
 use Rattle.scr_world.specs.declared.instance.Instance.{Instance}
 use Rattle.scr_world.specs.Calls.{Commands, Drains, Grown, Takes, world_at}
-use Rattle.scr_core.specs.Cores.{CoreView}
+use Rattle.scr_requests.specs.Cores.{CoreView}
 use Rattle.scr_world.specs.Dues.{due_in, next_begin}
 use Rattle.scr_world.specs.Legal.{awaits_drain}
 use Rattle.scr_world.specs.Room.{has_room as has_room_for, needed_by}

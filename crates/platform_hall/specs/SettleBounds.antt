@@ -3,7 +3,7 @@ use Rattle.std.specs.Prelude.{◌≡◌, ◌≤◌, ◌<◌, ℕ, List, [], ◌�
 use Rattle.std.specs.List.{list_all}
 use Rattle.kind_trait.specs.Meanings.{Told}
 use Rattle.prop_map.specs.declared.properties.Property.{Property}
-use Rattle.scr_core.specs.Cores.{CoreView}
+use Rattle.scr_requests.specs.Cores.{CoreView}
 use Rattle.scr_promises.specs.Bounds.{IsWithinBound}
 use Rattle.scr_promises.specs.Names.{HaveOwnNames}
 use Rattle.scr_promises.specs.Settlings.{NothingCloses, ends_well}

@@ -13,7 +13,8 @@ use call_runner::{CallEnd, Callees, End, run_call};
 use kind_trait::Kinds;
 use prop_map::{OutOfMemory, Str};
 use scr_calls::{CallFault, Called};
-use scr_core::{Live, Outer, UseNote};
+use scr_readers::{Live, Outer};
+use scr_requests::UseNote;
 use std::alloc::Global;
 
 // What a call that came to this end is answered.
@@ -33,7 +34,7 @@ fn answer_at(front: u64, ran: CallEnd) -> Result<Called, CallFault>
 }
 
 // Runs a call of an instance to its end.
-fn run_live<K: Kinds>(
+pub(crate) fn run_live<K: Kinds>(
     alloc: Global,
     kinds: &K,
     desk: &CoreDesk<K::Object>,

@@ -8,7 +8,8 @@ ghost use Rattle.std.specs.Prelude.{◌≡◌, true, IfOk, OnErr, OnOk};
 use crate::core_desk::CoreDesk;
 use crate::tokens::held_object;
 use prop_map::OutOfMemory;
-use scr_core::{CoreFault, UseNote};
+use scr_requests::UseNote;
+use scr_world::CoreFault;
 use std::alloc::Global;
 use std::sync::Arc;
 

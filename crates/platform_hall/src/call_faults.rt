@@ -4,7 +4,7 @@ ghost use Rattle.std.specs.Prelude.{◌≡◌};
 
 use prop_map::Str;
 use scr_calls::{CallFault, Called};
-use scr_core::CoreFault;
+use scr_world::CoreFault;
 use turn_runner::SettleFault;
 
 // Why a call isn't answered where its get is refused.

@@ -13,7 +13,8 @@ use crate::core_desk::CoreDesk;
 use call_runner::{Callee, Callees, Party};
 use kind_trait::NestedReply;
 use prop_map::{OutOfMemory, Str};
-use scr_core::{Inward, Live, Outer, UseNote};
+use scr_readers::{Inward, Live, Outer};
+use scr_requests::UseNote;
 use std::alloc::Global;
 
 // An instance that is reached, with its own object.

@@ -9,7 +9,7 @@ use crate::call_faults::{get_fault, lacks_memory, settle_fault, text_of};
 use kind_trait::Kinds;
 use prop_map::{OutOfMemory, Str};
 use scr_calls::{CallFault, Called};
-use scr_core::UseNote;
+use scr_requests::UseNote;
 use std::alloc::Global;
 use turn_runner::Desk;
 
@@ -23,6 +23,7 @@ impl<K: Kinds + Drop> Platform<K> {
     ) -> Result<UseNote, CallFault>
         ensures { GetsSettled K.refuses self.old bundle service result self.new }
     {
+        self.servlets = None;
         let note = match self.desk.get_use(alloc, bundle, service) {
             Ok(note) => note,
             Err(fault) => return Err(get_fault(fault)),
@@ -45,6 +46,7 @@ impl<K: Kinds + Drop> Platform<K> {
         ensures ok { OnOk result (Releases self.old note self.new × (has_drain self.new ≡ false)) }
         ensures err { OnErr result ((self.new ≡ self.old) ⊎ Releases self.old note self.new) }
     {
+        self.servlets = None;
         self.desk.end_use(alloc, note)?;
         self.desk.post(alloc)
     }

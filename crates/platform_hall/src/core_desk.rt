@@ -2,7 +2,7 @@
 ghost use Rattle.platform_hall.specs.Desks.{DeskBegins, DeskEnds, DeskPosts, HandsOut, Owns};
 ghost use Rattle.platform_hall.specs.Platforms.{CoreTakes, has_drain, has_due, has_object, has_room, running, world};
 ghost use Rattle.scr_world.specs.declared.reply.CoreFault.TheVariants.{OutOfMemory as NoMemory};
-ghost use Rattle.scr_core.specs.Cores.{AreWithinGreatest};
+ghost use Rattle.scr_requests.specs.Cores.{AreWithinGreatest};
 ghost use Rattle.scr_world.specs.Legal.{IsLegal};
 ghost use Rattle.scr_world.specs.Steps.{history_of};
 ghost use Rattle.std.specs.Arc.{arc_value};
@@ -14,7 +14,8 @@ use crate::heard::note_heard;
 use crate::held::Held;
 use crate::tokens::{keep, shared_object, take_out};
 use prop_map::OutOfMemory;
-use scr_core::{Accepted, Command, Core, CoreFault, Limits, Taken, Turn};
+use scr_requests::{Core, Taken, Turn};
+use scr_world::{Accepted, Command, CoreFault, Limits};
 use std::alloc::{AllocError, Global};
 use std::marker::Model;
 use std::sync::Arc;

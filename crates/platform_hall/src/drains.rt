@@ -3,7 +3,7 @@ ghost use Rattle.platform_hall.specs.Platforms.{Posts, has_drain};
 ghost use Rattle.std.specs.Prelude.{◌≡◌, false, OnOk};
 
 use prop_map::OutOfMemory;
-use scr_core::Core;
+use scr_requests::Core;
 use std::alloc::Global;
 
 // Posts the drains that are awaited.

@@ -14,8 +14,10 @@ mod drains;
 mod finish_fault;
 mod heard;
 mod held;
+mod http_answers;
 mod notes;
 mod platform;
+mod requests;
 mod tokens;
 
 pub use finish_fault::FinishFault;

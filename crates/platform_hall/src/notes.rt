@@ -3,7 +3,7 @@ ghost use Rattle.kind_trait.specs.Meanings.{Told};
 ghost use Rattle.platform_hall.specs.Platforms.{SettlesAs, none_under_way, world};
 ghost use Rattle.platform_hall.specs.SettleBounds.{IsBounded};
 ghost use Rattle.prop_map.specs.declared.properties.Property.{Property};
-ghost use Rattle.scr_core.specs.Cores.{CoreView};
+ghost use Rattle.scr_requests.specs.Cores.{CoreView};
 ghost use Rattle.scr_promises.specs.Names.{HaveOwnNames};
 ghost use Rattle.scr_world.specs.Legal.{IsLegal};
 ghost use Rattle.scr_world.specs.Quiet.{IsQuiet, IsRight};

@@ -1,7 +1,7 @@
 //! The platform.
 ghost use Rattle.std.specs.Prelude.{◌≡◌, [], IfOk, IfErr};
 ghost use Rattle.scr_world.specs.declared.reply.CoreFault.TheVariants.{OutOfMemory};
-ghost use Rattle.scr_core.specs.Cores.{AreWithinGreatest};
+ghost use Rattle.scr_requests.specs.Cores.{AreWithinGreatest};
 ghost use Rattle.scr_world.specs.Legal.{IsLegal};
 ghost use Rattle.scr_world.specs.Steps.{history_of};
 ghost use Rattle.platform_hall.specs.Desks.{DeskSettles, FinishesHeard, SettlesHeard};
@@ -12,22 +12,27 @@ use crate::FinishFault;
 use crate::core_desk::CoreDesk;
 use callback_orders::Outcome;
 use kind_trait::Kinds;
-use scr_core::{Command, Core, CoreFault, Limits, Reply};
+use scr_requests::{Core, Servlets};
+use scr_world::{Command, CoreFault, Limits, Reply};
 use std::alloc::Global;
 use std::marker::Model;
 use turn_runner::{Desk, DeskFault, SettleFault, finish, settle};
 
 /// A platform of one thread. Contracts see its limits and the entries of its journal, the oldest first.
 ///
-/// Beside the core it keeps the component code and the objects that this made, one for each instance whose Create is done.
+/// Beside the core it keeps the component code and the objects that this made, one for each instance whose Create is done. The
+/// servlets that a request needed are kept with the length of the journal at which they were made.
 #[derive(Drop)]
 pub struct Platform<K: Kinds> {
     pub(crate) kinds: K,
     pub(crate) desk: CoreDesk<K::Object>,
+    pub(crate) servlets: Option<Servlets>,
 }
 
 impl<K: Kinds> Model for Platform<K> {
-    ghost use Rattle.scr_core.specs.Cores.{CoreView};
+    ghost use Rattle.scr_requests.specs.Cores.{CoreView};
+    ghost use Rattle.platform_hall.specs.Requests.{WereServletsOf};
+    ghost use Rattle.std.specs.Prelude.{MatchOption};
     ghost use Rattle.std.specs.Coded.{codes};
     ghost use Rattle.ldap_filter.specs.TreeCodes.{tree_code};
 
@@ -36,6 +41,8 @@ impl<K: Kinds> Model for Platform<K> {
     ghost coded = { Prim.hlevel (codes, tree_code) };
 
     ghost view = { λ p. p.desk.core };
+
+    ghost invariant = { λ p. MatchOption p.servlets (Unit {0}) (WereServletsOf p.desk.core.journal) };
 }
 
 // Runs the turns that are due over the desk, and sees of it what contracts see of its core.
@@ -65,17 +72,19 @@ impl<K: Kinds + Drop> Platform<K> {
         Ok(Platform {
             kinds,
             desk: CoreDesk::new(alloc, limits)?,
+            servlets: None,
         })
     }
 
     /// Takes a command, answers as the core does, and posts the drains of the gates that are shut.
     ///
     /// # Errors
-    /// Those of [`scr_core::Core::command`]. A refused command leaves all as it was, but for want of memory, which may also leave the
+    /// Those of [`Core::command`]. A refused command leaves all as it was, but for want of memory, which may also leave the
     /// command's entry and some of the drains.
     pub fn command(&mut self, alloc: Global, command: Command) -> Result<Reply, CoreFault>
         ensures { TakesCommand self.old command result self.new }
     {
+        self.servlets = None;
         let accepted = self.desk.command(alloc, command)?;
         self.desk.post(alloc)?;
         Ok(accepted.reply)
@@ -106,6 +115,7 @@ impl<K: Kinds + Drop> Platform<K> {
     pub fn begin(&mut self, alloc: Global) -> Result<Option<u64>, CoreFault>
         ensures { BeginsTurn self.old result self.new }
     {
+        self.servlets = None;
         match self.desk.take(alloc) {
             Ok(Some(work)) => Ok(Some(work.number)),
             Ok(None) => Ok(None),
@@ -124,6 +134,7 @@ impl<K: Kinds + Drop> Platform<K> {
         ensures finishes { FinishesTurn K.refuses self.old turn result self.new }
         ensures heard { IfOk result (λ outcome. FinishesHeard K.made K.hears self.old turn outcome self.new) }
     {
+        self.servlets = None;
         let Some(work) = self.desk.work(alloc, turn)? else {
             return Err(FinishFault::NoTurn);
         };

@@ -8,7 +8,7 @@ ghost use Rattle.prop_map.specs.Words.{one_if};
 
 use crate::held::Held;
 use prop_map::OutOfMemory;
-use scr_core::Turn;
+use scr_requests::Turn;
 use std::sync::Arc;
 
 // The place of a token of this turn, of which there is one.

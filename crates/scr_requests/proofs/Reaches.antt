@@ -4,7 +4,7 @@ use Rattle.std.specs.Prelude.{codes, if◌then◌else◌}
 use Rattle.callback_orders.specs.Lives.{held_for}
 use Rattle.prop_map.specs.Words.{has}
 use Rattle.scr_callees.specs.Callees.{IsActiveAt}
-use Rattle.scr_callees.proofs.Reaching.{reach_active}
+pub use Rattle.scr_callees.proofs.Reaching.{reach_active}
 use Rattle.scr_calls.specs.Servlets.{Ending, Objectless, Reached, Standing, choice, reached, reached_by, routing_in}
 use Rattle.scr_promises.proofs.ViewedReferences.{has_sorted}
 use Rattle.scr_readers.specs.Reaching.{active_for, is_direct, is_ending_at, server_of}

@@ -14,4 +14,6 @@ mod servlets;
 pub use answers::{answer_by_end, answer_by_nobody, servlet_text};
 pub use laws::{note_active, note_chosen};
 pub use reaching::{Reach, reach_of};
+// The platform takes these of the core by way of this crate, since each library on a line of crates.txt costs the crates above.
+pub use scr_core::{Core, Taken, Turn, UseNote};
 pub use servlets::Servlets;

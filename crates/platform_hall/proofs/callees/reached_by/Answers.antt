@@ -1,5 +1,5 @@
 use Rattle.std.proofs.Common.{◌≡◌, subst}
-use Rattle.scr_core.specs.Cores.{CoreView}
+use Rattle.scr_requests.specs.Cores.{CoreView}
 use Rattle.scr_readers.specs.Reaching.{outer}
 use Rattle.platform_hall.specs.Platforms.{world}
 use Rattle.platform_hall.proofs.Objects.{outer_object}

@@ -3,7 +3,7 @@ use Rattle.std.specs.Prelude.{IfOk}
 use Rattle.call_moves.specs.Evaluations.{Whom}
 use Rattle.call_runner.specs.Reached.{whom_of}
 use Rattle.scr_calls.specs.Evaluates.{whom}
-use Rattle.scr_core.specs.Cores.{CoreView}
+use Rattle.scr_requests.specs.Cores.{CoreView}
 use Rattle.scr_readers.specs.Reaching.{inward}
 use Rattle.platform_hall.specs.Platforms.{world}
 use Rattle.platform_hall.proofs.Objects.{reached_has, reaching_now}

@@ -1,5 +1,5 @@
 use Rattle.std.proofs.Common.{ap}
-use Rattle.scr_core.specs.Cores.{CoreView}
+use Rattle.scr_requests.specs.Cores.{CoreView}
 use Rattle.platform_hall.proofs.Desks.{empty_desk}
 use Rattle.platform_hall.proofs.core_desk.CoreDesk.new.Goals as goal
 

@@ -1,6 +1,6 @@
 use Rattle.std.proofs.Common.{◌≡◌, Some, subst}
 use Rattle.turn_runner.specs.Outcomes.{needs_object}
-use Rattle.scr_core.specs.Cores.{CoreView}
+use Rattle.scr_requests.specs.Cores.{CoreView}
 use Rattle.platform_hall.specs.Platforms.{has_object, running}
 use Rattle.platform_hall.proofs.Desks.{running_fits, running_number}
 use Rattle.platform_hall.proofs.Seen.{core_same}

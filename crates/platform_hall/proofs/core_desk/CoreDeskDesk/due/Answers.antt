@@ -1,6 +1,6 @@
 use Rattle.std.proofs.Common.{◌≡◌, subst}
 use Rattle.std.specs.Prelude.{IfOk}
-use Rattle.scr_core.specs.Cores.{CoreView}
+use Rattle.scr_requests.specs.Cores.{CoreView}
 use Rattle.platform_hall.specs.Platforms.{has_due}
 use Rattle.platform_hall.proofs.Seen.{core_same}
 use Rattle.platform_hall.proofs.core_desk.CoreDeskDesk.due.Goals as goal

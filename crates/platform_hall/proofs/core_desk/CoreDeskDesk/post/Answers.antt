@@ -1,5 +1,5 @@
 use Rattle.std.proofs.Common.{◌≡◌, ap, ◌∙◌, refl, subst}
-use Rattle.scr_core.specs.Cores.{CoreView}
+use Rattle.scr_requests.specs.Cores.{CoreView}
 use Rattle.platform_hall.specs.Desks.{DeskView}
 use Rattle.platform_hall.specs.Platforms.{Posts, has_object}
 use Rattle.platform_hall.proofs.Desks.{desk_alike}

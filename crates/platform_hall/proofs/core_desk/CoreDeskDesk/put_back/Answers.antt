@@ -5,7 +5,7 @@ use Rattle.platform_hall.specs.Desks.{is_holder}
 use Rattle.turn_runner.specs.Outcomes.{IsMadeFor, IsRunOf, has_object_after, is_destroy_of}
 use Rattle.scr_world.specs.declared.step.Step.TheVariants.{End}
 use Rattle.scr_world.specs.Calls.{Grown}
-use Rattle.scr_core.specs.Cores.{CoreView}
+use Rattle.scr_requests.specs.Cores.{CoreView}
 use Rattle.scr_world.specs.Legal.{is_under_way}
 use Rattle.platform_hall.specs.Desks.{DeskView, IsDesk, holders_of, object_of}
 use Rattle.prop_map.specs.Words.{one_if}

@@ -1,5 +1,5 @@
 use Rattle.std.proofs.Common.{◌≡◌, ◌++◌, ◌∷◌, [], ap, sym, ◌∙◌, refl, subst, true, false}
-use Rattle.scr_core.specs.Cores.{CoreView}
+use Rattle.scr_requests.specs.Cores.{CoreView}
 use Rattle.platform_hall.specs.Desks.{DeskView, IsDesk}
 use Rattle.platform_hall.specs.Platforms.{Begins, has_due, has_object, has_room}
 use Rattle.platform_hall.proofs.Desks.{desk_begun, running_fits}

@@ -1,6 +1,6 @@
 use Rattle.std.proofs.Common.{refl, subst, Ok, Err, None}
 use Rattle.scr_world.specs.declared.reply.CoreFault.TheVariants.{JournalFull, OutOfMemory}
-use Rattle.scr_core.specs.Cores.{CoreView}
+use Rattle.scr_requests.specs.Cores.{CoreView}
 use Rattle.platform_hall.specs.Platforms.{Begins, BeginsTurn}
 use Rattle.platform_hall.proofs.Seen.{core_same}
 use Rattle.platform_hall.proofs.platform.Platform.begin.Goals as goal

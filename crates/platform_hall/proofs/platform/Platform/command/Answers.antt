@@ -1,6 +1,6 @@
 use Rattle.std.proofs.Common.{refl, subst, inr, Ok}
 use Rattle.std.proofs.lemmas.Result.{err_from_is_err_and}
-use Rattle.scr_core.specs.Cores.{CoreView}
+use Rattle.scr_requests.specs.Cores.{CoreView}
 use Rattle.platform_hall.specs.Platforms.{CoreTakes}
 use Rattle.platform_hall.proofs.platform.Platform.command.Goals as goal
 

@@ -1,5 +1,5 @@
 use Rattle.std.proofs.Common.{◌≡◌, ℕ, sym, ◌∙◌, subst, Ok, Err, Some}
-use Rattle.scr_core.specs.Cores.{CoreView}
+use Rattle.scr_requests.specs.Cores.{CoreView}
 use Rattle.platform_hall.specs.declared.finish_fault.FinishFault.TheVariants.{OutOfMemory}
 use Rattle.platform_hall.specs.Desks.{FinishesHeard}
 use Rattle.platform_hall.specs.Platforms.{FinishesTurn, running}

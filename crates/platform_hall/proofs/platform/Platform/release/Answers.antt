@@ -1,5 +1,5 @@
 use Rattle.std.proofs.Common.{inr, subst}
-use Rattle.scr_core.specs.Cores.{CoreView}
+use Rattle.scr_requests.specs.Cores.{CoreView}
 use Rattle.platform_hall.specs.Calls.{Releases}
 use Rattle.platform_hall.proofs.Results.{err_anyway, ok_with}
 use Rattle.platform_hall.proofs.platform.Platform.release.Goals as goal

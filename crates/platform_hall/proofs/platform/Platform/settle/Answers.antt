@@ -1,10 +1,18 @@
 use Rattle.std.proofs.Common.{ℕ, ◌∙◌, ap, refl, subst}
-use Rattle.scr_core.specs.Cores.{CoreView}
+use Rattle.scr_requests.specs.Cores.{CoreView}
 use Rattle.scr_world.specs.declared.command.Limits.{Limits}
 use Rattle.platform_hall.specs.Desks.{DeskSettles, SettlesHeard}
 use Rattle.platform_hall.specs.SettleBounds.{SettlesWithin}
 use Rattle.platform_hall.proofs.Bounded.{settles_within}
+use Rattle.platform_hall.proofs.Growing.{kept_on, settled_grows}
 use Rattle.platform_hall.proofs.platform.Platform.settle.Goals as goal
+
+pub invariant_of-self : goal.invariant_of-self
+invariant_of-self g c =
+    let desk = c.self.inside.desk in
+    let left = c.settle_desk.new.desk in
+    kept_on desk.core.journal left.core.journal c.self.inside.servlets
+    (settled_grows g.K.Kinds.refuses _ desk.core c.settle_desk.result left.core c.settle_desk.ensures.settles) c.self.invariant
 
 pub returns-clause-settles : goal.returns-clause-settles
 returns-clause-settles g c =

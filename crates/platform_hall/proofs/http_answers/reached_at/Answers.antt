@@ -1,0 +1,14 @@
+use Rattle.std.proofs.Common.{subst}
+use Rattle.scr_requests.specs.Cores.{CoreView}
+use Rattle.scr_requests.specs.Requests.{IsReach}
+use Rattle.platform_hall.specs.Platforms.{world}
+use Rattle.platform_hall.proofs.Requesting.{reach_object}
+use Rattle.platform_hall.proofs.http_answers.reached_at.Goals as goal
+
+pub returns-clause-reached : goal.returns-clause-reached
+returns-clause-reached g c = subst (λ (p : CoreView). IsReach (world p) c.args.path.now c.in_ok-to.to) c.core-core.ensures.core c.in_ok-to.ensures
+
+pub returns-clause-object : goal.returns-clause-object
+returns-clause-object g c =
+    reach_object c.args.desk.now.core c.core-core.ensures.legal c.note_active.ensures c.args.path.now c.in_ok-to.to
+    (subst (λ (p : CoreView). IsReach (world p) c.args.path.now c.in_ok-to.to) c.core-core.ensures.core c.in_ok-to.ensures)
