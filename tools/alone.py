@@ -34,7 +34,7 @@ def crates_at(top):
         here = os.getcwd()
         os.chdir(top)
         try:
-            return {it.name: it for it in RT.crates_of(str(top))}
+            return {it.name: it for it in RT.rtlib.crates_below(str(top))}
         finally:
             os.chdir(here)
 
