@@ -70,6 +70,10 @@ pub const LINES: &[(&str, &str)] = &[
     ),
     ("wiring B", "tells the needs and offers of a bundle"),
     (
+        "call B S TEXT",
+        "calls a service for a bundle, and tells its answer",
+    ),
+    (
         "settle",
         "runs turns until none is due, and tells how many ran",
     ),

@@ -1,7 +1,7 @@
 //! What a line asks.
 use crate::LineHelp;
 use ldap_filter::Filter;
-use prop_map::List;
+use prop_map::{List, Str};
 use scr_world::Command;
 
 /// What a line asks.
@@ -68,5 +68,14 @@ pub enum ShellLine {
     Finish {
         /// Its number.
         turn: u64,
+    },
+    /// To call a service for a bundle.
+    Call {
+        /// The bundle's number.
+        bundle: u64,
+        /// The service's number.
+        service: u64,
+        /// The request.
+        request: Str,
     },
 }
