@@ -3,6 +3,7 @@ pub mod ReadingLemmas
 pub mod FoundLineFeed
 pub mod Writing
 pub mod Growth
+pub mod CallGrowth
 pub mod LineGrowth
 pub mod NothingDue
 pub mod Refusals

@@ -16,17 +16,19 @@ use Rattle.turn_runner.specs.declared.settle_fault.SettleFault.TheVariants.{Unse
 use Rattle.platform_hall.specs.declared.finish_fault.FinishFault.{FinishFault}
 use Rattle.platform_hall.specs.declared.finish_fault.FinishFault.TheVariants.{NoTurn as NoSuchTurn, OutOfMemory as NoMemoryLeft}
 use Rattle.platform_hall.specs.Platforms.{BeginsTurn, Finishes, FinishesTurn}
-use Rattle.shell_lang.specs.declared.shell_line.ShellLine.TheVariants.{Silent, Quit, Command as Commanded, Bundles, Services, Components, Report, Held, Find, Events, BundleEvents, Trace, Wiring, BundleWiring, Settle, Begin, Finish}
+use Rattle.shell_lang.specs.declared.shell_line.ShellLine.TheVariants.{Silent, Quit, Command as Commanded, Bundles, Services, Components, Report, Held, Find, Events, BundleEvents, Trace, Wiring, BundleWiring, Settle, Begin, Finish, Call}
 use Rattle.shell_lang.specs.declared.shell_reply.ShellReply.{ShellReply}
 use Rattle.shell_lang.specs.ShellLines.{Asked, shell_line}
 use Rattle.platform_shell.specs.declared.status.Status.{Status}
 use Rattle.platform_shell.specs.declared.status.Status.TheVariants.{Done, Usage, ReadFault, WriteFault, NoMemory as Short, JournalFull, LineTooLong, Unsettled, Refused as AtRefusal}
-use Rattle.platform_shell.specs.Asks.{Asks, AsksBegin, AsksFinish, IsAnswer, Manually, Setting, changed, commands_of}
+use Rattle.platform_shell.specs.Asks.{Asks, AsksBegin, AsksFinish, Manually, Setting, changed, commands_of}
 use Rattle.platform_shell.specs.Cuts.{Cuts, CutsAsked, CutsBegin, CutsCommand, CutsFinish, CutsFirst, Stays}
+use Rattle.platform_shell.specs.Refusals.{IsAnswer}
 use Rattle.platform_shell.specs.Rests.{Rests, RestsBy}
 use Rattle.platform_shell.specs.declared.form.ScriptOptions.{ScriptOptions}
 use Rattle.platform_shell.specs.LineTexts.{Answer}
 use Rattle.platform_shell.specs.Runs.{Grew, LacksMemory, Ran, RunsFirst, RunsLine, Stops}
+use Rattle.platform_shell.proofs.CallGrowth.{grew_calls, grew_cut_call}
 use Rattle.platform_shell.proofs.Growth.{grew_accepts, grew_begins, grew_ends, grew_not, grew_posts, grew_same, grew_settled, grew_takes, grew_trans}
 
 grew_finishes : (refuses : List ℕ → List Property → Told → Bool) (before after : CoreView) (turn : ℕ) (outcome : Outcome) → Finishes refuses before turn outcome after → Grew before after []
@@ -71,6 +73,7 @@ grew_asks s (Ok Begin) before after told (said, is, asked) =
     grew_manually s.is_manual AsksBegin before after said (λ asks. grew_begun before after asks.0 asks.1) asked
 grew_asks s (Ok (Finish turn)) before after told (said, is, asked) =
     grew_manually s.is_manual (AsksFinish s.refuses turn) before after said (λ asks. grew_finished s.refuses before after turn asks.0 asks.1) asked
+grew_asks s (Ok (Call bundle service request)) before after told (said, is, (answer, calls, tells)) = grew_calls s.refuses s.next before after bundle service request answer calls
 grew_asks s (Err fault) before after told (is, same) = grew_not before after same
 
 grew_rests_by : (manual : Bool) (s : Setting) (between after : CoreView) → RestsBy manual s between after → Grew between after []
@@ -120,6 +123,7 @@ grew_cut_asked s (Ok (BundleWiring bundle)) fault before after commands (is, (sa
 grew_cut_asked s (Ok Settle) fault before after commands (cut, none) = grew_none before after commands none (grew_settled s.refuses before.limits.turns before after (Err fault) cut.0)
 grew_cut_asked s (Ok Begin) fault before after commands (manual, cut, none) = grew_none before after commands none (grew_cut_begin fault before after cut)
 grew_cut_asked s (Ok (Finish turn)) fault before after commands (manual, cut, none) = grew_none before after commands none (grew_cut_finish s.refuses turn fault before after cut)
+grew_cut_asked s (Ok (Call bundle service request)) fault before after commands (cut, none) = grew_none before after commands none (grew_cut_call s.refuses s.next before after bundle service request fault cut)
 grew_cut_asked s (Err why) fault before after commands (is, (same, none)) = grew_none before after commands none (grew_not before after same)
 
 -- a line that is cut off

@@ -16,7 +16,7 @@ use Rattle.shell_lang.specs.declared.words.Misfit.{Misfit}
 use Rattle.shell_lang.specs.Arguments.{document_argument, filter_argument, given_document, names_file, properties_argument}
 use Rattle.shell_lang.specs.Interfaces.{interfaces_at}
 use Rattle.shell_lang.specs.LineFaults.{fitting}
-use Rattle.shell_lang.specs.ShellLines.{Asked, alone, bundle_line, carrying_line, configuring, configuring_factory, configuring_line, finding, installing, is_silent, listening, named, named_line, numbered, other_fault, paired, paired_line, reading_line, registering, setting, shell_line, text_line, unconfiguring, updating, wiring, worded_line}
+use Rattle.shell_lang.specs.ShellLines.{Asked, alone, bundle_line, calling, carrying_line, configuring, configuring_factory, configuring_line, finding, installing, is_silent, listening, named, named_line, numbered, other_fault, paired, paired_line, reading_line, registering, setting, shell_line, text_line, unconfiguring, updating, wiring, worded_line}
 use Rattle.shell_lang.specs.Words.{behind_word, first_word, nothing_at, number_and_text, number_and_word, number_at, only_number, only_word, text_at, two_numbers, two_numbers_and_text, two_words_and_text, word_and_text, word_at}
 use Rattle.platform_shell.proofs.ReadNames.{AreNamed, bundle_named}
 
@@ -102,6 +102,9 @@ factory_named rest = when_fitting (two_words_and_text rest) _ (λ words. when_re
 unconfiguring_named : (rest : Option (List ℕ)) → AskedNamed (unconfiguring rest)
 unconfiguring_named rest = when_fitting (only_word rest) _ (λ pid. tt)
 
+calling_named : (rest : Option (List ℕ)) → AskedNamed (calling rest)
+calling_named rest = when_fitting (two_numbers_and_text rest) _ (λ words. tt)
+
 -- ---- by the first word
 
 module _ (word : List ℕ) (rest : Option (List ℕ)) where
@@ -118,7 +121,8 @@ module _ (word : List ℕ) (rest : Option (List ℕ)) where
       (either_line (bytes_eq word (codes "register")) (registering rest) _ (registering_named rest)
       (either_line (bytes_eq word (codes "set")) (setting rest) _ (setting_named rest)
       (either_line (bytes_eq word (codes "listen")) (listening rest) _ (listening_named rest)
-      (either_line (bytes_eq word (codes "find")) (finding rest) (configuring_line word rest) (finding_named rest) configuring_line_named)))))
+      (either_line (bytes_eq word (codes "find")) (finding rest) _ (finding_named rest)
+      (either_line (bytes_eq word (codes "call")) (calling rest) (configuring_line word rest) (calling_named rest) configuring_line_named))))))
 
   named_line_named : AskedNamed (named_line word rest)
   named_line_named =

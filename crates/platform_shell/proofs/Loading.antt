@@ -6,6 +6,7 @@ use Rattle.std.specs.Io.KnownBytes.{Appends}
 use Rattle.std.proofs.KnownBytes.{Appends-nil}
 use Rattle.std.proofs.lemmas.List.Sums.{sum_by-append, sum_by-cons}
 use Rattle.fault_count.specs.Steps.{Rose}
+use Rattle.call_moves.specs.Evaluations.{Meaning}
 use Rattle.kind_trait.specs.Meanings.{Told}
 use Rattle.platform_hall.specs.Cores.{CoreView}
 use Rattle.platform_hall.specs.Platforms.{none_under_way}
@@ -164,9 +165,9 @@ grew_cut s (LineTooLong at) before after others commands cut = absurd cut
 grew_cut s Unsettled before after others commands cuts = grew_cuts_first s others StillDue before after commands cuts
 grew_cut s (Refused at) before after others commands cut = absurd cut
 
-module _ (refuses : List ℕ → List Property → Told → Bool) (load : LoadNumbers) (before after : CoreView) (written written' : Option (List ℕ)) where
+module _ (refuses : List ℕ → List Property → Told → Bool) (next : Meaning) (load : LoadNumbers) (before after : CoreView) (written written' : Option (List ℕ)) where
   -- a load that is cut off
-  pub load_cut : (status : Status) → RunsLines (load_setting refuses) (lines_of_load load) before (Err status) after → RunsLoad refuses load before after written written status
+  pub load_cut : (status : Status) → RunsLines (load_setting refuses next) (lines_of_load load) before (Err status) after → RunsLoad refuses next load before after written written status
   load_cut Done (lines, others, between, commands, later, answers, first, ran, cut) = absurd cut
   load_cut (Usage at) (lines, others, between, commands, later, answers, first, ran, cut) = absurd cut
   load_cut ReadFault (lines, others, between, commands, later, answers, first, ran, cut) = absurd cut
@@ -182,7 +183,7 @@ module _ (refuses : List ℕ → List Property → Told → Bool) (load : LoadNu
     first = first;
     ran = ran;
     stops = (cut, refl);
-    grew = grew_trans before between after commands later (grew_ran (load_setting refuses) before lines before between commands answers ran) (grew_cut (load_setting refuses) NoMemory between after others later cut);
+    grew = grew_trans before between after commands later (grew_ran (load_setting refuses next) before lines before between commands answers ran) (grew_cut (load_setting refuses next) NoMemory between after others later cut);
     wrote = Appends-nil written;
   }
   load_cut JournalFull (lines, others, between, commands, later, answers, first, ran, cut) = record {
@@ -196,7 +197,7 @@ module _ (refuses : List ℕ → List Property → Told → Bool) (load : LoadNu
     first = first;
     ran = ran;
     stops = (cut, refl);
-    grew = grew_trans before between after commands later (grew_ran (load_setting refuses) before lines before between commands answers ran) (grew_cut (load_setting refuses) JournalFull between after others later cut);
+    grew = grew_trans before between after commands later (grew_ran (load_setting refuses next) before lines before between commands answers ran) (grew_cut (load_setting refuses next) JournalFull between after others later cut);
     wrote = Appends-nil written;
   }
   load_cut (LineTooLong at) (lines, others, between, commands, later, answers, first, ran, cut) = absurd cut
@@ -211,14 +212,14 @@ module _ (refuses : List ℕ → List Property → Told → Bool) (load : LoadNu
     first = first;
     ran = ran;
     stops = (cut, refl);
-    grew = grew_trans before between after commands later (grew_ran (load_setting refuses) before lines before between commands answers ran) (grew_cut (load_setting refuses) Unsettled between after others later cut);
+    grew = grew_trans before between after commands later (grew_ran (load_setting refuses next) before lines before between commands answers ran) (grew_cut (load_setting refuses next) Unsettled between after others later cut);
     wrote = Appends-nil written;
   }
   load_cut (Refused at) (lines, others, between, commands, later, answers, first, ran, cut) = absurd cut
 
   -- a load whose lines all ran
-  pub load_told : (status : Status) (answered : Answered) → RunsLines (load_setting refuses) (lines_of_load load) before (Ok answered) after → TellsCounts answered after written written' status
-      → RunsLoad refuses load before after written written' status
+  pub load_told : (status : Status) (answered : Answered) → RunsLines (load_setting refuses next) (lines_of_load load) before (Ok answered) after → TellsCounts answered after written written' status
+      → RunsLoad refuses next load before after written written' status
   load_told Done answered (commands, answers, ran, counted) told = record {
     lines = lines_of_load load;
     others = [];
@@ -230,7 +231,7 @@ module _ (refuses : List ℕ → List Property → Told → Bool) (load : LoadNu
     first = sym (append-nil (lines_of_load load));
     ran = ran;
     stops = ((refl, refl), refl, ap (λ a. text_of_counts a after) counted);
-    grew = grew_same before after commands (commands ++ []) (sym (append-nil commands)) (grew_ran (load_setting refuses) before (lines_of_load load) before after commands answers ran);
+    grew = grew_same before after commands (commands ++ []) (sym (append-nil commands)) (grew_ran (load_setting refuses next) before (lines_of_load load) before after commands answers ran);
     wrote = told;
   }
   load_told (Usage at) answered ran told = absurd told
@@ -246,7 +247,7 @@ module _ (refuses : List ℕ → List Property → Told → Bool) (load : LoadNu
     first = sym (append-nil (lines_of_load load));
     ran = ran;
     stops = ((refl, refl), refl, (count, omega (arith, below, ap (λ a. length (text_of_counts a after)) counted), ap (λ a. take count (text_of_counts a after)) counted));
-    grew = grew_same before after commands (commands ++ []) (sym (append-nil commands)) (grew_ran (load_setting refuses) before (lines_of_load load) before after commands answers ran);
+    grew = grew_same before after commands (commands ++ []) (sym (append-nil commands)) (grew_ran (load_setting refuses next) before (lines_of_load load) before after commands answers ran);
     wrote = wrote;
   }
   load_told NoMemory answered (commands, answers, ran, counted) same = record {
@@ -260,7 +261,7 @@ module _ (refuses : List ℕ → List Property → Told → Bool) (load : LoadNu
     first = sym (append-nil (lines_of_load load));
     ran = ran;
     stops = (inl (refl, refl), refl);
-    grew = grew_same before after commands (commands ++ []) (sym (append-nil commands)) (grew_ran (load_setting refuses) before (lines_of_load load) before after commands answers ran);
+    grew = grew_same before after commands (commands ++ []) (sym (append-nil commands)) (grew_ran (load_setting refuses next) before (lines_of_load load) before after commands answers ran);
     wrote = subst (λ w. Appends written w []) (sym same) (Appends-nil written);
   }
   load_told JournalFull answered ran told = absurd told
@@ -269,7 +270,7 @@ module _ (refuses : List ℕ → List Property → Told → Bool) (load : LoadNu
   load_told (Refused at) answered ran told = absurd told
 
   -- where the sink didn't fail
-  pub load_ends : (status : Status) (form : Form) (R W : Type 0) → RunsLoad refuses load before after written written' status → HasCause status (Ok form) R W → (W → ⊥) → EndsLoad refuses load before status
+  pub load_ends : (status : Status) (form : Form) (R W : Type 0) → RunsLoad refuses next load before after written written' status → HasCause status (Ok form) R W → (W → ⊥) → EndsLoad refuses next load before status
   load_ends Done form R W ran cause writes = λ room turns. inr refl
   load_ends (Usage at) form R W ran cause writes = absurd ran.stops.0
   load_ends ReadFault form R W ran cause writes = absurd ran.stops.0

@@ -5,16 +5,21 @@ use Rattle.std.specs.List.{list_any}
 use Rattle.std.specs.declared.option.Option.{Option}
 use Rattle.callback_orders.specs.Sequences.{is_outstanding}
 use Rattle.journal_core.specs.declared.entry.Entry.{Entry}
+use Rattle.call_moves.specs.Evaluations.{Meaning}
 use Rattle.kind_trait.specs.Meanings.{Told}
 use Rattle.prop_map.specs.declared.properties.Property.{Property}
+use Rattle.scr_calls.specs.declared.call.Called.{Called}
+use Rattle.scr_calls.specs.declared.call_fault.CallFault.{CallFault}
+use Rattle.scr_calls.specs.declared.call_fault.CallFault.TheVariants.{Gone, NoObject, Pending, Refused, CallTooLong, Core, Settle as InSettling, OutOfMemory as CallNoMemory}
 use Rattle.scr_world.specs.declared.command.Command.{Command}
 use Rattle.scr_world.specs.declared.reply.CoreFault.{CoreFault}
 use Rattle.scr_world.specs.declared.reply.CoreFault.TheVariants.{OutOfMemory as NoMemory}
 use Rattle.scr_world.specs.declared.reply.Reply.{Reply}
 use Rattle.scr_world.specs.declared.step.Step.{Step}
-use Rattle.scr_world.specs.declared.step.Step.TheVariants.{Command as Stepped, Drained as DrainStep}
+use Rattle.scr_world.specs.declared.step.Step.TheVariants.{Command as Stepped, Drained as DrainStep, Got, Released}
 use Rattle.scr_world.specs.declared.instance.Instance.{Instance}
-use Rattle.scr_world.specs.Calls.{Grown, GrownIf, world_at}
+use Rattle.scr_world.specs.declared.marks.Token.{Token}
+use Rattle.scr_world.specs.Calls.{EndsUse, Grown, GrownIf, world_at}
 use Rattle.platform_hall.specs.Cores.{CoreView}
 use Rattle.scr_world.specs.Instances.{drained_in}
 use Rattle.scr_world.specs.Legal.{IsLegal}
@@ -23,12 +28,16 @@ use Rattle.scr_world.specs.Replies.{changes}
 use Rattle.scr_world.specs.Stepping.{instances_by, whiteboard_by}
 use Rattle.scr_world.specs.Steps.{history_of}
 use Rattle.scr_world.specs.Worlds.{all_instances}
+use Rattle.platform_hall.specs.Calls.{CallsByGet, CallsOnOne, GetsUse, Releases}
 use Rattle.platform_hall.specs.Platforms.{Accepts, Drained, SettlesAs, TakesCommand, none_under_way, world}
 use Rattle.platform_hall.proofs.Steps.{grown_after}
-use Rattle.shell_lang.specs.declared.shell_line.ShellLine.TheVariants.{Silent, Quit, Command as Commanded, Bundles, Services, Components, Report, Held, Find, Events, BundleEvents, Trace, Wiring, BundleWiring, Settle, Begin, Finish}
+use Rattle.shell_lang.specs.declared.shell_line.ShellLine.TheVariants.{Silent, Quit, Command as Commanded, Bundles, Services, Components, Report, Held, Find, Events, BundleEvents, Trace, Wiring, BundleWiring, Settle, Begin, Finish, Call}
 use Rattle.shell_lang.specs.declared.shell_reply.ShellReply.{ShellReply}
 use Rattle.shell_lang.specs.ShellLines.{Asked}
-use Rattle.platform_shell.specs.Asks.{Asks, AsksBegin, AsksFinish, IsAnswer, Manually, Setting, is_told}
+use Rattle.platform_shell.specs.Asks.{Asks, AsksBegin, AsksFinish, Manually, Setting}
+use Rattle.platform_shell.specs.Calling.{TellsCall}
+use Rattle.platform_shell.specs.Refusals.{IsAnswer, is_told}
+use Rattle.platform_shell.proofs.CallGrowth.{grew_got, ungot_whole}
 use Rattle.platform_shell.proofs.Refusals.{refused_keeps}
 
 -- a callback of these instances is outstanding
@@ -92,6 +101,37 @@ abbrev pub TurnsEnd : Type 0
 TurnsEnd = (refuses : List ℕ → List Property → Told → Bool) → (turns count : ℕ) → (before after : CoreView) → IsLegal before.limits.journal (history_of before.journal) → none_under_way before ≡ true
     → SettlesAs refuses turns before (Ok count) after → none_under_way after ≡ true
 
+-- neither does a call: a get and its release begin no turn and end none
+got_still : (before after : CoreView) (bundle service : ℕ) (note : Token) → GetsUse before bundle service (Ok note) after → none_under_way after ≡ none_under_way before
+got_still before after bundle service note (same, (is, grown)) = ap not (outstanding_grown before.limits.journal before.journal after.journal (Got bundle service) grown)
+
+ended_still : (limit : ℕ) (old new : List (Entry Step)) (note : Token) (stood : Bool) → EndsUse limit old note stood new → outstanding_at new ≡ outstanding_at old
+ended_still limit old new note true (stands, grown) = outstanding_grown limit old new (Released note.place) grown
+ended_still limit old new note false (stands, same) = ap outstanding_at same
+
+releases_still : (before after : CoreView) (note : Token) → Releases before note after → none_under_way after ≡ none_under_way before
+releases_still before after note (ended, (stood, same, ends), (limits, count, drained)) =
+    ap not (drained_still ended.limits.journal count ended.journal after.journal drained ∙ ended_still before.limits.journal before.journal ended.journal note stood ends)
+
+module _ (turns_end : TurnsEnd) (refuses : List ℕ → List Property → Told → Bool) (next : Meaning) (before after : CoreView) (bundle service : ℕ) (request : List ℕ) (legal : IsLegal before.limits.journal (history_of before.journal)) (none : none_under_way before ≡ true) where
+  by_get_still : (said : Result Called CallFault) → CallsByGet refuses next before bundle service request said after → none_under_way after ≡ true
+  by_get_still said calls =
+      let got = calls.ready.got in
+      let legal_then = (grew_got before got bundle service calls.note calls.ready.gets).legal legal in
+      let none_then = got_still before got bundle service calls.note calls.ready.gets ∙ none in
+      releases_still calls.settled after calls.note calls.releases ∙ turns_end refuses got.limits.turns calls.turns got calls.settled legal_then none_then calls.ready.settles.0
+
+  calls_still : (said : Result (List ℕ) CallFault) (reply : ShellReply) → CallsOnOne refuses next before bundle service request said after → TellsCall said reply → none_under_way after ≡ true
+  calls_still (Ok text) reply (called, is, calls) tells = by_get_still (Ok called) calls
+  calls_still (Err (Gone front)) reply calls tells = by_get_still (Err (Gone front)) calls
+  calls_still (Err (NoObject front)) reply calls tells = by_get_still (Err (NoObject front)) calls
+  calls_still (Err (Pending front)) reply calls tells = by_get_still (Err (Pending front)) calls
+  calls_still (Err (Refused front nested)) reply calls tells = by_get_still (Err (Refused front nested)) calls
+  calls_still (Err (CallTooLong front nested)) reply calls tells = by_get_still (Err (CallTooLong front nested)) calls
+  calls_still (Err (Core fault)) reply (gets, other) tells = same_still before after (ungot_whole before after bundle service fault gets) none
+  calls_still (Err (InSettling fault)) reply calls tells = absurd tells
+  calls_still (Err CallNoMemory) reply calls tells = absurd tells
+
 -- where turns run behind each line, no line leaves a turn under way
 pub asks_still : TurnsEnd → (s : Setting) (asked : Asked) (before after : CoreView) (told : Option ShellReply) → s.is_manual ≡ false → IsLegal before.limits.journal (history_of before.journal)
     → Asks s asked before told after → none_under_way before ≡ true → none_under_way after ≡ true
@@ -112,6 +152,7 @@ asks_still turns_end s (Ok (BundleWiring bundle)) before after told auto legal (
 asks_still turns_end s (Ok Settle) before after told auto legal (said, is, (count, settles, replied)) none = turns_end s.refuses before.limits.turns count before after legal none settles.0
 asks_still turns_end s (Ok Begin) before after told auto legal (said, is, asked) none = manually_still s.is_manual AsksBegin before after said auto asked none
 asks_still turns_end s (Ok (Finish turn)) before after told auto legal (said, is, asked) none = manually_still s.is_manual (AsksFinish s.refuses turn) before after said auto asked none
+asks_still turns_end s (Ok (Call bundle service request)) before after told auto legal (said, is, (answer, calls, tells)) none = calls_still turns_end s.refuses s.next before after bundle service request legal none answer said calls tells
 asks_still turns_end s (Err fault) before after told auto legal (is, same) none = same_still before after same none
 
 -- no turn is under way in a quiet platform

@@ -1,14 +1,15 @@
 -- What a line asks, carried out: the platform before and after, and what is told. Our own form.
-use Rattle.std.specs.Prelude.{◌≡◌, ℕ, List, [], ◌∷◌, Bool, true, false, Option, Some, None, Result, Ok, Err, IfErr, if◌then◌else◌}
+use Rattle.std.specs.Prelude.{◌≡◌, ℕ, List, [], ◌∷◌, Bool, true, false, Option, Some, None, Result, Ok, Err, if◌then◌else◌}
 use Rattle.std.specs.Fmt.{decimal}
 use Rattle.std.specs.Option.{option_map_or}
 use Rattle.callback_orders.specs.declared.callback.Outcome.{Outcome}
 use Rattle.callback_orders.specs.declared.callback.Outcome.TheVariants.{Done as IsDone, Refused as IsRefused, NoMemory}
+use Rattle.call_moves.specs.Evaluations.{Meaning}
 use Rattle.kind_trait.specs.Meanings.{Told}
 use Rattle.prop_map.specs.declared.properties.Property.{Property}
 use Rattle.scr_world.specs.declared.command.Command.{Command}
 use Rattle.scr_world.specs.declared.reply.CoreFault.{CoreFault}
-use Rattle.scr_world.specs.declared.reply.CoreFault.TheVariants.{NoComponent, NoListener, JournalFull, OutOfMemory}
+use Rattle.scr_world.specs.declared.reply.CoreFault.TheVariants.{NoComponent, NoListener}
 use Rattle.scr_world.specs.declared.reply.Reply.{Reply}
 use Rattle.scr_world.specs.declared.reply.Reply.TheVariants.{Done as InCore, Bundle as OfBundle, Service as OfService, Uses as OfUses, Listener as OfListener}
 use Rattle.scr_world.specs.declared.lines.HeldLine.{HeldLine}
@@ -27,17 +28,20 @@ use Rattle.platform_hall.specs.declared.finish_fault.FinishFault.{FinishFault}
 use Rattle.platform_hall.specs.declared.finish_fault.FinishFault.TheVariants.{NoTurn as NoSuchTurn, OutOfMemory as NoMemoryLeft}
 use Rattle.platform_hall.specs.Platforms.{BeginsTurn, FinishesTurn, TakesCommand, running, world}
 use Rattle.platform_hall.specs.SettleBounds.{SettlesWithin}
-use Rattle.shell_lang.specs.declared.shell_line.ShellLine.TheVariants.{Silent, Quit, Command as Commanded, Bundles as AskBundles, Services as AskServices, Components as AskComponents, Report as AskReport, Held as AskHeld, Find as AskFind, Events as AskEvents, BundleEvents as AskBundleEvents, Trace as AskTrace, Wiring as AskWiring, BundleWiring as AskBundleWiring, Settle, Begin, Finish}
+use Rattle.shell_lang.specs.declared.shell_line.ShellLine.TheVariants.{Silent, Quit, Command as Commanded, Bundles as AskBundles, Services as AskServices, Components as AskComponents, Report as AskReport, Held as AskHeld, Find as AskFind, Events as AskEvents, BundleEvents as AskBundleEvents, Trace as AskTrace, Wiring as AskWiring, BundleWiring as AskBundleWiring, Settle, Begin, Finish, Call}
 use Rattle.shell_lang.specs.declared.shell_reply.Refusal.TheVariants.{Line as InLine, Core as OfCore, NotManual, NoTurn}
 use Rattle.shell_lang.specs.declared.shell_reply.ShellReply.{ShellReply}
 use Rattle.shell_lang.specs.declared.shell_reply.ShellReply.TheVariants.{Done, Bundle, Service, Uses, Listener, Bundles, Services, Components, Report, Held, Found, Events, BundleEvents, Trace, Turns, Begun, Idle, Finished, Refused}
 use Rattle.shell_lang.specs.ShellLines.{Asked}
+use Rattle.platform_shell.specs.Calling.{AsksCall}
+use Rattle.platform_shell.specs.Refusals.{IsAnswer}
 use Rattle.platform_shell.specs.Wiring.{AsksBundleWiring, AsksWiring}
 
--- how a run goes: whether turns run where a line asks for it alone, and which callbacks the component code refuses
+-- how a run goes: whether turns run where a line asks for it alone, which callbacks the component code refuses, and what a request to it comes to
 pub record Setting : Type 0 where
   pub is_manual : Bool
   pub refuses : List ℕ → List Property → Told → Bool
+  pub next : Meaning
 
 -- the command, where it changes something
 abbrev pub changed : CoreView → Command → List Command
@@ -47,15 +51,6 @@ changed before command = if changes before.limits.journal (world before) command
 abbrev pub commands_of : CoreView → Asked → List Command
 commands_of before (Ok (Commanded command)) = changed before command
 commands_of before _ = []
-
--- a full journal and want of memory end the run and aren't told
-abbrev pub is_told : CoreFault → Bool
-is_told JournalFull = false
-is_told OutOfMemory = false
-is_told _ = true
-
-abbrev pub IsAnswer : {T : Type 0} → Result T CoreFault → Type 0
-IsAnswer answer = IfErr answer (λ fault. is_told fault ≡ true)
 
 abbrev pub command_reply : Result Reply CoreFault → ShellReply
 command_reply (Ok InCore) = Done
@@ -151,4 +146,5 @@ Asks s (Ok (AskBundleWiring bundle)) before told after = Does (AsksBundleWiring 
 Asks s (Ok Settle) before told after = Does (AsksSettle s.refuses) before told after
 Asks s (Ok Begin) before told after = Does (Manually s.is_manual AsksBegin) before told after
 Asks s (Ok (Finish turn)) before told after = Does (Manually s.is_manual (AsksFinish s.refuses turn)) before told after
+Asks s (Ok (Call bundle service request)) before told after = Does (AsksCall s.refuses s.next bundle service request) before told after
 Asks s (Err fault) before told after = Says (Refused (InLine fault)) before told after

@@ -14,8 +14,9 @@ use Rattle.shell_lang.specs.declared.shell_reply.ShellReply.TheVariants.{Refused
 use Rattle.shell_lang.specs.ShellLines.{Asked, is_quit, shell_line}
 use Rattle.platform_shell.specs.declared.line_ask.AskStep.{AskStep}
 use Rattle.platform_shell.specs.declared.line_ask.AskStep.TheVariants.{Asked as IsAsked, Quit as ToQuit, NoMemory as NoMemoryLeft}
-use Rattle.platform_shell.specs.Asks.{Asks, AsksBegin, AsksCommand, AsksFinish, AsksHeld, Manually, Setting, is_told}
+use Rattle.platform_shell.specs.Asks.{Asks, AsksBegin, AsksCommand, AsksFinish, AsksHeld, Manually, Setting}
 use Rattle.platform_shell.specs.Cuts.{Cuts, CutsAsked, CutsBegin, CutsCommand, CutsFinish, CutsSettle}
+use Rattle.platform_shell.specs.Refusals.{is_told}
 use Rattle.platform_shell.specs.Rests.{IsAtRest, Rests}
 
 -- what a line asks

@@ -12,10 +12,11 @@ use Rattle.turn_runner.specs.declared.settle_fault.SettleFault.TheVariants.{Unse
 use Rattle.platform_hall.specs.declared.finish_fault.FinishFault.TheVariants.{OutOfMemory as NoMemoryLeft}
 use Rattle.platform_hall.specs.Platforms.{Accepts, BeginsTurn, FinishesTurn, TakesCommand}
 use Rattle.platform_hall.specs.SettleBounds.{SettlesWithin}
-use Rattle.shell_lang.specs.declared.shell_line.ShellLine.TheVariants.{Command as Commanded, Settle, Begin, Finish}
+use Rattle.shell_lang.specs.declared.shell_line.ShellLine.TheVariants.{Command as Commanded, Settle, Begin, Finish, Call}
 use Rattle.shell_lang.specs.declared.shell_reply.ShellReply.{ShellReply}
 use Rattle.shell_lang.specs.ShellLines.{Asked, shell_line}
 use Rattle.platform_shell.specs.Asks.{Asks, Setting, changed, commands_of}
+use Rattle.platform_shell.specs.Calling.{CutsCall}
 
 -- nothing happens
 abbrev pub Stays : CoreView → CoreView → List Command → Type 0
@@ -43,12 +44,13 @@ CutsFinish refuses turn Unsettled before after = ⊥
 CutsFinish refuses turn JournalFull before after = ⊥
 CutsFinish refuses turn OutOfMemory before after = FinishesTurn refuses before turn (Err NoMemoryLeft) after ⊎ FinishesTurn refuses before turn (Ok NoMemory) after
 
--- what a line asks is cut off, and this command changed something; a line that changes nothing is cut off by want of memory alone
+-- what a line asks is cut off, and this command changed something; a line that only looks is cut off by want of memory alone
 abbrev pub CutsAsked : Setting → Asked → SettleFault → CoreView → CoreView → List Command → Type 0
 CutsAsked s (Ok (Commanded command)) fault before after commands = CutsCommand command fault before after commands
 CutsAsked s (Ok Settle) fault before after commands = CutsSettle s.refuses fault before after × (commands ≡ [])
 CutsAsked s (Ok Begin) fault before after commands = (s.is_manual ≡ true) × CutsBegin fault before after × (commands ≡ [])
 CutsAsked s (Ok (Finish turn)) fault before after commands = (s.is_manual ≡ true) × CutsFinish s.refuses turn fault before after × (commands ≡ [])
+CutsAsked s (Ok (Call bundle service request)) fault before after commands = CutsCall s.refuses s.next bundle service request fault before after × (commands ≡ [])
 CutsAsked s _ fault before after commands = (fault ≡ OutOfMemory) × Stays before after commands
 
 -- what a line asks is carried out, and the settling behind it is cut off

@@ -3,6 +3,8 @@ pub mod Reading
 pub mod Forms
 pub mod Statuses
 pub mod Wiring
+pub mod Refusals
+pub mod Calling
 pub mod Asks
 pub mod Cuts
 pub mod Rests

@@ -1,6 +1,7 @@
 -- `load`: its lines run as those of a script do, and behind the last one four lines of counts are written. Our own form.
 use Rattle.std.specs.Prelude.{◌≡◌, ◌<◌, ◌+◌, ℕ, List, [], ◌++◌, ◌&&◌, length, take, filter, count_by, Bool, false, not, is_some, Option, ◌⊎◌}
 use Rattle.std.specs.Io.KnownBytes.{Appends}
+use Rattle.call_moves.specs.Evaluations.{Meaning}
 use Rattle.kind_trait.specs.Meanings.{Told}
 use Rattle.platform_hall.specs.Cores.{CoreView}
 use Rattle.platform_hall.specs.Platforms.{world}
@@ -24,8 +25,8 @@ abbrev pub lines_of_load : LoadNumbers → List (List ℕ)
 lines_of_load load = load_lines load.seed load.bundles load.commands
 
 -- they run as those of `script`
-abbrev pub load_setting : (List ℕ → List Property → Told → Bool) → Setting
-load_setting refuses = record { is_manual = false; refuses = refuses }
+abbrev pub load_setting : (List ℕ → List Property → Told → Bool) → Meaning → Setting
+load_setting refuses next = record { is_manual = false; refuses = refuses; next = next }
 
 -- ---- the counts
 
@@ -69,7 +70,7 @@ StopsLoad s WriteFault before after others commands counts front = Stays before 
 StopsLoad s status before after others commands counts front = CutsLoad s status before after others commands × (front ≡ [])
 
 -- What a load did: it ran its first lines, in order and each once, and nothing of their replies is written.
-pub record RunsLoad (refuses : List ℕ → List Property → Told → Bool) (load : LoadNumbers) (before after : CoreView) (written_before written_after : Option (List ℕ)) (status : Status) : Type 0 where
+pub record RunsLoad (refuses : List ℕ → List Property → Told → Bool) (next : Meaning) (load : LoadNumbers) (before after : CoreView) (written_before written_after : Option (List ℕ)) (status : Status) : Type 0 where
   pub lines : List (List ℕ)
   pub others : List (List ℕ)
   pub between : CoreView
@@ -79,13 +80,13 @@ pub record RunsLoad (refuses : List ℕ → List Property → Told → Bool) (lo
   pub front : List ℕ
   pub first : lines_of_load load ≡ lines ++ others
   -- each in its turn, as a line of `script` runs
-  pub ran : Ran (load_setting refuses) before lines before between commands answers
+  pub ran : Ran (load_setting refuses next) before lines before between commands answers
   -- behind them the load ended with its status; at Done and at a failed sink all lines ran, and the counts are those of the journal then
-  pub stops : StopsLoad (load_setting refuses) status between after others later (text_of_counts (answered_by answers) after) front
+  pub stops : StopsLoad (load_setting refuses next) status between after others later (text_of_counts (answered_by answers) after) front
   pub grew : Grew before after (commands ++ later)
   pub wrote : Appends written_before written_after front
 
 -- Where no line of the load lacks room, and none needs more turns than the limit, it ran through, or memory was wanting.
-abbrev pub EndsLoad : (List ℕ → List Property → Told → Bool) → LoadNumbers → CoreView → Status → Type 0
-EndsLoad refuses load before status =
-    ¬ IsCutOff (load_setting refuses) before (lines_of_load load) NoRoom → ¬ IsCutOff (load_setting refuses) before (lines_of_load load) StillDue → (status ≡ NoMemory) ⊎ (status ≡ Done)
+abbrev pub EndsLoad : (List ℕ → List Property → Told → Bool) → Meaning → LoadNumbers → CoreView → Status → Type 0
+EndsLoad refuses next load before status =
+    ¬ IsCutOff (load_setting refuses next) before (lines_of_load load) NoRoom → ¬ IsCutOff (load_setting refuses next) before (lines_of_load load) StillDue → (status ≡ NoMemory) ⊎ (status ≡ Done)

@@ -2,6 +2,7 @@
 use Rattle.std.specs.Prelude.{◌≡◌, ◌<◌, ℕ, List, [], length, take, Bool, Option, Some, None, Result, Ok, Err, ◌⊎◌}
 use Rattle.std.specs.Io.KnownBytes.{Appends}
 use Rattle.fault_count.specs.Steps.{Rose}
+use Rattle.call_moves.specs.Evaluations.{Meaning}
 use Rattle.kind_trait.specs.Meanings.{Told}
 use Rattle.platform_hall.specs.Cores.{CoreView}
 use Rattle.prop_map.specs.declared.properties.Property.{Property}
@@ -29,13 +30,13 @@ abbrev pub new_platform : CoreView
 new_platform = record { limits = greatest_limits; journal = [] }
 
 -- what `run_script` says of a run, all of it
-pub record RunsWords (refuses : List ℕ → List Property → Told → Bool) (words : List (List ℕ)) (before after : CoreView) (input input' output output' : EndView) (status : Status) : Type 0 where
-  pub run : RunsForm refuses (form_of words) input.bytes input'.bytes before after output.bytes output'.bytes status
+pub record RunsWords (refuses : List ℕ → List Property → Told → Bool) (next : Meaning) (words : List (List ℕ)) (before after : CoreView) (input input' output output' : EndView) (status : Status) : Type 0 where
+  pub run : RunsForm refuses next (form_of words) input.bytes input'.bytes before after output.bytes output'.bytes status
   pub cause : HasCause status (form_of words) (Rose input.faults input'.faults) (Rose output.faults output'.faults)
-  pub fault : FaultsIn refuses (form_of words) input.bytes input'.bytes before after output.bytes output'.bytes status
+  pub fault : FaultsIn refuses next (form_of words) input.bytes input'.bytes before after output.bytes output'.bytes status
   pub read_faults : input'.faults ≡ read_faults_after input.faults status
   pub write_faults : output'.faults ≡ write_faults_after output.faults status
-  pub complete : EndsForm refuses (form_of words) (Rose input.faults input'.faults) (Rose output.faults output'.faults) input.bytes before status
+  pub complete : EndsForm refuses next (form_of words) (Rose input.faults input'.faults) (Rose output.faults output'.faults) input.bytes before status
   pub legal : IsLegal after.limits.journal (history_of after.journal)
   pub limits : after.limits ≡ before.limits
 
@@ -44,9 +45,9 @@ abbrev pub Unused : EndView → EndView → EndView → EndView → Type 0
 Unused input input' output output' = (input' ≡ input) × (output' ≡ output)
 
 -- The words run on a new platform with the greatest limits; or memory is wanting before anything is read or written.
-abbrev pub RunsNew : (List ℕ → List Property → Told → Bool) → List (List ℕ) → EndView → EndView → EndView → EndView → Status → Type 0
-RunsNew refuses words input input' output output' status =
-    ((after : CoreView) × RunsWords refuses words new_platform after input input' output output' status) ⊎ ((status ≡ NoMemory) × Unused input input' output output')
+abbrev pub RunsNew : (List ℕ → List Property → Told → Bool) → Meaning → List (List ℕ) → EndView → EndView → EndView → EndView → Status → Type 0
+RunsNew refuses next words input input' output output' status =
+    ((after : CoreView) × RunsWords refuses next words new_platform after input input' output output' status) ⊎ ((status ≡ NoMemory) × Unused input input' output output')
 
 -- a text is written whole, or a front of it where the sink fails; where memory is wanting, nothing of it
 abbrev pub WritesText : List ℕ → Option (List ℕ) → Option (List ℕ) → Status → Type 0
@@ -63,15 +64,15 @@ pub record GivesText (input input' output output' : EndView) (status : Status) :
   pub write_faults : output'.faults ≡ write_faults_after output.faults status
 
 -- a text is given where the words ask for one, and else they are run
-abbrev pub GivesOrRuns : Option AskedText → (List ℕ → List Property → Told → Bool) → List (List ℕ) → EndView → EndView → EndView → EndView → Status → Type 0
-GivesOrRuns (Some asked) refuses words input input' output output' status = GivesText input input' output output' status
-GivesOrRuns None refuses words input input' output output' status = RunsNew refuses words input input' output output' status
+abbrev pub GivesOrRuns : Option AskedText → (List ℕ → List Property → Told → Bool) → Meaning → List (List ℕ) → EndView → EndView → EndView → EndView → Status → Type 0
+GivesOrRuns (Some asked) refuses next words input input' output output' status = GivesText input input' output output' status
+GivesOrRuns None refuses next words input input' output output' status = RunsNew refuses next words input input' output output' status
 
-abbrev pub AnswersWords : (List ℕ → List Property → Told → Bool) → List (List ℕ) → EndView → EndView → EndView → EndView → Status → Type 0
-AnswersWords refuses words input input' output output' status = GivesOrRuns (text_asked words) refuses words input input' output output' status
+abbrev pub AnswersWords : (List ℕ → List Property → Told → Bool) → Meaning → List (List ℕ) → EndView → EndView → EndView → EndView → Status → Type 0
+AnswersWords refuses next words input input' output output' status = GivesOrRuns (text_asked words) refuses next words input input' output output' status
 
 -- The program ends with the number of the status of its answer; where its words can't be read, with that of the status that tells why, and nothing is read or
 -- written.
-abbrev pub RunsProgram : (List ℕ → List Property → Told → Bool) → Result (List (List ℕ)) Status → EndView → EndView → EndView → EndView → ℕ → Type 0
-RunsProgram refuses (Ok words) input input' output output' code = (status : Status) × (code ≡ code_of status) × AnswersWords refuses words input input' output output' status
-RunsProgram refuses (Err status) input input' output output' code = (code ≡ code_of status) × Unused input input' output output'
+abbrev pub RunsProgram : (List ℕ → List Property → Told → Bool) → Meaning → Result (List (List ℕ)) Status → EndView → EndView → EndView → EndView → ℕ → Type 0
+RunsProgram refuses next (Ok words) input input' output output' code = (status : Status) × (code ≡ code_of status) × AnswersWords refuses next words input input' output output' status
+RunsProgram refuses next (Err status) input input' output output' code = (code ≡ code_of status) × Unused input input' output output'

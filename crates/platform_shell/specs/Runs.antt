@@ -85,7 +85,7 @@ abbrev pub command_in : Step → List Command
 command_in (Stepped command) = command ∷ []
 command_in _ = []
 
--- the commands of entries, the others of which are beginnings and ends of turns, and drains
+-- the commands of entries, the others of which are beginnings and ends of turns, drains, gets by token and releases
 abbrev pub commands_in : List (Entry Step) → List Command
 commands_in entries = flat_map (λ (e : Entry Step). command_in e.step) entries
 

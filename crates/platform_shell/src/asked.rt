@@ -5,6 +5,7 @@ ghost use Rattle.platform_shell.specs.Carries.{CarriesBegin, CarriesCommand, Car
 ghost use Rattle.shell_lang.specs.declared.shell_line.ShellLine.TheVariants.{Settle};
 ghost use Rattle.std.specs.Prelude.{Ok};
 
+use crate::calling::call;
 use crate::readings::{
     bundle_events, bundles, components, events, found, held, reported, services, trace,
 };
@@ -24,7 +25,7 @@ pub(crate) fn carry_out<K: Kinds + Drop>(
     platform: &mut Platform<K>,
     asked: Result<ShellLine, LineFault>,
 ) -> Result<Option<ShellReply>, SettleFault>
-    ensures { CarriesOut (record { is_manual = manual; refuses = K.refuses }) asked platform.old result platform.new }
+    ensures { CarriesOut (record { is_manual = manual; refuses = K.refuses; next = K.next }) asked platform.old result platform.new }
 {
     match asked {
         Err(fault) => Ok(Some(ShellReply::Refused(Refusal::Line { fault }))),
@@ -48,6 +49,16 @@ pub(crate) fn carry_out<K: Kinds + Drop>(
         Ok(ShellLine::Settle) => settled(alloc, manual, platform),
         Ok(ShellLine::Begin) => Ok(Some(begin(alloc, manual, platform)?)),
         Ok(ShellLine::Finish { turn }) => Ok(Some(finish(alloc, manual, platform, turn)?)),
+        Ok(
+            ShellLine::Call {
+                bundle,
+                service,
+                request,
+            },
+        ) => {
+            let told = call(alloc, platform, bundle, service, &request)?;
+            Ok(Some(told))
+        }
     }
 }
 
@@ -85,7 +96,7 @@ fn settled<K: Kinds + Drop>(
     manual: bool,
     platform: &mut Platform<K>,
 ) -> Result<Option<ShellReply>, SettleFault>
-    ensures { CarriesOut (record { is_manual = manual; refuses = K.refuses }) (Ok Settle) platform.old result platform.new }
+    ensures { CarriesOut (record { is_manual = manual; refuses = K.refuses; next = K.next }) (Ok Settle) platform.old result platform.new }
 {
     match platform.settle(alloc) {
         Ok(count) => Ok(Some(ShellReply::Turns(count))),

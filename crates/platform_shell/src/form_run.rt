@@ -24,7 +24,7 @@ use std::alloc::Global;
 /// With `--echo` a line stands before its reply, in one text with it, and is written where it has no reply too. With `--strict` the
 /// first line that is refused ends the run with `Refused`, behind its whole reply. `load` is [`run_load`], and reads nothing.
 ///
-/// A line ends the run with `JournalFull` where its command, its turn or a turn of its settling finds no room in the journal,
+/// A line ends the run with `JournalFull` where its command, its get, its turn or a turn of its settling finds no room in the journal,
 /// with `Unsettled` where the settling ran as many turns as the limit says and one is still due, with `NoMemory`, and with
 /// `WriteFault` where the sink fails before it has taken all of the line's text: it has taken a front of it. Nothing else of that
 /// line's text is written, no further line is run, and the texts of the lines before it are written whole. Where neither end
@@ -47,13 +47,13 @@ pub fn run_script<K: Kinds + Drop, In: Source, Out: Sink>(
     input: &mut In,
     output: &mut Out,
 ) -> Status
-    ensures run { RunsForm K.refuses (form_of (map (λ word. word.now) words.now)) (In.left input.old) (In.left input.new) platform.old platform.new (Out.written output.old) (Out.written output.new) result }
+    ensures run { RunsForm K.refuses K.next (form_of (map (λ word. word.now) words.now)) (In.left input.old) (In.left input.new) platform.old platform.new (Out.written output.old) (Out.written output.new) result }
     ensures cause { HasCause result (form_of (map (λ word. word.now) words.now))
         (Rose (In.fault_count input.old) (In.fault_count input.new)) (Rose (Out.fault_count output.old) (Out.fault_count output.new)) }
-    ensures fault { FaultsIn K.refuses (form_of (map (λ word. word.now) words.now)) (In.left input.old) (In.left input.new) platform.old platform.new (Out.written output.old) (Out.written output.new) result }
+    ensures fault { FaultsIn K.refuses K.next (form_of (map (λ word. word.now) words.now)) (In.left input.old) (In.left input.new) platform.old platform.new (Out.written output.old) (Out.written output.new) result }
     ensures read_faults { In.fault_count input.new ≡ read_faults_after (In.fault_count input.old) result }
     ensures write_faults { Out.fault_count output.new ≡ write_faults_after (Out.fault_count output.old) result }
-    ensures complete { EndsForm K.refuses (form_of (map (λ word. word.now) words.now))
+    ensures complete { EndsForm K.refuses K.next (form_of (map (λ word. word.now) words.now))
         (Rose (In.fault_count input.old) (In.fault_count input.new)) (Rose (Out.fault_count output.old) (Out.fault_count output.new)) (In.left input.old) platform.old result }
     ensures legal { IsLegal platform.new.limits.journal (history_of platform.new.journal) }
     ensures limits { platform.new.limits ≡ platform.old.limits }

@@ -7,6 +7,7 @@
 
 mod asked;
 mod asked_text;
+mod calling;
 mod form;
 mod form_run;
 mod form_words;

@@ -25,7 +25,7 @@ pub(crate) fn answer_line<K: Kinds + Drop, Out: Sink>(
     output: &mut Out,
 ) -> Result<Option<ShellReply>, Status>
     requires { rested ≡ true → HasNothingDue platform.old }
-    ensures answered { AnswersLine (script_setting K.refuses options) options.echo line.now asked result platform.old platform.new (Out.written output.old) (Out.written output.new) }
+    ensures answered { AnswersLine (script_setting K.refuses K.next options) options.echo line.now asked result platform.old platform.new (Out.written output.old) (Out.written output.new) }
     ensures faults { Out.fault_count output.new ≡ faults_after_answer (Out.fault_count output.old) result }
 {
     let told = match run_line(alloc, options.manual, rested, platform, asked) {

@@ -20,7 +20,7 @@ pub(crate) fn run_line<K: Kinds + Drop>(
     asked: Result<ShellLine, LineFault>,
 ) -> Result<Option<ShellReply>, SettleFault>
     requires { rested ≡ true → HasNothingDue platform.old }
-    ensures { RunsAsked (record { is_manual = manual; refuses = K.refuses }) asked platform.old result platform.new }
+    ensures { RunsAsked (record { is_manual = manual; refuses = K.refuses; next = K.next }) asked platform.old result platform.new }
 {
     note_turns_end();
     platform.core();
@@ -56,7 +56,7 @@ fn rest<K: Kinds + Drop>(
     platform: &mut Platform<K>,
 ) -> Result<(), SettleFault>
     requires { rested ≡ true → HasNothingDue platform.old }
-    ensures { RestsOr (record { is_manual = manual; refuses = K.refuses }) platform.old result platform.new }
+    ensures { RestsOr (record { is_manual = manual; refuses = K.refuses; next = K.next }) platform.old result platform.new }
 {
     if manual {
         return Ok(());

@@ -23,7 +23,7 @@ pub(crate) fn run_load_line<K: Kinds + Drop>(
     line: &[u8],
 ) -> Result<Option<bool>, Status>
     requires { rested ≡ true → HasNothingDue platform.old }
-    ensures { RunsLoadLine (load_setting K.refuses) line.now platform.old result platform.new }
+    ensures { RunsLoadLine (load_setting K.refuses K.next) line.now platform.old result platform.new }
 {
     let asked = match asked_of(alloc, line) {
         Ok(asked) => asked,
@@ -84,5 +84,6 @@ pub(crate) fn is_refusal(reply: &ShellReply) -> bool
         ShellReply::Begun(_) => false,
         ShellReply::Idle => false,
         ShellReply::Finished(_) => false,
+        ShellReply::Text(_) => false,
     }
 }

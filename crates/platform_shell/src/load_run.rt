@@ -31,10 +31,10 @@ pub fn run_load<K: Kinds + Drop, Out: Sink>(
     output: &mut Out,
 ) -> Status
     requires { IsLoad load }
-    ensures run { RunsLoad K.refuses load platform.old platform.new (Out.written output.old) (Out.written output.new) result }
+    ensures run { RunsLoad K.refuses K.next load platform.old platform.new (Out.written output.old) (Out.written output.new) result }
     ensures cause { HasCause result (Ok (Form.Load load)) ⊥ (Rose (Out.fault_count output.old) (Out.fault_count output.new)) }
     ensures write_faults { Out.fault_count output.new ≡ write_faults_after (Out.fault_count output.old) result }
-    ensures complete { ¬ Rose (Out.fault_count output.old) (Out.fault_count output.new) → EndsLoad K.refuses load platform.old result }
+    ensures complete { ¬ Rose (Out.fault_count output.old) (Out.fault_count output.new) → EndsLoad K.refuses K.next load platform.old result }
     ensures legal { IsLegal platform.new.limits.journal (history_of platform.new.journal) }
     ensures limits { platform.new.limits ≡ platform.old.limits }
 {
@@ -57,7 +57,7 @@ fn run_lines_of<K: Kinds + Drop>(
     load: LoadNumbers,
 ) -> Result<Answered, Status>
     requires { IsLoad load }
-    ensures { RunsLines (load_setting K.refuses) (lines_of_load load) platform.old result platform.new }
+    ensures { RunsLines (load_setting K.refuses K.next) (lines_of_load load) platform.old result platform.new }
 {
     let mut lines = Generator::new(load.seed, load.bundles, load.commands);
     let mut answered = Answered {

@@ -33,9 +33,9 @@ pub fn run_program<K: Kinds + Drop, In: Source, Out: Sink, T: Tells + Texts>(
     told: &mut T,
 ) -> ExitCode
     ensures { MatchResult words.now
-        (λ given. RunsProgram K.refuses (Ok (map string_bytes given.items)) (record { bytes = In.left input.old; faults = In.fault_count input.old }) (record { bytes = In.left input.new; faults = In.fault_count input.new })
+        (λ given. RunsProgram K.refuses K.next (Ok (map string_bytes given.items)) (record { bytes = In.left input.old; faults = In.fault_count input.old }) (record { bytes = In.left input.new; faults = In.fault_count input.new })
         (record { bytes = Out.written output.old; faults = Out.fault_count output.old }) (record { bytes = Out.written output.new; faults = Out.fault_count output.new }) (exit_status result))
-        (λ why. RunsProgram K.refuses (Err why) (record { bytes = In.left input.old; faults = In.fault_count input.old }) (record { bytes = In.left input.new; faults = In.fault_count input.new })
+        (λ why. RunsProgram K.refuses K.next (Err why) (record { bytes = In.left input.old; faults = In.fault_count input.old }) (record { bytes = In.left input.new; faults = In.fault_count input.new })
         (record { bytes = Out.written output.old; faults = Out.fault_count output.old }) (record { bytes = Out.written output.new; faults = Out.fault_count output.new }) (exit_status result)) }
 {
     match words {
@@ -63,7 +63,7 @@ fn run_words<K: Kinds + Drop, In: Source, Out: Sink, T: Tells + Texts>(
     output: &mut Out,
     told: &mut T,
 ) -> Status
-    ensures { AnswersWords K.refuses (map string_bytes words.now) (record { bytes = In.left input.old; faults = In.fault_count input.old }) (record { bytes = In.left input.new; faults = In.fault_count input.new })
+    ensures { AnswersWords K.refuses K.next (map string_bytes words.now) (record { bytes = In.left input.old; faults = In.fault_count input.old }) (record { bytes = In.left input.new; faults = In.fault_count input.new })
         (record { bytes = Out.written output.old; faults = Out.fault_count output.old }) (record { bytes = Out.written output.new; faults = Out.fault_count output.new }) result }
 {
     match texts_of(alloc, words) {
@@ -81,7 +81,7 @@ fn answer_words<K: Kinds + Drop, In: Source, Out: Sink, T: Tells + Texts>(
     output: &mut Out,
     told: &mut T,
 ) -> Status
-    ensures { AnswersWords K.refuses (map (λ word. word.now) words.now) (record { bytes = In.left input.old; faults = In.fault_count input.old }) (record { bytes = In.left input.new; faults = In.fault_count input.new })
+    ensures { AnswersWords K.refuses K.next (map (λ word. word.now) words.now) (record { bytes = In.left input.old; faults = In.fault_count input.old }) (record { bytes = In.left input.new; faults = In.fault_count input.new })
         (record { bytes = Out.written output.old; faults = Out.fault_count output.old }) (record { bytes = Out.written output.new; faults = Out.fault_count output.new }) result }
 {
     match text_asked(words) {
@@ -132,7 +132,7 @@ fn run_texts<K: Kinds + Drop, In: Source, Out: Sink, T: Tells>(
     output: &mut Out,
     told: &mut T,
 ) -> Status
-    ensures { RunsNew K.refuses (map (λ word. word.now) words.now) (record { bytes = In.left input.old; faults = In.fault_count input.old }) (record { bytes = In.left input.new; faults = In.fault_count input.new })
+    ensures { RunsNew K.refuses K.next (map (λ word. word.now) words.now) (record { bytes = In.left input.old; faults = In.fault_count input.old }) (record { bytes = In.left input.new; faults = In.fault_count input.new })
         (record { bytes = Out.written output.old; faults = Out.fault_count output.old }) (record { bytes = Out.written output.new; faults = Out.fault_count output.new }) result }
 {
     match Platform::new(alloc, kinds, LIMITS) {

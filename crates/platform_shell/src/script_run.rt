@@ -25,9 +25,9 @@ pub(crate) fn run_lines<K: Kinds + Drop, In: Source, Out: Sink, T: Tells>(
     number: &mut u64,
 ) -> Status
     requires { number.old ≡ 1 }
-    ensures run { HasRunOver (script_setting K.refuses options) options (In.left input.old) platform.old platform.new (Out.written output.old) (Out.written output.new) result }
+    ensures run { HasRunOver (script_setting K.refuses K.next options) options (In.left input.old) platform.old platform.new (Out.written output.old) (Out.written output.new) result }
     ensures cause { HasCause result (Ok (Form.Script options)) (Rose (In.fault_count input.old) (In.fault_count input.new)) (Rose (Out.fault_count output.old) (Out.fault_count output.new)) }
-    ensures fault { FaultsAt result (script_setting K.refuses options) options (In.left input.old) (In.left input.new) platform.old platform.new (Out.written output.old) (Out.written output.new) }
+    ensures fault { FaultsAt result (script_setting K.refuses K.next options) options (In.left input.old) (In.left input.new) platform.old platform.new (Out.written output.old) (Out.written output.new) }
     ensures read_faults { In.fault_count input.new ≡ read_faults_after (In.fault_count input.old) result }
     ensures write_faults { Out.fault_count output.new ≡ write_faults_after (Out.fault_count output.old) result }
 {

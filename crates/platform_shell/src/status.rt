@@ -20,7 +20,7 @@ pub enum Status {
     WriteFault,
     /// There was no memory.
     NoMemory,
-    /// The journal has no room for a command or a turn.
+    /// The journal has no room for a command, a get or a turn.
     JournalFull,
     /// A line has more than 1,048,576 bytes before its end.
     LineTooLong {

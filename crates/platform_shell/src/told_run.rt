@@ -25,13 +25,13 @@ pub fn run_told<K: Kinds + Drop, In: Source, Out: Sink, T: Tells>(
     output: &mut Out,
     told: &mut T,
 ) -> Status
-    ensures run { RunsForm K.refuses (form_of (map (λ word. word.now) words.now)) (In.left input.old) (In.left input.new) platform.old platform.new (Out.written output.old) (Out.written output.new) result }
+    ensures run { RunsForm K.refuses K.next (form_of (map (λ word. word.now) words.now)) (In.left input.old) (In.left input.new) platform.old platform.new (Out.written output.old) (Out.written output.new) result }
     ensures cause { HasCause result (form_of (map (λ word. word.now) words.now))
         (Rose (In.fault_count input.old) (In.fault_count input.new)) (Rose (Out.fault_count output.old) (Out.fault_count output.new)) }
-    ensures fault { FaultsIn K.refuses (form_of (map (λ word. word.now) words.now)) (In.left input.old) (In.left input.new) platform.old platform.new (Out.written output.old) (Out.written output.new) result }
+    ensures fault { FaultsIn K.refuses K.next (form_of (map (λ word. word.now) words.now)) (In.left input.old) (In.left input.new) platform.old platform.new (Out.written output.old) (Out.written output.new) result }
     ensures read_faults { In.fault_count input.new ≡ read_faults_after (In.fault_count input.old) result }
     ensures write_faults { Out.fault_count output.new ≡ write_faults_after (Out.fault_count output.old) result }
-    ensures complete { EndsForm K.refuses (form_of (map (λ word. word.now) words.now))
+    ensures complete { EndsForm K.refuses K.next (form_of (map (λ word. word.now) words.now))
         (Rose (In.fault_count input.old) (In.fault_count input.new)) (Rose (Out.fault_count output.old) (Out.fault_count output.new)) (In.left input.old) platform.old result }
     ensures legal { IsLegal platform.new.limits.journal (history_of platform.new.journal) }
     ensures limits { platform.new.limits ≡ platform.old.limits }

@@ -5,10 +5,12 @@ use Rattle.ldap_filter.specs.declared.filter_fault.FilterFault.{FilterFault}
 use Rattle.ldap_filter.specs.declared.filter_fault.FilterFault.TheVariants.{BadFilter, TooDeep, OutOfMemory as NoFilterMemory}
 use Rattle.shell_lang.specs.CoreFaultTexts.{core_fault_text}
 use Rattle.shell_lang.specs.FaultTexts.{document_fault_text, prop_fault_text, spaced}
+use Rattle.shell_lang.specs.declared.call_refusal.CallRefusal.{CallRefusal}
+use Rattle.shell_lang.specs.declared.call_refusal.CallRefusal.TheVariants.{Gone, NoObject, Pending, Refused, CallTooLong}
 use Rattle.shell_lang.specs.declared.line_fault.LineFault.{LineFault}
 use Rattle.shell_lang.specs.declared.line_fault.LineFault.TheVariants.{NotBuilt, UnknownCommand, BadWords, Document, NoFile, NotJson, Properties, FilterText, OutOfMemory}
 use Rattle.shell_lang.specs.declared.shell_reply.Refusal.{Refusal}
-use Rattle.shell_lang.specs.declared.shell_reply.Refusal.TheVariants.{Line, Core, NotManual, NoTurn}
+use Rattle.shell_lang.specs.declared.shell_reply.Refusal.TheVariants.{Line, Core, NotManual, NoTurn, Call}
 
 -- whether a text that is no filter ends where it ceases to be the beginning of one
 abbrev pub ending_word : Bool → List ℕ
@@ -31,8 +33,17 @@ line_fault_text (Properties fault) = prop_fault_text fault
 line_fault_text (FilterText fault) = filter_fault_text fault
 line_fault_text OutOfMemory = codes "OutOfMemory"
 
+-- why a call that got its service isn't answered
+abbrev pub call_refusal_text : CallRefusal → List ℕ
+call_refusal_text Gone = codes "Gone"
+call_refusal_text NoObject = codes "NoObject"
+call_refusal_text Pending = codes "Pending"
+call_refusal_text Refused = codes "Refused"
+call_refusal_text CallTooLong = codes "CallTooLong"
+
 abbrev pub refusal_text : Refusal → List ℕ
 refusal_text (Line fault) = line_fault_text fault
 refusal_text (Core fault) = core_fault_text fault
 refusal_text NotManual = codes "NotManual"
 refusal_text (NoTurn turn) = codes "NoTurn " ++ decimal turn
+refusal_text (Call fault) = call_refusal_text fault

@@ -1,12 +1,18 @@
 -- The text of a reply. Our own form.
 use Rattle.std.specs.Prelude.{ℕ, List, ◌++◌, codes}
 use Rattle.std.specs.Fmt.{decimal}
+use Rattle.serde_json.specs.Data.{string}
+use Rattle.serde_json.specs.Written.{compact_text}
 use Rattle.shell_lang.specs.RefusalTexts.{refusal_text}
 use Rattle.shell_lang.specs.RowTexts.{bundle_event_text, bundle_text, component_text, held_text, number_text, placed_rows_text, registered_text, rows_text, service_event_text}
 use Rattle.shell_lang.specs.TurnTexts.{finished_text, trace_text, turn_text}
 use Rattle.shell_lang.specs.WiringTexts.{need_text, wiring_text}
 use Rattle.shell_lang.specs.declared.shell_reply.ShellReply.{ShellReply}
-use Rattle.shell_lang.specs.declared.shell_reply.ShellReply.TheVariants.{Done, Bundle, Service, Uses, Listener, Bundles, Services, Components, Report, Held, Found, Events, BundleEvents, Trace, Wiring, BundleWiring, Turns, Begun, Idle, Finished, Refused}
+use Rattle.shell_lang.specs.declared.shell_reply.ShellReply.TheVariants.{Done, Bundle, Service, Uses, Listener, Bundles, Services, Components, Report, Held, Found, Events, BundleEvents, Trace, Wiring, BundleWiring, Turns, Begun, Idle, Finished, Text, Refused}
+
+-- a text in quotes, as JSON has it
+abbrev pub quoted_text : List ℕ → List ℕ
+quoted_text text = compact_text (string text)
 
 -- the text of a reply
 abbrev pub reply_text : ShellReply → List ℕ
@@ -30,4 +36,5 @@ reply_text (Turns count) = codes "ok turns " ++ decimal count ++ codes "\n"
 reply_text (Begun line) = codes "ok turn " ++ turn_text line ++ codes "\n"
 reply_text Idle = codes "ok idle\n"
 reply_text (Finished outcome) = finished_text outcome
+reply_text (Text text) = codes "ok " ++ quoted_text text ++ codes "\n"
 reply_text (Refused refusal) = codes "refused " ++ refusal_text refusal ++ codes "\n"

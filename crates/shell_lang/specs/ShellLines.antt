@@ -8,7 +8,7 @@ use Rattle.scr_world.specs.declared.command.Command.TheVariants.{Install, Update
 use Rattle.shell_lang.specs.declared.line_fault.LineFault.{LineFault}
 use Rattle.shell_lang.specs.declared.line_fault.LineFault.TheVariants.{NotBuilt, UnknownCommand}
 use Rattle.shell_lang.specs.declared.shell_line.ShellLine.{ShellLine}
-use Rattle.shell_lang.specs.declared.shell_line.ShellLine.TheVariants.{Silent, Quit, Command as Commanded, Bundles, Services, Components, Report, Held, Find, Events, BundleEvents, Trace, Wiring, BundleWiring, Settle, Begin, Finish}
+use Rattle.shell_lang.specs.declared.shell_line.ShellLine.TheVariants.{Silent, Quit, Command as Commanded, Bundles, Services, Components, Report, Held, Find, Events, BundleEvents, Trace, Wiring, BundleWiring, Settle, Begin, Finish, Call}
 use Rattle.shell_lang.specs.Arguments.{document_argument, filter_argument, properties_argument}
 use Rattle.shell_lang.specs.Interfaces.{interfaces_at}
 use Rattle.shell_lang.specs.LineFaults.{Reads, fitting}
@@ -69,9 +69,13 @@ configuring_factory rest = fitting (two_words_and_text rest) (λ words. after (p
 abbrev pub unconfiguring : Option (List ℕ) → Asked
 unconfiguring rest = fitting (only_word rest) (λ pid. Ok (Commanded (Unconfigure pid)))
 
+-- the request stands behind the bundle and the service, and may be empty
+abbrev pub calling : Option (List ℕ) → Asked
+calling rest = fitting (two_numbers_and_text rest) (λ words. Ok (Call words.0 words.1 words.2))
+
 -- the words with which lines of the milestones to come begin
 abbrev pub later_words : List (List ℕ)
-later_words = codes "routes" ∷ codes "call" ∷ codes "http" ∷ []
+later_words = codes "routes" ∷ codes "http" ∷ []
 
 -- why a line is refused that begins with no word of those that are built
 abbrev pub other_fault : List ℕ → LineFault
@@ -84,7 +88,7 @@ configuring_line word rest =
     else (if bytes_eq word (codes "factory") then configuring_factory rest
     else (if bytes_eq word (codes "unconfig") then unconfiguring rest else Err (other_fault word)))
 
--- with a document, properties or a filter
+-- with a document, properties, a filter or a request
 abbrev pub carrying_line : List ℕ → Option (List ℕ) → Asked
 carrying_line word rest =
     if bytes_eq word (codes "install") then installing rest
@@ -92,7 +96,8 @@ carrying_line word rest =
     else (if bytes_eq word (codes "register") then registering rest
     else (if bytes_eq word (codes "set") then setting rest
     else (if bytes_eq word (codes "listen") then listening rest
-    else (if bytes_eq word (codes "find") then finding rest else configuring_line word rest)))))
+    else (if bytes_eq word (codes "find") then finding rest
+    else (if bytes_eq word (codes "call") then calling rest else configuring_line word rest))))))
 
 -- with a bundle and a name
 abbrev pub named_line : List ℕ → Option (List ℕ) → Asked

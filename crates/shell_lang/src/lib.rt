@@ -2,6 +2,7 @@
 #![tactic(auto)]
 
 mod arguments;
+mod call_refusal;
 mod core_fault_text;
 mod fault_text;
 mod generator;
@@ -21,6 +22,7 @@ mod turn_text;
 mod wiring_text;
 mod words;
 
+pub use call_refusal::CallRefusal;
 pub use generator::Generator;
 pub use line_fault::LineFault;
 pub use line_reading::read_line;

@@ -1,7 +1,7 @@
 //! The forms of lines, by their first word.
 ghost use Rattle.std.specs.Prelude.{◌≡◌, option_map};
 ghost use Rattle.shell_lang.specs.LineFaults.{Reads};
-ghost use Rattle.shell_lang.specs.ShellLines.{alone, bundle_line, carrying_line, configuring, configuring_factory, configuring_line, finding, installing, listening, named_line, other_fault, paired_line, reading_line, registering, setting, unconfiguring, updating, wiring, worded_line};
+ghost use Rattle.shell_lang.specs.ShellLines.{alone, bundle_line, calling, carrying_line, configuring, configuring_factory, configuring_line, finding, installing, listening, named_line, other_fault, paired_line, reading_line, registering, setting, unconfiguring, updating, wiring, worded_line};
 
 use crate::arguments::{owned, read_document, read_filter, read_properties};
 use crate::interfaces::interfaces_at;
@@ -148,6 +148,7 @@ fn carrying_line(alloc: Global, word: &str, rest: Option<&str>) -> Result<ShellL
         "set" => setting(alloc, rest),
         "listen" => listening(alloc, rest),
         "find" => finding(alloc, rest),
+        "call" => calling(alloc, rest),
         _ => configuring_line(alloc, word, rest),
     }
 }
@@ -245,6 +246,18 @@ fn configuring_factory(alloc: Global, rest: Option<&str>) -> Result<ShellLine, L
     }))
 }
 
+fn calling(alloc: Global, rest: Option<&str>) -> Result<ShellLine, LineFault>
+    ensures { Reads (calling (option_map (λ t. t.now) rest.entry)) result }
+{
+    let (bundle, service, text) = two_numbers_and_text(rest)?;
+    let request = owned(alloc, text)?;
+    Ok(ShellLine::Call {
+        bundle,
+        service,
+        request,
+    })
+}
+
 fn unconfiguring(alloc: Global, rest: Option<&str>) -> Result<ShellLine, LineFault>
     ensures { Reads (unconfiguring (option_map (λ t. t.now) rest.entry)) result }
 {
@@ -258,7 +271,7 @@ fn other_fault(word: &str) -> LineFault
     ensures { result ≡ other_fault word.now }
 {
     match word {
-        "routes" | "call" | "http" => LineFault::NotBuilt,
+        "routes" | "http" => LineFault::NotBuilt,
         _ => LineFault::UnknownCommand,
     }
 }

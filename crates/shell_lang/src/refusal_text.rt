@@ -1,10 +1,10 @@
 //! The texts of refusals.
 ghost use Rattle.std.specs.Prelude.{◌≡◌, IfOk, string_bytes};
-ghost use Rattle.shell_lang.specs.RefusalTexts.{ending_word, filter_fault_text, line_fault_text, refusal_text};
+ghost use Rattle.shell_lang.specs.RefusalTexts.{call_refusal_text, ending_word, filter_fault_text, line_fault_text, refusal_text};
 
 use crate::core_fault_text::core_fault_text;
 use crate::fault_text::{document_fault_text, prop_fault_text};
-use crate::{LineFault, Refusal};
+use crate::{CallRefusal, LineFault, Refusal};
 use ldap_filter::FilterFault;
 use prop_map::OutOfMemory;
 use std::alloc::Global;
@@ -18,6 +18,7 @@ pub(crate) fn refusal_text(alloc: Global, refusal: &Refusal) -> Result<String, O
         Refusal::Core { fault } => core_fault_text(alloc, fault),
         Refusal::NotManual => String::from_str(alloc, "NotManual"),
         Refusal::NoTurn { turn } => format!(in alloc; "NoTurn {turn}"),
+        Refusal::Call { fault } => String::from_str(alloc, call_refusal_text(*fault)),
     }
 }
 
@@ -34,6 +35,19 @@ fn line_fault_text(alloc: Global, fault: &LineFault) -> Result<String, OutOfMemo
         LineFault::Properties { fault } => prop_fault_text(alloc, fault),
         LineFault::FilterText { fault } => filter_fault_text(alloc, *fault),
         LineFault::OutOfMemory => String::from_str(alloc, "OutOfMemory"),
+    }
+}
+
+// Why a call that got its service isn't answered.
+fn call_refusal_text(fault: CallRefusal) -> &'static str
+    ensures { result.now ≡ call_refusal_text fault }
+{
+    match fault {
+        CallRefusal::Gone => "Gone",
+        CallRefusal::NoObject => "NoObject",
+        CallRefusal::Pending => "Pending",
+        CallRefusal::Refused => "Refused",
+        CallRefusal::CallTooLong => "CallTooLong",
     }
 }
 

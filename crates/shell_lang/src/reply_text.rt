@@ -1,6 +1,6 @@
 //! The text of a reply.
 ghost use Rattle.std.specs.Prelude.{◌≡◌, IfOk, codes, string_bytes};
-ghost use Rattle.shell_lang.specs.ReplyTexts.{reply_text};
+ghost use Rattle.shell_lang.specs.ReplyTexts.{quoted_text, reply_text};
 ghost use Rattle.shell_lang.specs.TurnTexts.{finished_text};
 
 use crate::ShellReply;
@@ -9,6 +9,7 @@ use crate::row_text::{placed_rows_text, rows_text};
 use crate::turn_text::{finished_text, turn_text};
 use prop_map::OutOfMemory;
 use scr_world::TurnLine;
+use serde_json::Value;
 use std::alloc::Global;
 
 /// The text of a reply: one or more lines, each with its end.
@@ -49,6 +50,7 @@ fn reply_text(alloc: Global, reply: &ShellReply) -> Result<String, OutOfMemory>
         ShellReply::Begun(line) => begun_text(alloc, line),
         ShellReply::Idle => String::from_str(alloc, "ok idle\n"),
         ShellReply::Finished(outcome) => String::from_str(alloc, finished_text(*outcome)),
+        ShellReply::Text(text) => answered_text(alloc, text.as_str()),
         ShellReply::Refused(refusal) => {
             let refusal = refusal_text(alloc, refusal)?;
             format!(in alloc; "refused {}\n", refusal.as_str())
@@ -61,4 +63,20 @@ fn begun_text(alloc: Global, line: &TurnLine) -> Result<String, OutOfMemory>
 {
     let turn = turn_text(alloc, line)?;
     format!(in alloc; "ok turn {}\n", turn.as_str())
+}
+
+fn answered_text(alloc: Global, text: &str) -> Result<String, OutOfMemory>
+    ensures { IfOk result (λ line. string_bytes line ≡ reply_text (ShellReply.Text text.now)) }
+{
+    let quoted = quoted_text(alloc, text)?;
+    format!(in alloc; "ok {}\n", quoted.as_str())
+}
+
+// A text in quotes, as JSON has it.
+fn quoted_text(alloc: Global, text: &str) -> Result<String, OutOfMemory>
+    ensures { IfOk result (λ quoted. string_bytes quoted ≡ quoted_text text.now) }
+{
+    let value = Value::try_from_str(alloc, text)?;
+    let quoted = value.to_string(alloc)?;
+    Ok(quoted)
 }

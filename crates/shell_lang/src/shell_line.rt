@@ -1,5 +1,6 @@
 //! What a line asks.
 use ldap_filter::Filter;
+use prop_map::Str;
 use scr_world::Command;
 
 /// What a line asks.
@@ -64,5 +65,14 @@ pub enum ShellLine {
     Finish {
         /// Its number.
         turn: u64,
+    },
+    /// To call a service for a bundle.
+    Call {
+        /// The bundle's number.
+        bundle: u64,
+        /// The service's number.
+        service: u64,
+        /// The request.
+        request: Str,
     },
 }

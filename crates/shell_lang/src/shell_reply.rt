@@ -1,6 +1,6 @@
 //! What lines are answered.
 
-use crate::LineFault;
+use crate::{CallRefusal, LineFault};
 use bundle_life::BundleEvent;
 use callback_orders::Outcome;
 use prop_map::{List, Str};
@@ -28,6 +28,11 @@ pub enum Refusal {
     NoTurn {
         /// The number.
         turn: u64,
+    },
+    /// A call that got its service isn't answered.
+    Call {
+        /// Why.
+        fault: CallRefusal,
     },
 }
 
@@ -84,6 +89,8 @@ pub enum ShellReply {
     Idle,
     /// How a turn ended.
     Finished(Outcome),
+    /// The text that a call is answered.
+    Text(Str),
     /// It is refused.
     Refused(Refusal),
 }

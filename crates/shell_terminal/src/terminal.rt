@@ -73,6 +73,7 @@ impl<'t, R: Eprint> Terminal<'t, R> {
         let _ = match refusal {
             Refusal::Line { fault } => eprintln!(self.runtime; "line {line}: {name}: {fault}"),
             Refusal::Core { fault } => eprintln!(self.runtime; "line {line}: {name}: {fault}"),
+            Refusal::Call { fault } => eprintln!(self.runtime; "line {line}: {name}: {fault}"),
             Refusal::NotManual => {
                 eprintln!(self.runtime;
                     "line {line}: {name}: the line is one of `script --manual` alone"

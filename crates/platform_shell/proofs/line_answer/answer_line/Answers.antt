@@ -10,7 +10,7 @@ use Rattle.platform_shell.proofs.line_answer.answer_line.Goals as goal
 
 pub returns-in-Err-clause-answered : goal.returns-in-Err-clause-answered
 returns-in-Err-clause-answered g c =
-    let s : Setting = script_setting g.K.Kinds.refuses c.args.options in
+    let s : Setting = script_setting g.K.Kinds.refuses g.K.Kinds.next c.args.options in
     let written = g.Out.Sink.written c.args.output.now in
     let P : Status → Type 0 = λ status. AnswersLine s c.args.options.echo c.args.line.now c.args.asked (Err status) c.args.platform.now c.run_line.new.platform written written in
     subst P (sym c.from.ensures) (cut_answer s c.args.options.echo c.args.line.now c.args.asked c.in-Err.fault c.args.platform.now c.run_line.new.platform written c.in-Err.ensures)

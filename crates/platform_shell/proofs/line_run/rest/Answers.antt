@@ -7,7 +7,7 @@ use Rattle.platform_shell.proofs.line_run.rest.Goals as goal
 
 pub returns-then-rested : goal.returns-then-rested
 returns-then-rested g c =
-    let s : Setting = record { is_manual = c.args.manual; refuses = g.K.Kinds.refuses } in
+    let s : Setting = record { is_manual = c.args.manual; refuses = g.K.Kinds.refuses; next = g.K.Kinds.next } in
     let p = c.args.platform.now in
     let settles = settles_none g.K.Kinds.refuses p.limits.turns p (c.requires c.if-rested.true) in
     let P : Bool → Type 0 = λ manual. RestsBy manual s p p in (
@@ -20,7 +20,7 @@ returns-then-rested g c =
 
 pub returns-in-Ok : goal.returns-in-Ok
 returns-in-Ok g c =
-    let s : Setting = record { is_manual = c.args.manual; refuses = g.K.Kinds.refuses } in
+    let s : Setting = record { is_manual = c.args.manual; refuses = g.K.Kinds.refuses; next = g.K.Kinds.next } in
     let before = c.args.platform.now in
     let after = c.settle.new.self in
     let P : Bool → Type 0 = λ manual. RestsBy manual s before after in (

@@ -8,7 +8,7 @@ use Rattle.platform_shell.proofs.line_run.run_line.Goals as goal
 
 pub rest-requires : goal.rest-requires
 rest-requires g c =
-    let s : Setting = record { is_manual = c.args.manual; refuses = g.K.Kinds.refuses } in
+    let s : Setting = record { is_manual = c.args.manual; refuses = g.K.Kinds.refuses; next = g.K.Kinds.next } in
     let after = c.carry_out.new.platform in
     let still : c.rested_still-still.result ≡ true → HasNothingDue after = λ is.
     still_nothing_due s c.args.asked c.args.platform.now after c.in_ok-told.told c.args.rested c.in_ok-told.ensures c.requires
@@ -17,7 +17,7 @@ rest-requires g c =
 
 pub returns-in-Ok : goal.returns-in-Ok
 returns-in-Ok g c =
-    let s : Setting = record { is_manual = c.args.manual; refuses = g.K.Kinds.refuses } in
+    let s : Setting = record { is_manual = c.args.manual; refuses = g.K.Kinds.refuses; next = g.K.Kinds.next } in
     let rests = c.in-Ok.ensures in (
       c.carry_out.new.platform,
       c.in_ok-told.ensures,

@@ -12,4 +12,4 @@ returns-in-Ok g c =
     let output : EndView = record { bytes = g.Out.Sink.written c.args.output.now; faults = g.Out.Sink.fault_count c.args.output.now } in
     let output' : EndView = record { bytes = g.Out.Sink.written c.run_words.new.output; faults = g.Out.Sink.fault_count c.run_words.new.output } in
     rw c.in-Ok.is
-    (program_ran g.K.Kinds.refuses _ _ input input' output output' c.run_words.result (exit_status c.ended.result) (ap (map string_bytes) c.as_slice.ensures.value) c.ended.ensures c.run_words.ensures)
+    (program_ran g.K.Kinds.refuses g.K.Kinds.next _ _ input input' output output' c.run_words.result (exit_status c.ended.result) (ap (map string_bytes) c.as_slice.ensures.value) c.ended.ensures c.run_words.ensures)

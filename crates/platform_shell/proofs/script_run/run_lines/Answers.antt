@@ -53,7 +53,7 @@ returns-in-Failed-clause-fault g c =
 
 pub loop-line-init : goal.loop-line-init
 loop-line-init g c =
-    let s : Setting = script_setting g.K.Kinds.refuses c.args.options in
+    let s : Setting = script_setting g.K.Kinds.refuses g.K.Kinds.next c.args.options in
     let left : Option (List ℕ) = g.In.Source.left c.args.input.now in
     let written : Option (List ℕ) = g.Out.Sink.written c.args.output.now in
     record {
@@ -65,7 +65,7 @@ loop-line-init g c =
 
 pub returns-in-Err-clause-run : goal.returns-in-Err-clause-run
 returns-in-Err-clause-run g c =
-    let s : Setting = script_setting g.K.Kinds.refuses c.args.options in
+    let s : Setting = script_setting g.K.Kinds.refuses g.K.Kinds.next c.args.options in
     let asked : shell_line c.in-Line.line ≡ c.in-Asked.asked = ap shell_line (sym c.as_slice-text.ensures) ∙ c.in-Asked.ensures.0 in
     let other : is_quit (shell_line c.in-Line.line) ≡ false = ap is_quit asked ∙ c.in-Asked.ensures.1 in
     let R : Asked → Type 0 = λ a. AnswersLine s c.args.options.echo c.in-Line.line a (Err c.in-Err.status) c.loop-line.platform c.answer_line.new.platform (g.Out.Sink.written c.loop-line.output) (g.Out.Sink.written c.answer_line.new.output) in
@@ -75,7 +75,7 @@ returns-in-Err-clause-run g c =
 
 pub returns-in-Err-clause-cause : goal.returns-in-Err-clause-cause
 returns-in-Err-clause-cause g c =
-    let s : Setting = script_setting g.K.Kinds.refuses c.args.options in
+    let s : Setting = script_setting g.K.Kinds.refuses g.K.Kinds.next c.args.options in
     let count = g.Out.Sink.fault_count c.args.output.now in
     cause_unanswered c.in-Err.status s c.args.options c.as_slice-text.result.now c.in-Asked.asked c.loop-line.platform c.answer_line.new.platform (g.Out.Sink.written c.loop-line.output) (g.Out.Sink.written c.answer_line.new.output) (Script c.args.options)
     (Rose (g.In.Source.fault_count c.args.input.now) (g.In.Source.fault_count c.next_line.new.input)) count (g.Out.Sink.fault_count c.answer_line.new.output)
@@ -83,13 +83,13 @@ returns-in-Err-clause-cause g c =
 
 pub returns-in-Err-clause-fault : goal.returns-in-Err-clause-fault
 returns-in-Err-clause-fault g c =
-    let s : Setting = script_setting g.K.Kinds.refuses c.args.options in
+    let s : Setting = script_setting g.K.Kinds.refuses g.K.Kinds.next c.args.options in
     no_fault_unanswered c.in-Err.status s c.args.options c.as_slice-text.result.now c.in-Asked.asked c.loop-line.platform c.answer_line.new.platform c.args.platform.now c.answer_line.new.platform (g.Out.Sink.written c.loop-line.output) (g.Out.Sink.written c.answer_line.new.output)
     (g.In.Source.left c.args.input.now) (g.In.Source.left c.next_line.new.input) (g.Out.Sink.written c.args.output.now) (g.Out.Sink.written c.answer_line.new.output) c.in-Err.ensures.answered
 
 pub returns-in-Err-clause-read_faults : goal.returns-in-Err-clause-read_faults
 returns-in-Err-clause-read_faults g c =
-    let s : Setting = script_setting g.K.Kinds.refuses c.args.options in
+    let s : Setting = script_setting g.K.Kinds.refuses g.K.Kinds.next c.args.options in
     c.in-Line.ensures.faults ∙ c.loop-line.invariant.reads
     ∙ sym (reads_unanswered c.in-Err.status s c.args.options c.as_slice-text.result.now c.in-Asked.asked c.loop-line.platform c.answer_line.new.platform (g.Out.Sink.written c.loop-line.output) (g.Out.Sink.written c.answer_line.new.output) (g.In.Source.fault_count c.args.input.now) c.in-Err.ensures.answered)
 
@@ -98,7 +98,7 @@ returns-in-Err-clause-write_faults g c = c.in-Err.ensures.faults ∙ ap (λ n. w
 
 pub loop-line-preserved : goal.loop-line-preserved
 loop-line-preserved g c =
-    let s : Setting = script_setting g.K.Kinds.refuses c.args.options in
+    let s : Setting = script_setting g.K.Kinds.refuses g.K.Kinds.next c.args.options in
     let asked : shell_line c.in-Line.line ≡ c.in-Asked.asked = ap shell_line (sym c.as_slice-text.ensures) ∙ c.in-Asked.ensures.0 in
     let other : is_quit (shell_line c.in-Line.line) ≡ false = ap is_quit asked ∙ c.in-Asked.ensures.1 in
     let answer = c.in-Ok.ensures.answered in
@@ -114,7 +114,7 @@ loop-line-preserved g c =
 
 pub returns-then-tell_refusal-clause-run : goal.returns-then-tell_refusal-clause-run
 returns-then-tell_refusal-clause-run g c =
-    let s : Setting = script_setting g.K.Kinds.refuses c.args.options in
+    let s : Setting = script_setting g.K.Kinds.refuses g.K.Kinds.next c.args.options in
     let asked : shell_line c.in-Line.line ≡ c.in-Asked.asked = ap shell_line (sym c.as_slice-text.ensures) ∙ c.in-Asked.ensures.0 in
     let other : is_quit (shell_line c.in-Line.line) ≡ false = ap is_quit asked ∙ c.in-Asked.ensures.1 in
     let answer = c.in-Ok.ensures.answered in

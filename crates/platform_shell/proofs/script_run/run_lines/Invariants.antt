@@ -6,7 +6,7 @@ use Rattle.platform_shell.proofs.script_run.run_lines.Given as goal
 
 abbrev pub invariant-loop-line : goal.invariant-loop-line
 invariant-loop-line g l = record {
-  reached : Reached (script_setting g.K.Kinds.refuses l.options) l.options (g.In.Source.left l.initial.input) (g.In.Source.left l.input) l.ahead.ended l.ahead.bytes.items l.initial.platform l.platform (g.Out.Sink.written l.initial.output) (g.Out.Sink.written l.output) l.number;
+  reached : Reached (script_setting g.K.Kinds.refuses g.K.Kinds.next l.options) l.options (g.In.Source.left l.initial.input) (g.In.Source.left l.input) l.ahead.ended l.ahead.bytes.items l.initial.platform l.platform (g.Out.Sink.written l.initial.output) (g.Out.Sink.written l.output) l.number;
   reads : g.In.Source.fault_count l.input ≡ g.In.Source.fault_count l.initial.input;
   writes : g.Out.Sink.fault_count l.output ≡ g.Out.Sink.fault_count l.initial.output;
   rested : l.rested ≡ true → HasNothingDue l.platform;

@@ -8,7 +8,7 @@ use Rattle.platform_shell.proofs.told_run.run_told.Goals as goal
 
 pub returns-in-Ok-Script-clause-complete : goal.returns-in-Ok-Script-clause-complete
 returns-in-Ok-Script-clause-complete g c =
-    let s = script_setting g.K.Kinds.refuses c.in-Ok-Script.options in
+    let s = script_setting g.K.Kinds.refuses g.K.Kinds.next c.in-Ok-Script.options in
     let reads = Rose (g.In.Source.fault_count c.args.input.now) (g.In.Source.fault_count c.run_lines-status.new.input) in
     let writes = Rose (g.Out.Sink.fault_count c.args.output.now) (g.Out.Sink.fault_count c.run_lines-status.new.output) in
     rw (← c.in-Ok-Script.ensures.form, c.in-Ok-Script.field-0-is)
