@@ -2,7 +2,7 @@
 
 use crate::turns::is_printed;
 use prop_map::Str;
-use shell_lang::{LineFault, ShellReply, write_reply};
+use shell_lang::{CallRefusal, LineFault, ShellReply, write_reply};
 use std::alloc::Global;
 
 // The reply with a report, and without one that of a settling.
@@ -46,4 +46,38 @@ fn a_reply_is_written(rt: HostRuntime) {
 #[test]
 fn a_fault_is_printed(rt: HostRuntime) {
     assert!(rt; is_printed(rt.alloc(), &LineFault::NotBuilt, "the form isn't built yet"));
+}
+
+fn are_printed(alloc: Global, rows: &[(CallRefusal, &str)]) -> bool {
+    for (refusal, text) in rows {
+        if !is_printed(alloc, refusal, text) {
+            return false;
+        }
+    }
+    true
+}
+
+const UNANSWERED: &[(CallRefusal, &str)] = &[
+    (CallRefusal::Gone, "the service that was got is gone"),
+    (
+        CallRefusal::NoObject,
+        "there is no object behind the service",
+    ),
+    (
+        CallRefusal::Pending,
+        "the instance of the service isn't active",
+    ),
+    (
+        CallRefusal::Refused,
+        "the component code refuses the request",
+    ),
+    (
+        CallRefusal::CallTooLong,
+        "a further nested call would be one too many",
+    ),
+];
+
+#[test]
+fn why_a_call_is_not_answered_is_printed(rt: HostRuntime) {
+    assert!(rt; are_printed(rt.alloc(), UNANSWERED));
 }
