@@ -59,10 +59,22 @@ fn are_printed(alloc: Global, rows: &[(CallRefusal, &str)]) -> bool {
 
 const UNANSWERED: &[(CallRefusal, &str)] = &[
     (CallRefusal::Gone, "the service that was got is gone"),
-    (CallRefusal::NoObject, "there is no object behind the service"),
-    (CallRefusal::Pending, "the instance of the service isn't active"),
-    (CallRefusal::Refused, "the component code refuses the request"),
-    (CallRefusal::CallTooLong, "a further nested call would be one too many"),
+    (
+        CallRefusal::NoObject,
+        "there is no object behind the service",
+    ),
+    (
+        CallRefusal::Pending,
+        "the instance of the service isn't active",
+    ),
+    (
+        CallRefusal::Refused,
+        "the component code refuses the request",
+    ),
+    (
+        CallRefusal::CallTooLong,
+        "a further nested call would be one too many",
+    ),
 ];
 
 #[test]
