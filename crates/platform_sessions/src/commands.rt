@@ -17,7 +17,8 @@ impl<K: Kinds + Drop> Hall<K> {
     /// Takes a command in one turn at the lock, and posts each drain that is then awaited in a turn of its own, until none
     /// is awaited. A command that changes something is one entry of the pass, behind all that it had seen, and the front
     /// that it answers is just behind it; one that changes nothing appends nothing, and its front is all that the pass has
-    /// seen then. The reply is by the journal before the front's entry, or up to the front.
+    /// seen then. The reply is by the journal before the front's entry, or up to the front. Where memory is wanting for a
+    /// drain it tries again.
     ///
     /// # Errors
     /// Those of [`scr_core::Core::command`], by all that the pass has seen then. A refused command appends nothing.
