@@ -154,13 +154,13 @@ impl<O: Drop> Locked<O> {
     /// since another pass posted it, all stays as it is.
     ///
     /// # Errors
-    /// Only want of memory: all is then as it was, and the drains are left to whoever posts next.
+    /// Only want of memory: what is owed comes back, and all is as it was.
     pub fn post(
         &mut self,
         alloc: Global,
         owner: u64,
         owed: Owed,
-    ) -> Result<Option<Owed>, OutOfMemory>
+    ) -> Result<Option<Owed>, (Owed, OutOfMemory)>
         ensures posted { IfOk result (λ left. PostsOne self.old.core self.new.core) }
         ensures appended { AppendsFor owner self.old self.new }
         ensures turns { self.new.turns ≡ self.old.turns }
@@ -169,20 +169,21 @@ impl<O: Drop> Locked<O> {
         ensures err { OnErr result (self.new ≡ self.old) }
         ensures limits { self.new.core.limits ≡ self.old.core.limits }
     {
-        owed.spend();
         if self.owners.reserve(1).is_err() {
-            return Err(AllocError);
+            return Err((owed, AllocError));
         }
         self.core.note_legal();
         let Some(key) = self.core.next_drain() else {
+            owed.spend();
             return Ok(None);
         };
         match self.core.drained(alloc, key) {
             Ok(()) => {
+                owed.spend();
                 note_owner(&self.core, &mut self.owners, owner);
                 Ok(owed_by(&self.core))
             }
-            Err(error) => Err(error),
+            Err(error) => Err((owed, error)),
         }
     }
 

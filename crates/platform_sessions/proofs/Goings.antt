@@ -4,9 +4,8 @@ use Rattle.hall_goings.specs.Went.{up_to}
 use Rattle.hall_goings.proofs.Chains.{front_stays, longer, went_nowhere, went_on}
 use Rattle.hall_locked.specs.Owned.{entries_in}
 use Rattle.hall_locked.specs.declared.owed.Owed.{Owed}
-use Rattle.platform_sessions.specs.Commands.{Appended, AreDrains, Posts, PostsOwed, TakesCommand, TookCommand, Unchanged}
-use Rattle.platform_sessions.specs.Halls.{KeepsPass, Own, View}
-use Rattle.platform_sessions.proofs.Stretches.{keeps_on, keeps_went}
+use Rattle.platform_sessions.specs.Commands.{Appended, AreDrains, IsOwed, IsPosted, Posts, PostsOwed, TakesCommand, TookCommand, Unchanged}
+use Rattle.platform_sessions.specs.Halls.{Own, View}
 use Rattle.scr_world.specs.Calls.{world_at}
 use Rattle.scr_world.specs.Replies.{Replies, changes}
 use Rattle.scr_world.specs.declared.command.Command.{Command}
@@ -26,12 +25,14 @@ posts_on a b c first second = (first.0 ++ second.0, went_on a b c first.0 second
 pub posts_nowhere : (a : View) → Posts a a
 posts_nowhere a = ([], went_nowhere a, tt)
 
-pub posts_owed : (owed : Option Owed) (a b : View) → PostsOwed owed a b → Posts a b
-posts_owed (Some owed) a b posts = posts
-posts_owed None a b same = subst (λ (v : View). Posts a v) (sym same) (posts_nowhere a)
+pub posts_owed : (limits : Limits) (owed : Option Owed) (a b : View) → PostsOwed limits owed a b → Posts a b
+posts_owed limits (Some owed) a b posts = posts.0
+posts_owed limits None a b same = subst (λ (v : View). Posts a v) (sym same) (posts_nowhere a)
 
-pub keeps_owed : (owed : Option Owed) (a b c : View) → KeepsPass a b → PostsOwed owed b c → KeepsPass a c
-keeps_owed owed a b c keeps posts = let all = posts_owed owed b c posts in keeps_on a b c keeps (keeps_went b c all.0 all.1)
+-- where what is owed is posted, nothing awaits its drain
+pub posted_owed : (limits : Limits) (owed : Option Owed) (a b : View) → IsOwed limits a owed → PostsOwed limits owed a b → IsPosted limits b
+posted_owed limits (Some owed) a b owes posts = posts.1
+posted_owed limits None a b owes same = subst (λ (v : View). IsPosted limits v) (sym same) (sym owes)
 
 -- ---- a command, with the drains behind it
 
@@ -55,9 +56,10 @@ appended_on limits a b c command front said t posts =
     }
 
 -- a command that was taken, once what it owes is posted
-pub settled : (limits : Limits) (a b c : View) (command : Command) (front : ℕ) (accepted : Accepted) (owed : Option Owed) → TookCommand limits a b command (Ok (accepted, owed)) front → PostsOwed owed b c
+pub settled : (limits : Limits) (a b c : View) (command : Command) (front : ℕ) (accepted : Accepted) (owed : Option Owed) → TookCommand limits a b command (Ok (accepted, owed)) front → PostsOwed limits owed b c
     → TakesCommand limits a c command (Ok (front, accepted.reply))
-settled limits a b c command front accepted owed (inl appended) posts = inl (appended_on limits a b c command front accepted.reply appended (posts_owed owed b c posts))
+settled limits a b c command front accepted owed (inl (appended, owes)) posts =
+    inl (appended_on limits a b c command front accepted.reply appended (posts_owed limits owed b c posts), posted_owed limits owed b c owes posts)
 settled limits a b c command front accepted owed (inr (unchanged, none)) posts =
-    let same : c ≡ b = subst (λ (o : Option Owed). PostsOwed o b c) none posts in
+    let same : c ≡ b = subst (λ (o : Option Owed). PostsOwed limits o b c) none posts in
     inr (subst (λ (v : View). Unchanged limits a v command front (Ok accepted.reply)) (sym same) unchanged)

@@ -1,4 +1,10 @@
+pub mod WorkStays
+pub mod Things
+pub mod Mine
 pub mod Stretches
 pub mod Taking
 pub mod Goings
 pub mod Reading
+pub mod Handing
+pub mod Turning
+pub mod Working

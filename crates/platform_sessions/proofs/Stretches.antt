@@ -10,7 +10,8 @@ use Rattle.hall_goings.proofs.Chains.{grown, went_in_stretch}
 use Rattle.hall_locked.specs.Locks.{AppendsFor, IsLocked, LockedView, limits_code, log_of, turns_kept}
 use Rattle.hall_locked.specs.Owned.{as_kept, entries_in, owned}
 use Rattle.journal_core.specs.declared.entry.Entry.{Entry}
-use Rattle.platform_sessions.specs.Halls.{HallPassView, HallView, IsOf, KeepsPass, Own, View}
+use Rattle.platform_sessions.specs.Halls.{HallPassView, HallView, IsOf, KeepsPass, KeepsSeat, Own, View, core_seen}
+use Rattle.scr_core.specs.Cores.{CoreView}
 use Rattle.scr_world.specs.declared.command.Limits.{Limits}
 use Rattle.scr_world.specs.declared.step.Step.{Step}
 
@@ -22,6 +23,9 @@ limits_with journal turns = record { journal = journal; turns = turns }
 pub limits_from : (l m : Limits) → limits_code l ≡ limits_code m → l ≡ m
 limits_from l m same =
     ap (λ n. limits_with n l.turns) (ap (λ (xs : List ℕ). get_or xs 0 0) same) ∙ ap (λ n. limits_with m.journal n) (ap (λ (xs : List ℕ). get_or xs 1 0) same)
+
+abbrev pub core_with : Limits → List (Entry Step) → CoreView
+core_with limits journal = record { limits = limits; journal = journal }
 
 -- ---- entries without their owners
 
@@ -35,15 +39,15 @@ entries_owned (o ∷ os) (e ∷ es) same =
 
 -- ---- what the lock asks of whoever leaves
 
+pub same_kept : (ns : List ℕ) (before after : List (ℕ × ℕ)) → after ≡ before → KeepsOthers ns before after
+same_kept ns before after same = λ n no. ap (λ (ks : List (ℕ × ℕ)). kept_under n ks) same
+
 module _ {O : Type 0} where
   pub grown_for : (owner : ℕ) (before after : LockedView O) → AppendsFor owner before after → GrownBy owner (log_of before) (log_of after)
   grown_for owner before after a = grown owner (log_of before) (log_of after) a.entries a.log
 
   pub same_grown : (owner : ℕ) (value : LockedView O) → GrownBy owner (log_of value) (log_of value)
   same_grown owner value = grown owner (log_of value) (log_of value) [] (sym (append-nil (log_of value)))
-
-  pub same_kept : (ns : List ℕ) (before after : LockedView O) → after.turns ≡ before.turns → KeepsOthers ns (turns_kept before) (turns_kept after)
-  same_kept ns before after same = λ n no. ap (λ (ts : List (ℕ × ℕ)). kept_under n (map as_kept ts)) same
 
   -- what a turn at the lock began with, as the value shows it
   pub leaves_grown : (turn : TurnView (Entry Step)) (owner : ℕ) (before after : LockedView O) → turn.began ≡ log_of before → owner ≡ turn.pass.number → AppendsFor owner before after → GrownBy turn.pass.number turn.began (log_of after)
@@ -53,34 +57,47 @@ module _ {O : Type 0} where
   pub leaves_same : (turn : TurnView (Entry Step)) (value : LockedView O) → turn.began ≡ log_of value → GrownBy turn.pass.number turn.began (log_of value)
   leaves_same turn value began = subst (λ (b : Own). GrownBy turn.pass.number b (log_of value)) (sym began) (same_grown turn.pass.number value)
 
-  pub leaves_others : (ns : List ℕ) (turn : TurnView (Entry Step)) (before after : LockedView O) → turn.kept ≡ turns_kept before → KeepsOthers ns (turns_kept before) (turns_kept after) → KeepsOthers ns turn.kept (turns_kept after)
-  leaves_others ns turn before after kept others = subst (λ (k : List (ℕ × ℕ)). KeepsOthers ns k (turns_kept after)) (sym kept) others
-
   pub leaves_tie : (turn : TurnView (Entry Step)) (pass : View) (before after : LockedView O) → turn.pass ≡ pass → limits_code before.core.limits ≡ pass.tie → after.core.limits ≡ before.core.limits → limits_code after.core.limits ≡ turn.pass.tie
   leaves_tie turn pass before after its tie stay = ap limits_code stay ∙ tie ∙ ap (λ (v : View). v.tie) (sym its)
 
+pub leaves_others : (ns : List ℕ) (turn : TurnView (Entry Step)) (before after : List (ℕ × ℕ)) → turn.kept ≡ before → KeepsOthers ns before after → KeepsOthers ns turn.kept after
+leaves_others ns turn before after kept others = subst (λ (k : List (ℕ × ℕ)). KeepsOthers ns k after) (sym kept) others
+
+-- where the same turns are under way, the same is kept for passes
+pub same_turns : {O : Type 0} (before after : LockedView O) → after.turns ≡ before.turns → turns_kept after ≡ turns_kept before
+same_turns before after same = ap (λ (ts : List (ℕ × ℕ)). map as_kept ts) same
+
 -- ---- what the pass knows then
 
--- a turn at the lock, in which the value was changed
-pub record Stretch {O : Type 0} (p q : View) (before after : LockedView O) : Type 0 where
+-- a turn at the lock, in which the value was changed: the entries before and after, and what it keeps then
+pub record Stretch (p q : View) (began log : Own) (kept : List (ℕ × ℕ)) : Type 0 where
   pub apart : Distinct (names_of p)
-  pub goes : Extends (names_of p) p.seen (log_of before)
-  pub same : q ≡ record p { seen = log_of after; kept = kept_by (names_of p) (turns_kept after); entered = p.entered + 1 }
+  pub goes : Extends (names_of p) p.seen began
+  pub same : q ≡ record p { seen = log; kept = kept_by (names_of p) kept; entered = p.entered + 1 }
 
-pub stretch : {O : Type 0} (p q pass back : View) (turn : TurnView (Entry Step)) (before after : LockedView O) → pass ≡ p → turn.pass ≡ pass → Distinct (names_of p) → Extends (names_of pass) pass.seen (log_of before) → q ≡ back
-    → back ≡ record turn.pass { seen = log_of after; kept = kept_by (names_of turn.pass) (turns_kept after); entered = turn.pass.entered + 1 } → Stretch p q before after
-stretch p q pass back turn before after own its apart goes put left = record {
+pub stretch : (p q pass back : View) (turn : TurnView (Entry Step)) (began log : Own) (kept : List (ℕ × ℕ)) → pass ≡ p → turn.pass ≡ pass → Distinct (names_of p) → Extends (names_of pass) pass.seen began → q ≡ back
+    → back ≡ record turn.pass { seen = log; kept = kept_by (names_of turn.pass) kept; entered = turn.pass.entered + 1 } → Stretch p q began log kept
+stretch p q pass back turn began log kept own its apart goes put left = record {
   apart = apart;
-  goes = subst (λ (v : View). Extends (names_of v) v.seen (log_of before)) own goes;
-  same = put ∙ left ∙ ap (λ (v : View). record v { seen = log_of after; kept = kept_by (names_of v) (turns_kept after); entered = v.entered + 1 }) (its ∙ own);
+  goes = subst (λ (v : View). Extends (names_of v) v.seen began) own goes;
+  same = put ∙ left ∙ ap (λ (v : View). record v { seen = log; kept = kept_by (names_of v) kept; entered = v.entered + 1 }) (its ∙ own);
 }
 
-module _ {O : Type 0} (p q : View) (before after : LockedView O) (s : Stretch p q before after) where
+module _ (p q : View) (began log : Own) (kept : List (ℕ × ℕ)) (s : Stretch p q began log kept) where
   pub stretch_of : (hall : HallView) → IsOf hall (record { front = p }) → IsOf hall (record { front = q })
   stretch_of hall of = record { lock = ap (λ (v : View). v.lock) s.same ∙ of.lock; limits = ap (λ (v : View). v.tie) s.same ∙ of.limits }
 
-  pub stretch_keeps : KeepsPass p q
-  stretch_keeps = (ap (λ (v : View). v.number) s.same, ap (λ (v : View). v.spare) s.same)
+  pub stretch_seat : KeepsSeat p q
+  stretch_seat = (ap (λ (v : View). v.number) s.same, ap (λ (v : View). v.spare) s.same)
+
+  -- what is kept for the pass then
+  pub stretch_kept : q.kept ≡ kept_by (names_of p) kept
+  stretch_kept = ap (λ (v : View). v.kept) s.same
+
+  -- where nothing changes that is kept for passes
+  pub stretch_keeps : (pass : View) (had : List (ℕ × ℕ)) → pass ≡ p → kept ≡ had → kept_by (names_of pass) had ≡ pass.kept → KeepsPass p q
+  stretch_keeps pass had own stays its =
+      (stretch_seat, stretch_kept ∙ ap (kept_by (names_of p)) stays ∙ subst (λ (v : View). kept_by (names_of v) had ≡ v.kept) own its)
 
   pub stretch_apart : Distinct (names_of q)
   stretch_apart = subst (λ (v : View). Distinct (names_of v)) (sym s.same) s.apart
@@ -92,11 +109,14 @@ of_went hall p q own went of = record {
   limits = ap (λ (v : View). v.tie) went.same ∙ of.limits;
 }
 
-pub keeps_went : (p q : View) (own : Own) → Went p q own → KeepsPass p q
-keeps_went p q own went = (ap (λ (v : View). v.number) went.same, ap (λ (v : View). v.spare) went.same)
+pub seat_went : (p q : View) (own : Own) → Went p q own → KeepsSeat p q
+seat_went p q own went = (ap (λ (v : View). v.number) went.same, ap (λ (v : View). v.spare) went.same)
+
+pub keeps_itself : (a : View) → KeepsPass a a
+keeps_itself a = ((refl, refl), refl)
 
 pub keeps_on : (a b c : View) → KeepsPass a b → KeepsPass b c → KeepsPass a c
-keeps_on a b c first second = (second.0 ∙ first.0, second.1 ∙ first.1)
+keeps_on a b c first second = ((second.0.0 ∙ first.0.0, second.0.1 ∙ first.0.1), second.1 ∙ first.1)
 
 -- and its names are as before
 pub distinct_went : (p q : View) (own : Own) → Went p q own → Distinct (names_of p) → Distinct (names_of q)
@@ -120,6 +140,10 @@ module _ {O : Type 0} (p q : View) (before after : LockedView O) (kept : List (�
   -- all that it has seen then is the value's journal
   pub journal_is : IsLocked after → entries_in q.seen ≡ after.core.journal
   journal_is now = ap (λ (l : Own). entries_in l) seen_is ∙ entries_owned after.owners after.core.journal now.owners
+
+  -- it is its core
+  pub core_is : IsLocked after → (limits : Limits) → before.core.limits ≡ limits → after.core.limits ≡ before.core.limits → core_seen limits q ≡ after.core
+  core_is now limits its stay = ap (core_with limits) (journal_is now) ∙ ap (λ (l : Limits). core_with l after.core.journal) (sym its ∙ sym stay)
 
   -- up to where its entries begin, it is the journal before them
   pub journal_was : IsLocked before → (es : List (Entry Step)) → log_of after ≡ log_of before ++ owned_by p.number es → entries_in (up_to (length (log_of before)) q) ≡ before.core.journal

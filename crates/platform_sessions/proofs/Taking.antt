@@ -1,8 +1,9 @@
 -- A command, and a drain, in one turn at the lock.
-use Rattle.std.proofs.Common.{◌≡◌, ℕ, ◌+◌, List, [], ◌∷◌, ◌++◌, length, ap, sym, ◌∙◌, refl, subst, Bool, true, false, not, ◌&&◌, inl, inr, Option, Some, None, Result, Ok, Err, is_none, is_some, arith}
+use Rattle.std.proofs.Common.{◌≡◌, ◌<◌, ℕ, ◌+◌, List, [], ◌∷◌, ◌++◌, length, ap, sym, ◌∙◌, refl, subst, Bool, true, false, not, ◌&&◌, inl, inr, Option, Some, None, Result, Ok, Err, is_none, is_some, arith}
 use Rattle.std.specs.Prelude.{IfOk, MatchResult, OnErr, nat_lt}
 use Rattle.std.specs.Option.{option_map_or, option_or}
-use Rattle.std.proofs.lemmas.Bool.{le-ltb}
+use Rattle.std.proofs.lemmas.Bool.{le-ltb, lt-ltb}
+use Rattle.std.proofs.lemmas.List.{length-append}
 use Rattle.front_lock.specs.Histories.{Distinct, Extends}
 use Rattle.front_lock.specs.Passes.{names_of}
 use Rattle.hall_goings.specs.Went.{up_to}
@@ -12,9 +13,9 @@ use Rattle.hall_locked.specs.declared.owed.Owed.{Owed}
 use Rattle.journal_core.specs.declared.entry.Entry.{Entry}
 use Rattle.journal_core.specs.declared.entry.GateKey.{GateKey}
 use Rattle.platform_hall.specs.Platforms.{CoreTakes, has_drain, world}
-use Rattle.platform_sessions.specs.Commands.{Appended, IsDrain, Posts, Refused, TookCommand, Unchanged}
+use Rattle.platform_sessions.specs.Commands.{Appended, IsDrain, IsOwed, Posts, Refused, TookCommand, Unchanged}
 use Rattle.platform_sessions.specs.Halls.{View}
-use Rattle.platform_sessions.proofs.Stretches.{journal_is, journal_was, longer_by_one, looked, near, none_more, one_more, went_by}
+use Rattle.platform_sessions.proofs.Stretches.{core_is, journal_is, journal_was, longer_by_one, looked, near, none_more, one_more, went_by}
 use Rattle.scr_core.specs.Cores.{CoreView}
 use Rattle.scr_world.specs.Calls.{Commands, GrownIf, next_drain, world_at}
 use Rattle.scr_world.specs.Refusals.{refusal, refuse_if}
@@ -49,6 +50,13 @@ none_owed None entries now awaits is same = refl
 none_owed (Some x) entries now awaits is same =
     let short : nat_lt entries now ≡ false = le-ltb entries now (omega (arith, same)) in
     let never : true ≡ false = is ∙ ap (λ b. b && awaits) short in cc
+
+-- where something was, it is owed exactly where a drain is awaited
+some_owed : {X : Type 0} (o : Option X) (entries now : ℕ) (awaits : Bool) → is_some o ≡ (nat_lt entries now && awaits) → entries < now → is_some o ≡ awaits
+some_owed o entries now awaits is long = is ∙ ap (λ b. b && awaits) (lt-ltb entries now long)
+
+grown_by_one : (old now : List (Entry Step)) (entry : Entry Step) → now ≡ old ++ entry ∷ [] → length old < length now
+grown_by_one old now entry grew = let long : length now ≡ length old + 1 = ap length grew ∙ length-append old (entry ∷ []) in omega (arith, long)
 
 -- what is said of a limit and a journal is said of equal ones
 carried : (P : ℕ → List (Entry Step) → Type 0) (l m : Limits) (xs ys : List (Entry Step)) → l ≡ m → xs ≡ ys → P l.journal xs → P m.journal ys
@@ -113,7 +121,8 @@ module _ {O : Type 0} (p q : View) (before after : LockedView O) (kept : List (�
       where
         go : (b : Bool) → changes limit (world_at old) command ≡ b → Replies limit (world_at old) command (Ok accepted.reply) → GrownIf b limit old (Commanded command) after.core.journal
             → TookCommand limits p q command (Ok (accepted, owed)) (length q.seen)
-        go true is says (entry, step, follows, grew) = inl (is_appended accepted.reply entry step grew says is)
+        go true is says (entry, step, follows, grew) =
+            inl (is_appended accepted.reply entry step grew says is, some_owed owed (length old) (length after.core.journal) (has_drain after.core) awaits (grown_by_one old after.core.journal entry grew) ∙ ap has_drain (sym (core_is p q before after kept apart goes same now limits its stay)))
         go false is says stays = inr (is_unchanged (Ok accepted.reply) says is stays, none_owed owed (length old) (length after.core.journal) (has_drain after.core) awaits (ap length stays))
 
     by_refusal : (fault first : CoreFault) → Replies limit (world_at old) command (Err fault) → reply limit (world_at old) command ≡ Err first → after.core.journal ≡ old → Unchanged limits p q command (length q.seen) (Err fault)
@@ -161,6 +170,12 @@ module _ {O : Type 0} (p q : View) (before after : LockedView O) (kept : List (�
 
   pub posted_none : after ≡ before → Posts p q
   posted_none stays = ([], looked p q before after kept apart goes same (ap (λ (l : LockedView O). log_of l) stays), tt)
+
+  -- what is owed then, for the pass
+  pub owed_left : {X : Type 0} (limits : Limits) → before.core.limits ≡ limits → after.core.limits ≡ before.core.limits → (answer : Result (Option Owed) X) → IfOk answer (λ left. is_some left ≡ has_drain after.core)
+      → IfOk answer (λ left. IsOwed limits q left)
+  owed_left limits its stay (Ok left) is = is ∙ ap has_drain (sym (core_is p q before after kept apart goes same now limits its stay))
+  owed_left limits its stay (Err error) is = tt
 
   -- what posting answers, for the pass
   pub drains_of : {X Y : Type 0} (answer : Result X Y) → IfOk answer (λ left. PostsOne before.core after.core) → OnErr answer (after ≡ before) → Posts p q

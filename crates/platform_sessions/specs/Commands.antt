@@ -1,9 +1,9 @@
 -- What a command does in a hall, for a pass: what it had seen before, and what it has seen afterwards. Our own.
-use Rattle.std.specs.Prelude.{◌≡◌, ℕ, ◌+◌, ◌≤◌, ◌⊎◌, [], ◌∷◌, length, true, false, Option, Some, None, Result, Ok, Err}
+use Rattle.std.specs.Prelude.{◌≡◌, ℕ, ◌+◌, ◌≤◌, ◌⊎◌, [], ◌∷◌, length, true, false, is_some, Option, Some, None, Result, Ok, Err}
 use Rattle.hall_goings.specs.Went.{Went}
 use Rattle.hall_locked.specs.declared.owed.Owed.{Owed}
 use Rattle.journal_core.specs.declared.entry.Entry.{Entry}
-use Rattle.platform_hall.specs.Platforms.{world}
+use Rattle.platform_hall.specs.Platforms.{has_drain, world}
 use Rattle.platform_sessions.specs.Halls.{Own, View, core_seen, core_up_to}
 use Rattle.scr_world.specs.Replies.{Replies, changes}
 use Rattle.scr_world.specs.declared.command.Command.{Command}
@@ -29,10 +29,18 @@ AreDrains (x ∷ xs) = IsDrain x.1.step × AreDrains xs
 abbrev pub Posts : View → View → Type 0
 Posts before after = (own : Own) × Went before after own × AreDrains own
 
--- the same where something is owed, and nothing happens where nothing is
-abbrev pub PostsOwed : Option Owed → View → View → Type 0
-PostsOwed (Some owed) before after = Posts before after
-PostsOwed None before after = after ≡ before
+-- nothing awaits its drain in all that the pass has seen
+abbrev pub IsPosted : Limits → View → Type 0
+IsPosted limits pass = has_drain (core_seen limits pass) ≡ false
+
+-- what is owed in all that the pass has seen: something exactly where a drain is awaited
+abbrev pub IsOwed : Limits → View → Option Owed → Type 0
+IsOwed limits pass owed = is_some owed ≡ has_drain (core_seen limits pass)
+
+-- all are posted where something is owed, and nothing happens where nothing is
+abbrev pub PostsOwed : Limits → Option Owed → View → View → Type 0
+PostsOwed limits (Some owed) before after = Posts before after × IsPosted limits after
+PostsOwed limits None before after = after ≡ before
 
 -- ---- commands
 
@@ -64,13 +72,13 @@ abbrev pub Refused : Limits → View → View → Command → CoreFault → Type
 Refused limits before after command OutOfMemory = Went before after []
 Refused limits before after command fault = Unchanged limits before after command (length after.seen) (Err fault)
 
--- what a command answers and does
+-- what a command answers and does: behind one that was appended each drain that was awaited is posted
 abbrev pub TakesCommand : Limits → View → View → Command → Result (ℕ × Reply) CoreFault → Type 0
-TakesCommand limits before after command (Ok r) = Appended limits before after command r.0 r.1 ⊎ Unchanged limits before after command r.0 (Ok r.1)
+TakesCommand limits before after command (Ok r) = (Appended limits before after command r.0 r.1 × IsPosted limits after) ⊎ Unchanged limits before after command r.0 (Ok r.1)
 TakesCommand limits before after command (Err fault) = Refused limits before after command fault
 
--- the same of one turn at the lock, in which the core answered so: a command that changes nothing leaves nothing to be posted
+-- the same of one turn at the lock, in which the core answered so, and what is owed then: a command that changes nothing leaves nothing to be posted
 abbrev pub TookCommand : Limits → View → View → Command → Result (Accepted × Option Owed) CoreFault → ℕ → Type 0
 TookCommand limits before after command (Ok a) front =
-    Appended limits before after command front a.0.reply ⊎ (Unchanged limits before after command front (Ok a.0.reply) × (a.1 ≡ None))
+    (Appended limits before after command front a.0.reply × IsOwed limits after a.1) ⊎ (Unchanged limits before after command front (Ok a.0.reply) × (a.1 ≡ None))
 TookCommand limits before after command (Err fault) front = Refused limits before after command fault

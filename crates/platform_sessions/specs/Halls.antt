@@ -32,9 +32,13 @@ pub record IsOf (hall : HallView) (pass : HallPassView) : Type 0 where
   pub lock : pass.front.lock ≡ hall.lock
   pub limits : pass.front.tie ≡ limits_code hall.limits
 
--- a call leaves a pass its number, and how many passes can be split from it
+-- a pass has its number, and as many passes can be split from it
+abbrev pub KeepsSeat : View → View → Type 0
+KeepsSeat before after = (after.number ≡ before.number) × (after.spare ≡ before.spare)
+
+-- and the same is kept for it: so the turns that it has under way are its own still
 abbrev pub KeepsPass : View → View → Type 0
-KeepsPass before after = (after.number ≡ before.number) × (after.spare ≡ before.spare)
+KeepsPass before after = KeepsSeat before after × (after.kept ≡ before.kept)
 
 -- the pass that a new hall gives
 abbrev pub first_pass : HallView → View

@@ -1,3 +1,4 @@
 pub mod Halls
 pub mod Commands
 pub mod Reads
+pub mod Works

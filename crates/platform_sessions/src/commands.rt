@@ -1,7 +1,7 @@
 //! Commands, and the drains behind them.
-ghost use Rattle.platform_sessions.specs.Commands.{Posts, PostsOwed, TakesCommand, TookCommand};
+ghost use Rattle.platform_sessions.specs.Commands.{IsOwed, IsPosted, Posts, PostsOwed, TakesCommand, TookCommand};
 ghost use Rattle.platform_sessions.specs.Halls.{IsOf, KeepsPass};
-ghost use Rattle.std.specs.Prelude.{◌≡◌};
+ghost use Rattle.std.specs.Prelude.{◌≡◌, IfOk};
 
 use crate::hall::Hall;
 use crate::hall_pass::{HallPass, put};
@@ -11,16 +11,18 @@ use prop_map::OutOfMemory;
 use scr_core::{Accepted, Command, CoreFault, Reply};
 use std::alloc::Global;
 use std::sync::Wait;
+use std::thread;
 
 impl<K: Kinds + Drop> Hall<K> {
-    /// Takes a command in one turn at the lock, and posts each drain that is then awaited in a turn of its own. A
-    /// command that changes something is one entry of the pass, behind all that it had seen, and the front that it
-    /// answers is just behind it; one that changes nothing appends nothing, and its front is all that the pass has seen
-    /// then. The reply is by the journal before the front's entry, or up to the front.
+    /// Takes a command in one turn at the lock, and posts each drain that is then awaited in a turn of its own, until none
+    /// is awaited. A command that changes something is one entry of the pass, behind all that it had seen, and the front
+    /// that it answers is just behind it; one that changes nothing appends nothing, and its front is all that the pass has
+    /// seen then. The reply is by the journal before the front's entry, or up to the front. Where memory is wanting for a
+    /// drain it tries again.
     ///
     /// # Errors
     /// Those of [`scr_core::Core::command`], by all that the pass has seen then. A refused command appends nothing.
-    #[tactic(auto, using(crate::proofs::Goings::settled, crate::proofs::Goings::keeps_owed))]
+    #[tactic(auto, using(crate::proofs::Stretches::keeps_on))]
     pub fn command<R: Wait>(
         &self,
         rt: &R,
@@ -73,7 +75,8 @@ impl<K: Kinds + Drop> Hall<K> {
     )
         requires of { IsOf self.now pass.old }
         ensures of { IsOf self.now pass.new }
-        ensures posted { PostsOwed owed pass.old.front pass.new.front }
+        ensures keeps { KeepsPass pass.old.front pass.new.front }
+        ensures posted { PostsOwed self.now.limits owed pass.old.front pass.new.front }
     {
         match owed {
             Some(owed) => self.post_all(rt, alloc, pass, owed),
@@ -81,18 +84,25 @@ impl<K: Kinds + Drop> Hall<K> {
         }
     }
 
-    // Posts the drains that are awaited, each in a turn of its own, until none is left or memory is wanting: these are
-    // left to whoever posts next.
+    // Posts the drains that are awaited, each in a turn of its own, until none is left. Where memory is wanting it tries
+    // again.
+    #[tactic(auto, using(crate::proofs::Stretches::keeps_on))]
     fn post_all<R: Wait>(&self, rt: &R, alloc: Global, pass: &mut HallPass, owed: Owed)
         requires of { IsOf self.now pass.old }
         ensures of { IsOf self.now pass.new }
+        ensures keeps { KeepsPass pass.old.front pass.new.front }
         ensures posted { Posts pass.old.front pass.new.front }
+        ensures all { IsPosted self.now.limits pass.new.front }
     {
         let mut owed = owed;
         for _ in rt.forever() {
             match self.post_one(rt, alloc, pass, owed) {
                 Ok(Some(left)) => owed = left,
-                Ok(None) | Err(_) => return,
+                Ok(None) => return,
+                Err((back, _)) => {
+                    thread::yield_now();
+                    owed = back;
+                }
             }
         }
         unreachable!()
@@ -105,10 +115,12 @@ impl<K: Kinds + Drop> Hall<K> {
         alloc: Global,
         pass: &mut HallPass,
         owed: Owed,
-    ) -> Result<Option<Owed>, OutOfMemory>
+    ) -> Result<Option<Owed>, (Owed, OutOfMemory)>
         requires of { IsOf self.now pass.old }
         ensures of { IsOf self.now pass.new }
+        ensures keeps { KeepsPass pass.old.front pass.new.front }
         ensures posted { Posts pass.old.front pass.new.front }
+        ensures left { IfOk result (λ left. IsOwed self.now.limits pass.new.front left) }
     {
         let mut inner = self.lock.enter(rt, pass.pass.take().unwrap());
         let owner = inner.owner();

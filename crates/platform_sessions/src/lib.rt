@@ -12,6 +12,9 @@ mod hall_pass;
 mod look;
 mod passes;
 mod reads;
+mod tasks;
+mod turns;
+mod works;
 
 pub use front_lock::LockFault;
 pub use hall::Hall;
