@@ -33,7 +33,8 @@ pub(crate) fn tell_of_refusal(
     };
     match refusal {
         Refusal::Line { fault } => tell_of_argument(hints, at, text, fault)?,
-        Refusal::Core { .. } | Refusal::NotManual | Refusal::NoTurn { .. } => {}
+        Refusal::Core { .. } | Refusal::Call { .. } | Refusal::NotManual | Refusal::NoTurn { .. } =>
+            {}
     }
     if line.starts_with("install ") || line.starts_with("update ") {
         tell_passed_over(hints, text)?;
