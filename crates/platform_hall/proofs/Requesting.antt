@@ -8,7 +8,7 @@ use Rattle.call_runner.specs.Runs.{ComesToEnd, ended_of}
 use Rattle.http_wire.specs.declared.messages.Request.{Request}
 use Rattle.http_wire.specs.declared.messages.Answered.{Answered}
 use Rattle.scr_calls.specs.Answers.{AnswersAt, AnswersFor, AnswersRequest, answer_by, answered, servlet_text}
-use Rattle.scr_calls.specs.Evaluates.{Rising, reaching, world_up_to}
+use Rattle.scr_calls.specs.Evaluates.{reaching, world_up_to}
 use Rattle.scr_calls.specs.Servlets.{Ending, Objectless, Reached, Standing, choice, reached}
 use Rattle.scr_calls.specs.declared.call.HallAnswer.{HallAnswer}
 use Rattle.scr_requests.specs.Cores.{CoreView}

@@ -1,7 +1,6 @@
-use Rattle.std.proofs.Common.{length, subst, sym, ◌∙◌, ap}
+use Rattle.std.proofs.Common.{length, subst, sym, ◌∙◌}
 use Rattle.call_runner.specs.Runs.{ComesToEnd}
 use Rattle.scr_calls.specs.Evaluates.{reaching, world_up_to}
-use Rattle.scr_calls.specs.declared.call.HallAnswer.{HallAnswer}
 use Rattle.platform_hall.specs.Requests.{AnswersHere}
 use Rattle.platform_hall.proofs.Requesting.{standing_now}
 use Rattle.platform_hall.proofs.http_answers.answer_standing.Goals as goal
