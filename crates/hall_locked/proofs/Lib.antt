@@ -8,4 +8,4 @@ pub mod Sends
 pub mod Counts
 mod Told
 pub mod Turning
-mod Placed
+pub mod Placed
