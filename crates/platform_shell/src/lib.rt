@@ -27,7 +27,7 @@ mod reply_output;
 mod script_run;
 mod status;
 mod tells;
-mod told_refusal;
+mod told_reply;
 mod told_run;
 mod wiring;
 

@@ -8,7 +8,7 @@ ghost use Rattle.platform_shell.specs.Statuses.{HasCause, read_faults_after, wri
 use crate::line_answer::answer_line;
 use crate::line_ask::{AskStep, read_ask};
 use crate::line_input::{LineStep, ReadAhead, next_line};
-use crate::told_refusal::tell_refusal;
+use crate::told_reply::tell_reply;
 use crate::{Form, Platform, ScriptOptions, Status, Tells};
 use fault_count::{Sink, Source};
 use kind_trait::Kinds;
@@ -52,7 +52,7 @@ pub(crate) fn run_lines<K: Kinds + Drop, In: Source, Out: Sink, T: Tells>(
             Ok(reply) => reply,
             Err(status) => return status,
         };
-        if tell_refusal(told, options.strict, *number, text, &reply) {
+        if tell_reply(told, options.strict, *number, text, &reply) {
             return Status::Refused { line: *number };
         }
         *number = number.saturating_add(1);

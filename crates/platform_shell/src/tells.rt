@@ -5,10 +5,13 @@ use prop_map::OutOfMemory;
 use shell_lang::ShellReply;
 use std::alloc::Global;
 
-/// Who is told of the refusals of a run, and of its end. Whatever is done then, the run goes on as it would without.
+/// Who is told of the replies of a run, and of its end. Whatever is done then, the run goes on as it would without.
 pub trait Tells {
     /// The line of this number, from 1 on, with these bytes, was refused: this is its reply, and it is written.
     fn refused(&mut self, line: u64, text: &[u8], reply: &ShellReply);
+
+    /// The line of this number, from 1 on, with these bytes, has a reply that is no refusal, and it is written.
+    fn answered(&mut self, line: u64, text: &[u8]);
 
     /// The run ended so, at the line of this number: the one behind those that ran, or the one that was refused; 0 where it isn't
     /// the run of a script.
@@ -21,6 +24,8 @@ pub(crate) struct Nobody;
 
 impl Tells for Nobody {
     fn refused(&mut self, _line: u64, _text: &[u8], _reply: &ShellReply) {}
+
+    fn answered(&mut self, _line: u64, _text: &[u8]) {}
 
     fn ended(&mut self, _line: u64, _status: &Status) {}
 }

@@ -15,8 +15,8 @@ use fault_count::{Sink, Source};
 use kind_trait::Kinds;
 use std::alloc::Global;
 
-/// The run of [`run_script`](crate::run_script), of which someone is told: of each refusal of a script behind the line's reply,
-/// and of the end. Whoever is told can't touch the platform, the source or the sink, so the run is the same.
+/// The run of [`run_script`](crate::run_script), of which someone is told: of each reply of a script behind it, and of the
+/// end. Whoever is told can't touch the platform, the source or the sink, so the run is the same.
 pub fn run_told<K: Kinds + Drop, In: Source, Out: Sink, T: Tells>(
     alloc: Global,
     platform: &mut Platform<K>,

@@ -1,4 +1,4 @@
-//! The hints to a refusal.
+//! The hints to a line.
 
 use prop_map::OutOfMemory;
 use std::alloc::Global;
@@ -6,7 +6,7 @@ use std::alloc::Global;
 // How many are told of a line at most.
 const MOST: usize = 8;
 
-/// The hints to a refusal, in order.
+/// The hints to a line, in order.
 #[derive(Drop)]
 pub(crate) struct Hints {
     alloc: Global,

@@ -1,5 +1,6 @@
 //! Fields of documents that are passed over and look like one that is read.
 
+use crate::argument::argument;
 use crate::fields::{DESCRIPTION, DOCUMENT, Field, REFERENCE, field_of};
 use crate::hints::Hints;
 use crate::near_words::Nearest;
@@ -7,8 +8,28 @@ use crate::places::{entry_place, reference_place};
 use prop_map::OutOfMemory;
 use serde_json::Value;
 
-/// Tells of such fields in a document, in its descriptions and in their references.
-pub(crate) fn tell_like_fields(hints: &mut Hints, document: &Value) -> Result<(), OutOfMemory> {
+/// Tells of such fields in the document of an `install` or an `update`; of another line it tells nothing.
+pub(crate) fn tell_like_fields(hints: &mut Hints, line: &str) -> Result<(), OutOfMemory> {
+    let Some(text) = document_of(line) else {
+        return Ok(());
+    };
+    match Value::from_str(hints.alloc(), text) {
+        Ok(document) => tell_in_document(hints, &document),
+        Err(_) => Ok(()),
+    }
+}
+
+// The text of the document of a line.
+fn document_of(line: &str) -> Option<&str> {
+    if !line.starts_with("install ") && !line.starts_with("update ") {
+        return None;
+    }
+    let (_, text) = argument(line)?;
+    Some(text)
+}
+
+// Tells of those of a document, of its descriptions and of their references.
+fn tell_in_document(hints: &mut Hints, document: &Value) -> Result<(), OutOfMemory> {
     tell_in(hints, "", document, DOCUMENT)?;
     let Some(entries) = document.get("components").and_then(Value::as_object) else {
         return Ok(());

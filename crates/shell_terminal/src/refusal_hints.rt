@@ -36,10 +36,7 @@ pub(crate) fn tell_of_refusal(
         Refusal::Core { .. } | Refusal::Call { .. } | Refusal::NotManual | Refusal::NoTurn { .. } =>
             {}
     }
-    if line.starts_with("install ") || line.starts_with("update ") {
-        tell_passed_over(hints, text)?;
-    }
-    Ok(())
+    tell_like_fields(hints, line)
 }
 
 // The word of a line that the unknown one looks like.
@@ -111,11 +108,4 @@ fn tell_of_filter(hints: &mut Hints, text: &str, fault: FilterFault) -> Result<(
         FilterFault::OutOfMemory => return Ok(()),
     };
     hints.tell(hint)
-}
-
-fn tell_passed_over(hints: &mut Hints, text: &str) -> Result<(), OutOfMemory> {
-    match Value::from_str(hints.alloc(), text) {
-        Ok(document) => tell_like_fields(hints, &document),
-        Err(_) => Ok(()),
-    }
 }

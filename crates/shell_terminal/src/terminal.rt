@@ -2,6 +2,7 @@
 
 use crate::command::program;
 use crate::hints::Hints;
+use crate::like_fields::tell_like_fields;
 use crate::refusal_hints::tell_of_refusal;
 use crate::sentences::sentence;
 use clap::Error;
@@ -10,7 +11,7 @@ use prop_map::OutOfMemory;
 use shell_lang::{Refusal, ShellReply, write_reply};
 use std::alloc::Global;
 
-/// Tells people on standard error how a run ended, and with `--explain` what each refusal means.
+/// Tells people on standard error how a run ended, and with `--explain` what each refusal means, and what documents pass over.
 #[derive(Drop)]
 pub struct Terminal<'t, R> {
     runtime: &'t R,
@@ -91,6 +92,20 @@ impl<'t, R: Eprint> Terminal<'t, R> {
     fn hint(&self, line: u64, text: &[u8], refusal: &Refusal) {
         let mut hints = Hints::new(self.alloc);
         let _ = tell_of_refusal(&mut hints, text, refusal);
+        self.say_each(line, &hints);
+    }
+
+    // Says which fields the document of a line passes over.
+    fn hint_at_fields(&self, line: u64, text: &[u8]) {
+        let Ok(text) = str::from_utf8(text) else {
+            return;
+        };
+        let mut hints = Hints::new(self.alloc);
+        let _ = tell_like_fields(&mut hints, text);
+        self.say_each(line, &hints);
+    }
+
+    fn say_each(&self, line: u64, hints: &Hints) {
         for hint in hints.texts() {
             self.say(line, hint.as_str());
         }
@@ -107,6 +122,12 @@ impl<R: Eprint> Tells for Terminal<'_, R> {
                 self.explain(line, name_in(told.as_slice()), refusal);
             }
             self.hint(line, text, refusal);
+        }
+    }
+
+    fn answered(&mut self, line: u64, text: &[u8]) {
+        if self.explains {
+            self.hint_at_fields(line, text);
         }
     }
 

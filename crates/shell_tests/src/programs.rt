@@ -15,6 +15,8 @@ struct Quiet;
 impl Tells for Quiet {
     fn refused(&mut self, _line: u64, _text: &[u8], _reply: &ShellReply) {}
 
+    fn answered(&mut self, _line: u64, _text: &[u8]) {}
+
     fn ended(&mut self, _line: u64, _status: &Status) {}
 }
 

@@ -7,11 +7,14 @@ use platform_shell::{Platform, Status, Tells, run_script, run_told};
 use shell_lang::ShellReply;
 use std::alloc::Global;
 
-/// What is told of a run: how many lines were refused, the number of the last of them, and where and how the run ended.
+/// What is told of a run: how many lines were refused, and the number of the last of them; the same of the lines that have
+/// another reply; and where and how the run ended.
 #[derive(Clone, Copy, PartialEq, Eq, Drop)]
 pub(crate) struct Heard {
     pub(crate) refusals: u64,
     pub(crate) refused: u64,
+    pub(crate) answers: u64,
+    pub(crate) answered: u64,
     pub(crate) ended: u64,
     pub(crate) code: u8,
 }
@@ -22,6 +25,8 @@ impl Heard {
         Heard {
             refusals: 0,
             refused: 0,
+            answers: 0,
+            answered: 0,
             ended: 0,
             code,
         }
@@ -32,6 +37,11 @@ impl Tells for Heard {
     fn refused(&mut self, line: u64, _text: &[u8], _reply: &ShellReply) {
         self.refusals = self.refusals.saturating_add(1);
         self.refused = line;
+    }
+
+    fn answered(&mut self, line: u64, _text: &[u8]) {
+        self.answers = self.answers.saturating_add(1);
+        self.answered = line;
     }
 
     fn ended(&mut self, line: u64, status: &Status) {

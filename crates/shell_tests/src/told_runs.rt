@@ -39,6 +39,8 @@ fn lines_are_echoed(rt: HostRuntime) {
     let heard = Heard {
         refusals: 2,
         refused: 5,
+        answers: 1,
+        answered: 2,
         ended: 6,
         code: 0,
     };
@@ -59,6 +61,8 @@ fn a_strict_run_ends_behind_a_refusal(rt: HostRuntime) {
     let heard = Heard {
         refusals: 1,
         refused: 4,
+        answers: 1,
+        answered: 2,
         ended: 4,
         code: 10,
     };
@@ -73,6 +77,29 @@ fn a_strict_run_ends_behind_a_refusal(rt: HostRuntime) {
             Front::Bytes(53)
         )
     );
+}
+
+#[test]
+fn a_line_that_is_not_refused_is_told_once(rt: HostRuntime) {
+    let heard = Heard {
+        refusals: 0,
+        refused: 0,
+        answers: 1,
+        answered: 3,
+        ended: 4,
+        code: 0,
+    };
+    let script = Script {
+        words: &["script"],
+        lines: "# a\n\nbundles\n",
+        replies: b"ok 0\n",
+        reads: &[],
+        writes: &[],
+        is_told: true,
+        wanted: Wanted::Heard(heard),
+        front: Front::Bytes(5),
+    };
+    assert!(rt; holds(rt.alloc(), Demonstration, LIMITS, &Deed::Run(&script)));
 }
 
 // Whether each of these reads ends the run where it fails.
@@ -110,6 +137,8 @@ fn words_that_are_no_form_tell_their_end(rt: HostRuntime) {
     let heard = Heard {
         refusals: 0,
         refused: 0,
+        answers: 0,
+        answered: 0,
         ended: 0,
         code: 1,
     };

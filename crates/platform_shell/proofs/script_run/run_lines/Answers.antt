@@ -106,20 +106,20 @@ loop-line-preserved g c =
     let T : List ℕ → Type 0 = λ w. Appends (g.Out.Sink.written c.loop-line.output) (g.Out.Sink.written c.answer_line.new.output) (answer_text c.args.options.echo (answer_of w c.in-Ok.reply)) in
     record {
       reached = rw c.saturating_add.ensures (reached_line c.loop-line.invariant.reached (g.In.Source.left c.next_line.new.input) c.next_line.new.ahead.ended c.next_line.new.ahead.bytes.items c.answer_line.new.platform (g.Out.Sink.written c.answer_line.new.output) c.in-Line.line c.in-Ok.reply
-          c.in-Line.ensures.step c.in-Line.ensures.taken other (subst R (sym asked) answer.0) (subst T c.as_slice-text.ensures answer.1) (goes_on_unrefused c.args.options.strict c.in-Ok.reply (sym c.tell_refusal.ensures ∙ c.if-tell_refusal.false)));
+          c.in-Line.ensures.step c.in-Line.ensures.taken other (subst R (sym asked) answer.0) (subst T c.as_slice-text.ensures answer.1) (goes_on_unrefused c.args.options.strict c.in-Ok.reply (sym c.tell_reply.ensures ∙ c.if-tell_reply.false)));
       reads = c.in-Line.ensures.faults ∙ c.loop-line.invariant.reads;
       writes = c.in-Ok.ensures.faults ∙ c.loop-line.invariant.writes;
       rested = λ auto. nothing_due_behind s answer.0.0 c.answer_line.new.platform answer.0.2 auto;
     }
 
-pub returns-then-tell_refusal-clause-run : goal.returns-then-tell_refusal-clause-run
-returns-then-tell_refusal-clause-run g c =
+pub returns-then-tell_reply-clause-run : goal.returns-then-tell_reply-clause-run
+returns-then-tell_reply-clause-run g c =
     let s : Setting = script_setting g.K.Kinds.refuses g.K.Kinds.next c.args.options in
     let asked : shell_line c.in-Line.line ≡ c.in-Asked.asked = ap shell_line (sym c.as_slice-text.ensures) ∙ c.in-Asked.ensures.0 in
     let other : is_quit (shell_line c.in-Line.line) ≡ false = ap is_quit asked ∙ c.in-Asked.ensures.1 in
     let answer = c.in-Ok.ensures.answered in
     let R : Asked → Type 0 = λ a. RunsAsked s a c.loop-line.platform (Ok c.in-Ok.reply) c.answer_line.new.platform in
     let T : List ℕ → Type 0 = λ w. Appends (g.Out.Sink.written c.loop-line.output) (g.Out.Sink.written c.answer_line.new.output) (answer_text c.args.options.echo (answer_of w c.in-Ok.reply)) in
-    let ends = stops_refused c.args.options.strict c.in-Ok.reply (sym c.tell_refusal.ensures ∙ c.if-tell_refusal.true) in
+    let ends = stops_refused c.args.options.strict c.in-Ok.reply (sym c.tell_reply.ensures ∙ c.if-tell_reply.true) in
     run_refused c.loop-line.invariant.reached.progress (not_yet_read c.next_line.new.ahead.ended (g.In.Source.left c.next_line.new.input)) c.next_line.new.ahead.bytes.items c.answer_line.new.platform (g.Out.Sink.written c.answer_line.new.output)
     c.in-Line.line c.in-Ok.reply c.loop-line.invariant.reached.unrefused c.in-Line.ensures.step other (subst R (sym asked) answer.0) (subst T c.as_slice-text.ensures answer.1) ends.0 ends.1

@@ -1,4 +1,4 @@
-//! Replies that are refusals.
+//! Who is told of the reply of a line.
 ghost use Rattle.platform_shell.specs.LineTexts.{is_told_refusal};
 ghost use Rattle.std.specs.Prelude.{◌≡◌, ◌&&◌};
 
@@ -6,8 +6,8 @@ use crate::Tells;
 use crate::load_line::is_refusal;
 use shell_lang::ShellReply;
 
-/// Tells of a line's refusal, where its reply is one, and answers whether it ends the run, which may be strict.
-pub(crate) fn tell_refusal<T: Tells>(
+/// Tells of a line's reply, where it has one, and answers whether it is a refusal that ends the run, which may be strict.
+pub(crate) fn tell_reply<T: Tells>(
     told: &mut T,
     strict: bool,
     line: u64,
@@ -19,6 +19,8 @@ pub(crate) fn tell_refusal<T: Tells>(
     if let Some(reply) = reply {
         if is_refusal(reply) {
             told.refused(line, text, reply);
+        } else {
+            told.answered(line, text);
         }
     }
     strict && is_told_refusal(reply)
