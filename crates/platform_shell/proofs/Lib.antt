@@ -7,6 +7,7 @@ pub mod CallGrowth
 pub mod LineGrowth
 pub mod NothingDue
 pub mod Refusals
+pub mod BoardRows
 pub mod Resting
 pub mod Progress
 pub mod Reached

@@ -11,7 +11,7 @@ use Rattle.scr_world.specs.declared.command.Command.TheVariants.{Install, Update
 use Rattle.shell_lang.specs.declared.line_fault.LineFault.{LineFault}
 use Rattle.shell_lang.specs.declared.line_fault.LineFault.TheVariants.{NoFile, UnknownCommand}
 use Rattle.shell_lang.specs.declared.shell_line.ShellLine.{ShellLine}
-use Rattle.shell_lang.specs.declared.shell_line.ShellLine.TheVariants.{Quit, Command as Commanded, Bundles, Services, Components, Settle, Begin}
+use Rattle.shell_lang.specs.declared.shell_line.ShellLine.TheVariants.{Quit, Command as Commanded, Bundles, Services, Components, Routes, Settle, Begin}
 use Rattle.shell_lang.specs.declared.words.Misfit.{Misfit}
 use Rattle.shell_lang.specs.Arguments.{document_argument, filter_argument, given_document, names_file, properties_argument}
 use Rattle.shell_lang.specs.Help.{helping, line_word_at}
@@ -163,9 +163,10 @@ module _ (word : List ℕ) (rest : Option (List ℕ)) where
       (either_line (bytes_eq word (codes "bundles")) (alone Bundles rest) _ (alone_named Bundles rest tt)
       (either_line (bytes_eq word (codes "services")) (alone Services rest) _ (alone_named Services rest tt)
       (either_line (bytes_eq word (codes "components")) (alone Components rest) _ (alone_named Components rest tt)
+      (either_line (bytes_eq word (codes "routes")) (alone Routes rest) _ (alone_named Routes rest tt)
       (either_line (bytes_eq word (codes "settle")) (alone Settle rest) _ (alone_named Settle rest tt)
       (either_line (bytes_eq word (codes "begin")) (alone Begin rest) _ (alone_named Begin rest tt)
-      (either_line (bytes_eq word (codes "help")) (helping rest) (bundle_line word rest) (helping_named rest) bundle_line_named))))))
+      (either_line (bytes_eq word (codes "help")) (helping rest) (bundle_line word rest) (helping_named rest) bundle_line_named)))))))
 
 pub line_named : (line : List ℕ) → AskedNamed (shell_line line)
 line_named line = either_line (is_silent line) _ _ tt (either_line (is_utf8 line) (text_line line) (Err UnknownCommand) (worded_line_named (first_word line) (behind_word line)) tt)

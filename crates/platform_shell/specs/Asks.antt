@@ -16,6 +16,7 @@ use Rattle.scr_world.specs.declared.lines.HeldLine.{HeldLine}
 use Rattle.scr_world.specs.declared.lines.TurnLine.{TurnLine}
 use Rattle.platform_hall.specs.Cores.{CoreView}
 use Rattle.scr_readers.specs.Events.{events_told, has_listener}
+use Rattle.scr_calls.specs.Servlets.{routing_in}
 use Rattle.scr_report.specs.Reports.{report_in}
 use Rattle.scr_world.specs.declared.world.World.{World}
 use Rattle.scr_world.specs.Readers.{TellsHeld, bundle_events_after, bundle_lines, component_lines, found, service_lines}
@@ -28,13 +29,14 @@ use Rattle.platform_hall.specs.declared.finish_fault.FinishFault.{FinishFault}
 use Rattle.platform_hall.specs.declared.finish_fault.FinishFault.TheVariants.{NoTurn as NoSuchTurn, OutOfMemory as NoMemoryLeft}
 use Rattle.platform_hall.specs.Platforms.{BeginsTurn, FinishesTurn, TakesCommand, running, world}
 use Rattle.platform_hall.specs.SettleBounds.{SettlesWithin}
-use Rattle.shell_lang.specs.declared.shell_line.ShellLine.TheVariants.{Silent, Quit, Help as AskHelp, Command as Commanded, Bundles as AskBundles, Services as AskServices, Components as AskComponents, Report as AskReport, Held as AskHeld, Find as AskFind, Events as AskEvents, BundleEvents as AskBundleEvents, Trace as AskTrace, Wiring as AskWiring, BundleWiring as AskBundleWiring, Settle, Begin, Finish, Call}
+use Rattle.shell_lang.specs.declared.shell_line.ShellLine.TheVariants.{Silent, Quit, Help as AskHelp, Command as Commanded, Bundles as AskBundles, Services as AskServices, Components as AskComponents, Report as AskReport, Held as AskHeld, Find as AskFind, Events as AskEvents, BundleEvents as AskBundleEvents, Trace as AskTrace, Wiring as AskWiring, BundleWiring as AskBundleWiring, Routes as AskRoutes, Settle, Begin, Finish, Call}
 use Rattle.shell_lang.specs.declared.shell_reply.Refusal.TheVariants.{Line as InLine, Core as OfCore, NotManual, NoTurn}
 use Rattle.shell_lang.specs.declared.shell_reply.ShellReply.{ShellReply}
-use Rattle.shell_lang.specs.declared.shell_reply.ShellReply.TheVariants.{Done, Help, Bundle, Service, Uses, Listener, Bundles, Services, Components, Report, Held, Found, Events, BundleEvents, Trace, Turns, Begun, Idle, Finished, Refused}
+use Rattle.shell_lang.specs.declared.shell_reply.ShellReply.TheVariants.{Done, Help, Bundle, Service, Uses, Listener, Bundles, Services, Components, Report, Held, Found, Events, BundleEvents, Trace, Routes, Turns, Begun, Idle, Finished, Refused}
 use Rattle.shell_lang.specs.ShellLines.{Asked}
 use Rattle.platform_shell.specs.Calling.{AsksCall}
 use Rattle.platform_shell.specs.Refusals.{IsAnswer}
+use Rattle.platform_shell.specs.Routes.{route_lines}
 use Rattle.platform_shell.specs.Wiring.{AsksBundleWiring, AsksWiring}
 
 -- how a run goes: whether turns run where a line asks for it alone, which callbacks the component code refuses, and what a request to it comes to
@@ -144,6 +146,7 @@ Asks s (Ok (AskBundleEvents number)) before told after = Says (BundleEvents numb
 Asks s (Ok (AskTrace number)) before told after = Says (Trace (turns_above number (history_of before.journal))) before told after
 Asks s (Ok AskWiring) before told after = Does AsksWiring before told after
 Asks s (Ok (AskBundleWiring bundle)) before told after = Does (AsksBundleWiring bundle) before told after
+Asks s (Ok AskRoutes) before told after = Says (Routes (route_lines (routing_in (world before)))) before told after
 Asks s (Ok Settle) before told after = Does (AsksSettle s.refuses) before told after
 Asks s (Ok Begin) before told after = Does (Manually s.is_manual AsksBegin) before told after
 Asks s (Ok (Finish turn)) before told after = Does (Manually s.is_manual (AsksFinish s.refuses turn)) before told after

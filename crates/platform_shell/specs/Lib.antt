@@ -3,6 +3,7 @@ pub mod Reading
 pub mod Forms
 pub mod Statuses
 pub mod Wiring
+pub mod Routes
 pub mod Refusals
 pub mod Calling
 pub mod Asks

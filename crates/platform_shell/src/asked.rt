@@ -9,6 +9,7 @@ use crate::calling::call;
 use crate::readings::{
     bundle_events, bundles, components, events, found, held, reported, services, trace,
 };
+use crate::routes::routes;
 use crate::wiring::{bundle_wiring, wiring};
 use callback_orders::Outcome;
 use kind_trait::Kinds;
@@ -47,6 +48,7 @@ pub(crate) fn carry_out<K: Kinds + Drop>(
         Ok(ShellLine::Trace { after }) => Ok(Some(trace(alloc, platform, after)?)),
         Ok(ShellLine::Wiring) => Ok(Some(wiring(alloc, platform)?)),
         Ok(ShellLine::BundleWiring { bundle }) => Ok(Some(bundle_wiring(alloc, platform, bundle)?)),
+        Ok(ShellLine::Routes) => Ok(Some(routes(alloc, platform)?)),
         Ok(ShellLine::Settle) => settled(alloc, manual, platform),
         Ok(ShellLine::Begin) => Ok(Some(begin(alloc, manual, platform)?)),
         Ok(ShellLine::Finish { turn }) => Ok(Some(finish(alloc, manual, platform, turn)?)),

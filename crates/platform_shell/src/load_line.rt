@@ -81,6 +81,7 @@ pub(crate) fn is_refusal(reply: &ShellReply) -> bool
         ShellReply::Trace(_) => false,
         ShellReply::Wiring(_) => false,
         ShellReply::BundleWiring(_) => false,
+        ShellReply::Routes(_) => false,
         ShellReply::Turns(_) => false,
         ShellReply::Begun(_) => false,
         ShellReply::Idle => false,

@@ -11,6 +11,7 @@ pub mod CoreFaultTexts
 pub mod RefusalTexts
 pub mod TurnTexts
 pub mod WiringTexts
+pub mod RouteTexts
 pub mod RowTexts
 pub mod ReplyTexts
 pub mod Loads

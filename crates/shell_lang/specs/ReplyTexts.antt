@@ -5,11 +5,12 @@ use Rattle.shell_lang.specs.Help.{help_text}
 use Rattle.serde_json.specs.Data.{string}
 use Rattle.serde_json.specs.Written.{compact_text}
 use Rattle.shell_lang.specs.RefusalTexts.{refusal_text}
+use Rattle.shell_lang.specs.RouteTexts.{route_text}
 use Rattle.shell_lang.specs.RowTexts.{bundle_event_text, bundle_text, component_text, held_text, number_text, placed_rows_text, registered_text, rows_text, service_event_text}
 use Rattle.shell_lang.specs.TurnTexts.{finished_text, trace_text, turn_text}
 use Rattle.shell_lang.specs.WiringTexts.{need_text, wiring_text}
 use Rattle.shell_lang.specs.declared.shell_reply.ShellReply.{ShellReply}
-use Rattle.shell_lang.specs.declared.shell_reply.ShellReply.TheVariants.{Done, Help, Bundle, Service, Uses, Listener, Bundles, Services, Components, Report, Held, Found, Events, BundleEvents, Trace, Wiring, BundleWiring, Turns, Begun, Idle, Finished, Text, Refused}
+use Rattle.shell_lang.specs.declared.shell_reply.ShellReply.TheVariants.{Done, Help, Bundle, Service, Uses, Listener, Bundles, Services, Components, Report, Held, Found, Events, BundleEvents, Trace, Wiring, BundleWiring, Routes, Turns, Begun, Idle, Finished, Text, Refused}
 
 -- a text in quotes, as JSON has it
 abbrev pub quoted_text : List ℕ → List ℕ
@@ -34,6 +35,7 @@ reply_text (BundleEvents before events) = placed_rows_text bundle_event_text bef
 reply_text (Trace rows) = rows_text trace_text rows
 reply_text (Wiring rows) = rows_text wiring_text rows
 reply_text (BundleWiring rows) = rows_text need_text rows
+reply_text (Routes rows) = rows_text route_text rows
 reply_text (Turns count) = codes "ok turns " ++ decimal count ++ codes "\n"
 reply_text (Begun line) = codes "ok turn " ++ turn_text line ++ codes "\n"
 reply_text Idle = codes "ok idle\n"

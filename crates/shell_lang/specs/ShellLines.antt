@@ -8,7 +8,7 @@ use Rattle.scr_world.specs.declared.command.Command.TheVariants.{Install, Update
 use Rattle.shell_lang.specs.declared.line_fault.LineFault.{LineFault}
 use Rattle.shell_lang.specs.declared.line_fault.LineFault.TheVariants.{NotBuilt, UnknownCommand}
 use Rattle.shell_lang.specs.declared.shell_line.ShellLine.{ShellLine}
-use Rattle.shell_lang.specs.declared.shell_line.ShellLine.TheVariants.{Silent, Quit, Command as Commanded, Bundles, Services, Components, Report, Held, Find, Events, BundleEvents, Trace, Wiring, BundleWiring, Settle, Begin, Finish, Call}
+use Rattle.shell_lang.specs.declared.shell_line.ShellLine.TheVariants.{Silent, Quit, Command as Commanded, Bundles, Services, Components, Report, Held, Find, Events, BundleEvents, Trace, Wiring, BundleWiring, Routes, Settle, Begin, Finish, Call}
 use Rattle.shell_lang.specs.Arguments.{document_argument, filter_argument, properties_argument}
 use Rattle.shell_lang.specs.Help.{helping}
 use Rattle.shell_lang.specs.Interfaces.{interfaces_at}
@@ -76,7 +76,7 @@ calling rest = fitting (two_numbers_and_text rest) (λ words. Ok (Call words.0 w
 
 -- the words with which lines of the milestones to come begin
 abbrev pub later_words : List (List ℕ)
-later_words = codes "routes" ∷ codes "http" ∷ []
+later_words = codes "http" ∷ []
 
 -- why a line is refused that begins with no word of those that are built
 abbrev pub other_fault : List ℕ → LineFault
@@ -144,9 +144,10 @@ worded_line word rest =
     else (if bytes_eq word (codes "bundles") then alone Bundles rest
     else (if bytes_eq word (codes "services") then alone Services rest
     else (if bytes_eq word (codes "components") then alone Components rest
+    else (if bytes_eq word (codes "routes") then alone Routes rest
     else (if bytes_eq word (codes "settle") then alone Settle rest
     else (if bytes_eq word (codes "begin") then alone Begin rest
-    else (if bytes_eq word (codes "help") then helping rest else bundle_line word rest))))))
+    else (if bytes_eq word (codes "help") then helping rest else bundle_line word rest)))))))
 
 abbrev pub text_line : List ℕ → Asked
 text_line line = worded_line (first_word line) (behind_word line)

@@ -27,6 +27,7 @@ pub(crate) fn worded_line(
         "bundles" => alone(ShellLine::Bundles, rest),
         "services" => alone(ShellLine::Services, rest),
         "components" => alone(ShellLine::Components, rest),
+        "routes" => alone(ShellLine::Routes, rest),
         "settle" => alone(ShellLine::Settle, rest),
         "begin" => alone(ShellLine::Begin, rest),
         "help" => helping(alloc, rest),
@@ -273,7 +274,7 @@ fn other_fault(word: &str) -> LineFault
     ensures { result ≡ other_fault word.now }
 {
     match word {
-        "routes" | "http" => LineFault::NotBuilt,
+        "http" => LineFault::NotBuilt,
         _ => LineFault::UnknownCommand,
     }
 }

@@ -70,6 +70,10 @@ pub const LINES: &[(&str, &str)] = &[
     ),
     ("wiring B", "tells the needs and offers of a bundle"),
     (
+        "routes",
+        "tells which patterns of servlets are in effect, and what isn't and why",
+    ),
+    (
         "call B S TEXT",
         "calls a service for a bundle, and tells its answer",
     ),

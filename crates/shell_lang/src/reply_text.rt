@@ -47,6 +47,7 @@ fn reply_text(alloc: Global, reply: &ShellReply) -> Result<String, OutOfMemory>
         ShellReply::Trace(rows) => rows_text(alloc, rows.as_slice()),
         ShellReply::Wiring(rows) => rows_text(alloc, rows.as_slice()),
         ShellReply::BundleWiring(rows) => rows_text(alloc, rows.as_slice()),
+        ShellReply::Routes(rows) => rows_text(alloc, rows.as_slice()),
         ShellReply::Turns(count) => format!(in alloc; "ok turns {count}\n"),
         ShellReply::Begun(line) => begun_text(alloc, line),
         ShellReply::Idle => String::from_str(alloc, "ok idle\n"),

@@ -60,6 +60,8 @@ pub enum ShellLine {
         /// The bundle's number.
         bundle: u64,
     },
+    /// Which patterns of servlets are in effect, and what isn't and why.
+    Routes,
     /// To run the turns that are due, until none is.
     Settle,
     /// To begin the first due turn.

@@ -1,6 +1,6 @@
 //! What lines are answered.
 
-use crate::{CallRefusal, LineFault, LineHelp};
+use crate::{CallRefusal, LineFault, LineHelp, RouteLine};
 use bundle_life::BundleEvent;
 use callback_orders::Outcome;
 use prop_map::{List, Str};
@@ -83,6 +83,8 @@ pub enum ShellReply {
     Wiring(List<WiringLine>),
     /// To whom a bundle is wired, and what it offers.
     BundleWiring(List<NeedLine>),
+    /// The patterns in effect, and then what isn't.
+    Routes(List<RouteLine>),
     /// How many turns ran.
     Turns(u64),
     /// The turn that has begun.
