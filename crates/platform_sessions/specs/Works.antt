@@ -10,7 +10,7 @@ use Rattle.platform_hall.specs.Platforms.{BeginsTurn, has_drain, has_due, runnin
 use Rattle.platform_sessions.specs.Commands.{AreDrains}
 use Rattle.platform_sessions.specs.Halls.{Own, View, core_seen, core_up_to}
 use Rattle.prop_map.specs.declared.properties.Property.{Property}
-use Rattle.scr_core.specs.Cores.{CoreView}
+use Rattle.hall_locked.specs.Cores.{CoreView}
 use Rattle.scr_world.specs.Stepping.{begins_by}
 use Rattle.scr_world.specs.declared.command.Limits.{Limits}
 use Rattle.scr_world.specs.declared.reply.CoreFault.{CoreFault}

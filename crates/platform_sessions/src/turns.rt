@@ -15,7 +15,7 @@ use crate::tasks::{Task, task_of};
 use hall_locked::{Locked, Owed};
 use kind_trait::Kinds;
 use prop_map::OutOfMemory;
-use scr_core::CoreFault;
+use scr_world::CoreFault;
 use std::alloc::Global;
 use std::sync::Wait;
 use std::thread;
@@ -54,6 +54,7 @@ impl<K: Kinds + Drop> Hall<K> {
     ) -> Result<Option<Begun<K::Object>>, CoreFault>
         requires of { IsOf self.now pass.old }
         ensures of { IsOf self.now pass.new }
+        ensures closed { pass.new.closed ≡ pass.old.closed }
         ensures seat { KeepsSeat pass.old.front pass.new.front }
         ensures begins { BeginsOne self.now.limits pass.old.front pass.new.front result }
         ensures more { IsOneMore (begun_of result) pass.old.front.kept pass.new.front.kept }
@@ -82,6 +83,7 @@ impl<K: Kinds + Drop> Hall<K> {
         requires mine { IsMine turn pass.old.front }
         requires fits { IsRunFor K.refuses self.now.limits pass.old.front turn ran }
         ensures of { IsOf self.now pass.new }
+        ensures closed { pass.new.closed ≡ pass.old.closed }
         ensures seat { KeepsSeat pass.old.front pass.new.front }
         ensures left { pass.new.front.kept ≡ things_but (turn_thing turn) pass.old.front.kept }
         ensures ended { HasEnded K.refuses self.now.limits pass.old.front pass.new.front turn }
@@ -114,6 +116,7 @@ impl<K: Kinds + Drop> Hall<K> {
         requires mine { IsMine turn pass.old.front }
         requires fits { IsRunFor K.refuses self.now.limits pass.old.front turn ran }
         ensures of { IsOf self.now pass.new }
+        ensures closed { pass.new.closed ≡ pass.old.closed }
         ensures seat { KeepsSeat pass.old.front pass.new.front }
         ensures left { OnOk result (pass.new.front.kept ≡ things_but (turn_thing turn) pass.old.front.kept) }
         ensures ended { OnOk result (HasEnded K.refuses self.now.limits pass.old.front pass.new.front turn) }

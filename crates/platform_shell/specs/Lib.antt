@@ -7,6 +7,7 @@ pub mod Routes
 pub mod Refusals
 pub mod Calling
 pub mod Asks
+pub mod Looks
 pub mod Cuts
 pub mod Rests
 pub mod Carries

@@ -17,6 +17,7 @@ pub(crate) fn refusal_text(alloc: Global, refusal: &Refusal) -> Result<String, O
         Refusal::Line { fault } => line_fault_text(alloc, fault),
         Refusal::Core { fault } => core_fault_text(alloc, fault),
         Refusal::NotManual => String::from_str(alloc, "NotManual"),
+        Refusal::NotBuilt => String::from_str(alloc, "NotBuilt"),
         Refusal::NoTurn { turn } => format!(in alloc; "NoTurn {turn}"),
         Refusal::Call { fault } => String::from_str(alloc, call_refusal_text(*fault)),
     }

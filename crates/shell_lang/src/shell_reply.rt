@@ -24,6 +24,8 @@ pub enum Refusal {
     },
     /// It is a line of `script --manual` alone.
     NotManual,
+    /// Its form isn't built in a session yet. No line of a script is refused so.
+    NotBuilt,
     /// No turn of this number is under way.
     NoTurn {
         /// The number.

@@ -1,7 +1,7 @@
 use Rattle.std.proofs.Common.{ap, ◌∙◌}
 use Rattle.platform_hall.specs.Platforms.{running}
 use Rattle.platform_sessions.proofs.Handing.{task_is}
-use Rattle.scr_core.specs.Cores.{CoreView}
+use Rattle.hall_locked.specs.Cores.{CoreView}
 use Rattle.platform_sessions.proofs.tasks.task_of.Goals as goal
 
 pub returns-in-Ok : goal.returns-in-Ok
