@@ -6,8 +6,9 @@ ghost use Rattle.hall_locked.specs.Parts.{with_begun};
 ghost use Rattle.platform_hall.specs.Platforms.{BeginsTurn};
 ghost use Rattle.platform_sessions.specs.Commands.{IsOwed};
 ghost use Rattle.platform_sessions.specs.Halls.{IsOf, KeepsPass, KeepsSeat};
-ghost use Rattle.platform_sessions.specs.Works.{BeginsOne, HandsOut, HasEnded, IsMine, IsOneMore, IsRunFor, begun_of, things_but};
-ghost use Rattle.std.specs.Prelude.{◌≡◌, [], IfErr, IfOk, OnErr, OnOk};
+ghost use Rattle.platform_sessions.specs.Works.{BeginsOne, HandsOut, HasEnded, IsMine, IsOneMore, IsOwn, IsRunFor, begun_of, things_but};
+ghost use Rattle.std.specs.Arc.{arc_value};
+ghost use Rattle.std.specs.Prelude.{◌≡◌, [], IfErr, IfOk, IfSome, OnErr, OnOk};
 
 use crate::hall::Hall;
 use crate::hall_pass::{HallPass, put};
@@ -35,6 +36,7 @@ fn begin_in<O: Drop>(
     ensures turns { value.new.turns ≡ with_begun owner (begun_of result) value.old.turns }
     ensures limits { value.new.core.limits ≡ value.old.core.limits }
     ensures out { HandsOut value.new.core result }
+    ensures own { IfOk result (λ begun. IfSome begun (λ b. IsOwn arc_value value.new.parts b.1)) }
     ensures refused { OnErr result (value.new ≡ value.old) }
 {
     match value.take(alloc, owner) {
