@@ -8,6 +8,7 @@ pub mod LineGrowth
 pub mod NothingDue
 pub mod Refusals
 pub mod BoardRows
+pub mod Requesting
 pub mod Resting
 pub mod Progress
 pub mod Reached

@@ -24,6 +24,7 @@ mod notes;
 mod program_run;
 mod readings;
 mod reply_output;
+mod requests;
 mod routes;
 mod script_run;
 mod status;
