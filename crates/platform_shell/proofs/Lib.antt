@@ -18,6 +18,7 @@ pub mod ReadNames
 pub mod LineNames
 pub mod OwnNames
 pub mod NamesKept
+pub mod AllBuilt
 pub mod Mapped
 pub mod Replaying
 pub mod Counting

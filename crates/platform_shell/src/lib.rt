@@ -38,7 +38,7 @@ pub use form::{AskedText, Form, LoadNumbers, ScriptOptions};
 pub use form_run::run_script;
 pub use form_words::form_of;
 pub use load_run::run_load;
-pub use notes::note_own_names;
+pub use notes::{note_all_built, note_own_names};
 pub use platform_hall::Platform;
 pub use program_run::run_program;
 pub use status::Status;
