@@ -11,7 +11,7 @@ use Rattle.hall_locked.specs.Locks.{AppendsFor, IsLocked, LockedView, limits_cod
 use Rattle.hall_locked.specs.Owned.{as_kept, entries_in, owned}
 use Rattle.journal_core.specs.declared.entry.Entry.{Entry}
 use Rattle.platform_sessions.specs.Halls.{HallPassView, HallView, IsOf, KeepsPass, KeepsSeat, Own, View, core_seen}
-use Rattle.scr_core.specs.Cores.{CoreView}
+use Rattle.hall_locked.specs.Cores.{CoreView}
 use Rattle.scr_world.specs.declared.command.Limits.{Limits}
 use Rattle.scr_world.specs.declared.step.Step.{Step}
 

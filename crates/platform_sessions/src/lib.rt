@@ -12,11 +12,14 @@ mod hall_pass;
 mod look;
 mod passes;
 mod reads;
+mod sending;
 mod tasks;
 mod turns;
 mod works;
 
 pub use front_lock::LockFault;
 pub use hall::Hall;
+pub use hall_locked::Core;
 pub use hall_pass::HallPass;
 pub use look::Look;
+pub use sending::{hall_is_sync, pass_is_send};

@@ -8,6 +8,7 @@ pub mod Requests
 pub mod Refusals
 pub mod Calling
 pub mod Asks
+pub mod Looks
 pub mod Cuts
 pub mod Rests
 pub mod Carries
