@@ -9,6 +9,7 @@ use crate::calling::call;
 use crate::readings::{
     bundle_events, bundles, components, events, found, held, reported, services, trace,
 };
+use crate::requests::http;
 use crate::routes::routes;
 use crate::wiring::{bundle_wiring, wiring};
 use callback_orders::Outcome;
@@ -63,6 +64,13 @@ pub(crate) fn carry_out<K: Kinds + Drop>(
             let told = call(alloc, platform, bundle, service, &request)?;
             Ok(Some(told))
         }
+        Ok(
+            ShellLine::Http {
+                method,
+                target,
+                body,
+            },
+        ) => Ok(Some(http(alloc, platform, method, target, body)?)),
     }
 }
 

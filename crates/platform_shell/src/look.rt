@@ -38,6 +38,7 @@ pub fn is_look(line: &ShellLine) -> bool
         ShellLine::Begin => false,
         ShellLine::Finish { .. } => false,
         ShellLine::Call { .. } => false,
+        ShellLine::Http { .. } => false,
     }
 }
 
@@ -71,5 +72,6 @@ pub fn look_at(alloc: Global, core: &Core, line: &ShellLine) -> Result<ShellRepl
         ShellLine::Begin => unreachable!(),
         ShellLine::Finish { .. } => unreachable!(),
         ShellLine::Call { .. } => unreachable!(),
+        ShellLine::Http { .. } => unreachable!(),
     }
 }

@@ -13,7 +13,7 @@ use Rattle.scr_world.specs.declared.reply.CoreFault.TheVariants.{NoBundle, NoCom
 use Rattle.scr_world.specs.declared.reply.Reply.{Reply}
 use Rattle.shell_lang.specs.ShellLines.{Asked, shell_line}
 use Rattle.shell_lang.specs.declared.shell_line.ShellLine.{ShellLine}
-use Rattle.shell_lang.specs.declared.shell_line.ShellLine.TheVariants.{Silent, Quit, Help as AskHelp, Command as Commanded, Bundles as AskBundles, Services as AskServices, Components as AskComponents, Report as AskReport, Held as AskHeld, Find as AskFind, Events as AskEvents, BundleEvents as AskBundleEvents, Trace as AskTrace, Wiring as AskWiring, BundleWiring as AskBundleWiring, Routes as AskRoutes, Settle, Begin, Finish, Call}
+use Rattle.shell_lang.specs.declared.shell_line.ShellLine.TheVariants.{Silent, Quit, Help as AskHelp, Command as Commanded, Bundles as AskBundles, Services as AskServices, Components as AskComponents, Report as AskReport, Held as AskHeld, Find as AskFind, Events as AskEvents, BundleEvents as AskBundleEvents, Trace as AskTrace, Wiring as AskWiring, BundleWiring as AskBundleWiring, Routes as AskRoutes, Settle, Begin, Finish, Call, Http}
 use Rattle.shell_lang.specs.declared.shell_reply.Refusal.{Refusal}
 use Rattle.shell_lang.specs.declared.shell_reply.Refusal.TheVariants.{Line as InLine, NotBuilt, NotManual}
 use Rattle.session_shell.specs.Fronts.{Rising, front_in}
@@ -116,6 +116,7 @@ line_comes s (Ok Settle) before after told serves = settle_comes s before after 
 line_comes s (Ok Begin) before after told serves = refused_comes NotManual before after told serves
 line_comes s (Ok (Finish turn)) before after told serves = refused_comes NotManual before after told serves
 line_comes s (Ok (Call bundle service request)) before after told serves = refused_comes NotBuilt before after told serves
+line_comes s (Ok (Http method target body)) before after told serves = refused_comes NotBuilt before after told serves
 line_comes s (Ok (AskHelp rows)) before after told serves = look_comes s (AskHelp rows) before after told serves
 line_comes s (Ok AskBundles) before after told serves = look_comes s AskBundles before after told serves
 line_comes s (Ok AskServices) before after told serves = look_comes s AskServices before after told serves

@@ -11,7 +11,7 @@ use Rattle.scr_world.specs.declared.command.Command.{Command as CoreCommand}
 use Rattle.scr_world.specs.declared.reply.CoreFault.{CoreFault}
 use Rattle.scr_world.specs.declared.reply.CoreFault.TheVariants.{NoBundle, NoComponent, WrongState, Stopping, SameName, Cycle, BundlesFull, ComponentsFull, ServicesFull, ConfigurationsFull, ListenersFull, NoService, NotOwner, NotUsing, NoListener, NoConfiguration, BadPid, FactoryClash, ActivationFailed, ActivationNoMemory, JournalFull as InCore, OutOfMemory as NoMemoryThere}
 use Rattle.shell_lang.specs.declared.shell_line.ShellLine.{ShellLine}
-use Rattle.shell_lang.specs.declared.shell_line.ShellLine.TheVariants.{Silent, Quit, Help, Command, Settle, Begin, Finish, Call, Bundles, Services, Components, Report, Held, Find, Events, BundleEvents, Trace, Wiring, BundleWiring, Routes}
+use Rattle.shell_lang.specs.declared.shell_line.ShellLine.TheVariants.{Silent, Quit, Help, Command, Settle, Begin, Finish, Call, Http, Bundles, Services, Components, Report, Held, Find, Events, BundleEvents, Trace, Wiring, BundleWiring, Routes}
 use Rattle.shell_lang.specs.declared.shell_reply.ShellReply.{ShellReply}
 use Rattle.session_shell.specs.Answers.{IsLooked, LooksOr, Serves, ServesOr, StopsBy, TellsFault}
 use Rattle.session_shell.specs.Items.{ServesCommand, ServesLine, ServesLook, ServesSettle, Setting, line_at}
@@ -95,6 +95,7 @@ look_line s Settle before after item is looks = absurd cc
 look_line s Begin before after item is looks = absurd cc
 look_line s (Finish turn) before after item is looks = absurd cc
 look_line s (Call bundle service request) before after item is looks = absurd cc
+look_line s (Http method target body) before after item is looks = absurd cc
 
 look_starves : (s : Setting) (line : ShellLine) (before after : View) → is_look line ≡ true → Went before after [] → Starves s (Ok line) before after
 look_starves s Bundles before after is went = went
@@ -117,6 +118,7 @@ look_starves s Settle before after is went = absurd cc
 look_starves s Begin before after is went = absurd cc
 look_starves s (Finish turn) before after is went = absurd cc
 look_starves s (Call bundle service request) before after is went = absurd cc
+look_starves s (Http method target body) before after is went = absurd cc
 
 pub look_stops : (s : Setting) (line : ShellLine) (before after : View) (stop : LineStop) → is_look line ≡ true → LooksOr s line before after (Err stop) → Serves s (Ok line) before after (Err stop)
 look_stops s line before after NoRoom is looks = absurd looks

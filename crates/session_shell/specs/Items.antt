@@ -16,7 +16,7 @@ use Rattle.scr_world.specs.declared.reply.CoreFault.{CoreFault}
 use Rattle.scr_world.specs.declared.reply.Reply.{Reply}
 use Rattle.shell_lang.specs.ShellLines.{Asked}
 use Rattle.shell_lang.specs.declared.shell_line.ShellLine.{ShellLine}
-use Rattle.shell_lang.specs.declared.shell_line.ShellLine.TheVariants.{Silent, Quit, Command as Commanded, Settle, Begin, Finish, Call}
+use Rattle.shell_lang.specs.declared.shell_line.ShellLine.TheVariants.{Silent, Quit, Command as Commanded, Settle, Begin, Finish, Call, Http}
 use Rattle.shell_lang.specs.declared.shell_reply.Refusal.{Refusal}
 use Rattle.shell_lang.specs.declared.shell_reply.Refusal.TheVariants.{Line as InLine, NotBuilt, NotManual}
 use Rattle.shell_lang.specs.declared.shell_reply.ShellReply.{ShellReply}
@@ -78,6 +78,7 @@ ServesLine s (Ok Settle) before after told = Notes (ServesSettle s before after)
 ServesLine s (Ok Begin) before after told = Notes (Refuses NotManual before after) told
 ServesLine s (Ok (Finish turn)) before after told = Notes (Refuses NotManual before after) told
 ServesLine s (Ok (Call bundle service request)) before after told = Notes (Refuses NotBuilt before after) told
+ServesLine s (Ok (Http method target body)) before after told = Notes (Refuses NotBuilt before after) told
 ServesLine s (Ok line) before after told = Notes (ServesLook s line before after) told
 
 -- the items of what is noted

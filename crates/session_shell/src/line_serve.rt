@@ -88,7 +88,9 @@ fn serve_deed<R: Wait, K: Kinds + Drop>(
         ShellLine::Begin | ShellLine::Finish { .. } => {
             Ok(Some(refused(alloc, pass, Refusal::NotManual)))
         }
-        ShellLine::Call { .. } => Ok(Some(refused(alloc, pass, Refusal::NotBuilt))),
+        ShellLine::Call { .. } | ShellLine::Http { .. } => {
+            Ok(Some(refused(alloc, pass, Refusal::NotBuilt)))
+        }
         ShellLine::Bundles
         | ShellLine::Services
         | ShellLine::Components

@@ -27,7 +27,6 @@ fn line_fault_text(alloc: Global, fault: &LineFault) -> Result<String, OutOfMemo
     ensures { IfOk result (λ text. string_bytes text ≡ line_fault_text fault.now) }
 {
     match fault {
-        LineFault::NotBuilt => String::from_str(alloc, "NotBuilt"),
         LineFault::UnknownCommand => String::from_str(alloc, "UnknownCommand"),
         LineFault::BadWords { at } => format!(in alloc; "BadWords {at}"),
         LineFault::Document { fault } => document_fault_text(alloc, fault),

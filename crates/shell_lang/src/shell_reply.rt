@@ -97,6 +97,15 @@ pub enum ShellReply {
     Finished(Outcome),
     /// The text that a call is answered.
     Text(Str),
+    /// What is answered to a request.
+    Http {
+        /// The number of the status, as 200.
+        status: u16,
+        /// The number of the service whose text is the body, else 0.
+        service: u64,
+        /// The body as it is told: nothing to HEAD.
+        body: List<u8>,
+    },
     /// It is refused.
     Refused(Refusal),
 }
