@@ -1,0 +1,3 @@
+mod Shelves
+mod Levels
+mod Keeping
