@@ -52,12 +52,16 @@ module _ (seat : SeatView) (shelf : List HeldKey) (room : ℕ) (keeper : IsKeepe
     -- and its drain came on the shelf
     pub moved_on : (drain : HeldKey) → drain.gate ≡ seat.gate → drain.key.slot ≡ slot → slot < seat.gate.words → v ≡ 4 * drain.key.generation + 3 → IsKeeper new (shelf ++ drain ∷ []) room
     moved_on drain its at within is = record {
-      keeps = keeps ∙ keeper.keeps; nobody = inside ∙ keeper.nobody; wide = wide_then; places = places_then;
+      keeps = keeps ∙ keeper.keeps;
+      nobody = inside ∙ keeper.nobody;
+      wide = wide_then;
+      places = places_then;
       drains = shelf_pushed new.gate new.knows.levels shelf drain own (subst (λ s. is_shelved (keys_held shelf) s ≡ false) (sym at) away) drains_then;
     }
       where
         near : slot < length seat.knows.levels
         near = let wide = keeper.wide in omega (arith, within, wide)
+
         own : IsShelved new.gate new.knows.levels drain
         own = record {
           gate_is = its ∙ sym gate;
@@ -68,7 +72,10 @@ module _ (seat : SeatView) (shelf : List HeldKey) (room : ℕ) (keeper : IsKeepe
   -- a drain comes back
   pub came_back : (drain : HeldKey) → CanComeBack (keeper_of seat shelf) drain → IsKeeper seat (drain ∷ shelf) room
   came_back drain can = record {
-    keeps = keeper.keeps; nobody = keeper.nobody; wide = keeper.wide; places = keeper.places;
+    keeps = keeper.keeps;
+    nobody = keeper.nobody;
+    wide = keeper.wide;
+    places = keeper.places;
     drains = (record { gate_is = can.gate; word = can.word; closed = can.closed }, can.away, keeper.drains);
   }
 

@@ -41,6 +41,7 @@ reopened_kept level k key orderly kept can slot within = go (key.slot == slot) r
   where
     v : ℕ
     v = 4 * key.generation
+
     go : (b : Bool) → (key.slot == slot) ≡ b → get_or (set k.levels key.slot (4 * key.generation)) slot 0 ≡ level_kept (is_shelved k.shelf slot) (if b then 4 * key.generation else level slot)
     go true here =
         let at = eqb-true key.slot slot here in
@@ -58,8 +59,10 @@ only_shut_kept level k key orderly kept on slot within = go (key.slot == slot) r
   where
     v : ℕ
     v = 4 * key.generation + 1
+
     away : is_shelved k.shelf key.slot ≡ false
     away = open_away k key.slot (4 * key.generation) orderly on.1 (λ e. omega (arith, e))
+
     go : (b : Bool) → (key.slot == slot) ≡ b → get_or (set k.levels key.slot (4 * key.generation + 1)) slot 0 ≡ level_kept (is_shelved k.shelf slot) (if b then level slot + 1 else level slot)
     go true here =
         let at = eqb-true key.slot slot here in
@@ -126,6 +129,7 @@ module _ (k : KeeperView) (key : GateKey) (orderly : IsOrderly k) (shut : KnownS
       or_nothing : (b : Bool) → (b || false) ≡ b
       or_nothing true = refl
       or_nothing false = refl
+
       level_at : (slot : ℕ) → is_shelved (k.shelf ++ key ∷ []) slot ≡ true → (b : Bool) → (key.slot == slot) ≡ b → get_or (set k.levels key.slot (4 * key.generation + 3)) slot 0 % 4 ≡ 3
       level_at slot on true here = let is = level_set k.levels key.slot slot v (eqb-true key.slot slot here) word in omega (arith, is)
       level_at slot on false other =
@@ -204,10 +208,11 @@ pub next_shut : (keys : List GateKey) (i : ℕ) (d : GateKey) (first now after :
     → (after.gate ≡ first.gate) × ShutsAll (take (i + 1) keys) first after × AreOpen after (drop (i + 1) keys)
 next_shut keys i d first now after within so_far shuts =
     let one_more : suc i ≡ i + 1 = omega arith in
-    let on : AreOpen now (get_or keys i d ∷ drop (i + 1) keys) = subst (λ ks. AreOpen now ks) (drop-cons keys i d within ∙ ap (λ n. get_or keys i d ∷ drop n keys) one_more) so_far.2 in
-    ((leaves_by (get_or keys i d) now after shuts).gate ∙ so_far.0,
-     subst (λ ks. ShutsAll ks first after) (sym (take_more keys i d within)) (shuts_more (take i keys) (get_or keys i d) first now after so_far.1 shuts),
-     open_left (get_or keys i d) (drop (i + 1) keys) now after shuts on.1 on.2)
+    let on : AreOpen now (get_or keys i d ∷ drop (i + 1) keys) = subst (λ ks. AreOpen now ks) (drop-cons keys i d within ∙ ap (λ n. get_or keys i d ∷ drop n keys) one_more) so_far.2 in (
+      (leaves_by (get_or keys i d) now after shuts).gate ∙ so_far.0,
+      subst (λ ks. ShutsAll ks first after) (sym (take_more keys i d within)) (shuts_more (take i keys) (get_or keys i d) first now after so_far.1 shuts),
+      open_left (get_or keys i d) (drop (i + 1) keys) now after shuts on.1 on.2,
+    )
 
 -- ---- a drain that is taken from the shelf
 
@@ -216,8 +221,10 @@ taken_kept level drain before after kept takes slot within = subst (λ (k : Keep
   where
     shelf_is : is_shelved before.shelf slot ≡ ((drain.key.slot == slot) || is_shelved after.shelf slot)
     shelf_is = ap (λ ks. is_shelved ks slot) takes.shelf
+
     go : (b : Bool) → (drain.key.slot == slot) ≡ b → level_kept (b || is_shelved after.shelf slot) (level slot) ≡ level_kept (is_shelved after.shelf slot) (if b then level slot + 2 else level slot)
     go true here = sym (ap (λ b. level_kept b (level slot + 2)) (subst (λ s. is_shelved after.shelf s ≡ false) (eqb-true drain.key.slot slot here) takes.can.away))
     go false other = refl
+
     at_rest : slot < slots_in before.gate → get_or before.levels slot 0 ≡ level_kept (is_shelved after.shelf slot) (with_more level drain.key.slot 2 slot)
     at_rest near = kept slot near ∙ ap (λ b. level_kept b (level slot)) shelf_is ∙ go (drain.key.slot == slot) refl

@@ -101,6 +101,7 @@ module _ (gate : TableId) where
       or_true : (b : Bool) → (b || true) ≡ true
       or_true true = refl
       or_true false = refl
+
       go : (b : Bool) → (slot == d.key.slot) ≡ b → (b || list_any (λ (s : ℕ). slot == s) (slots_on ds)) ≡ true → (list_any (λ (s : ℕ). slot == s) (slots_on ds) ≡ true → is_shelved (keys_held ds) slot ≡ true)
           → ((d.key.slot == slot) || is_shelved (keys_held ds) slot) ≡ true
       go true here also later = ap (λ b. b || is_shelved (keys_held ds) slot) (eq-eqb d.key.slot slot (sym (eqb-true slot d.key.slot here)))

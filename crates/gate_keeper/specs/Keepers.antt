@@ -2,7 +2,7 @@
 use Rattle.std.specs.Prelude.{◌≡◌, ℕ, ◌+◌, ◌*◌, ◌<◌, ◌≤◌, ◌⊎◌, ◌==◌, List, [], ◌∷◌, ◌++◌, Bool, true, false, if◌then◌else◌, length, map, slice_index, slice_set, Option, Some, None}
 use Rattle.std.specs.List.{list_any}
 use Rattle.atomic_table.specs.Seated.{TableId}
-use Rattle.call_gate.specs.Calls.{KnownClosed, KnownOpen, KnownShut, claimed_in, opened_in, shut_in, slots_in}
+use Rattle.call_gate.specs.Calls.{KnownClaimed, KnownClosed, KnownOpen, KnownShut, claimed_in, opened_in, shut_in, slots_in}
 use Rattle.call_gate.specs.Gates.{SeatView}
 use Rattle.call_gate.specs.Holders.{HeldKey, held}
 use Rattle.journal_core.specs.declared.entry.GateKey.{GateKey}
@@ -51,6 +51,21 @@ with_more level at more slot = if at == slot then level slot + more else level s
 -- those of the slots of these keys are shut, which were open
 abbrev pub with_shut_all : (ℕ → ℕ) → List GateKey → ℕ → ℕ
 with_shut_all level keys slot = if is_shelved keys slot then level slot + 1 else level slot
+
+-- ---- what the keeper knows by the equation
+
+-- these slots should be open under these keys, and are to be shut; no two are the same
+abbrev pub AreToShut : (ℕ → ℕ) → ℕ → List GateKey → Type 0
+AreToShut level slots [] = Unit {0}
+AreToShut level slots (key ∷ keys) = (key.slot < slots) × (level key.slot ≡ 4 * key.generation) × (is_shelved keys key.slot ≡ false) × AreToShut level slots keys
+
+-- the keeper knows a key as open where its slot should be open under it; as shut where it should be shut, or as claimed with the drain on the shelf;
+-- as claimed where it should be closed; and a key that it knows as claimed should be closed, or should be shut and its drain is on the shelf
+pub record KnowsKey (level : ℕ → ℕ) (k : KeeperView) (key : GateKey) : Type 0 where
+  pub opened : level key.slot ≡ 4 * key.generation → KnownOpen key k.levels
+  pub shut : level key.slot ≡ 4 * key.generation + 1 → KnownShut key k.levels ⊎ (KnownClaimed key k.levels × (is_shelved k.shelf key.slot ≡ true))
+  pub closed : level key.slot ≡ 4 * key.generation + 3 → KnownClaimed key k.levels
+  pub posted : KnownClaimed key k.levels → (4 * key.generation + 3 ≤ level key.slot) ⊎ ((level key.slot ≡ 4 * key.generation + 1) × (is_shelved k.shelf key.slot ≡ true))
 
 -- ---- what the calls do
 

@@ -2,7 +2,7 @@
 ghost use Rattle.atomic_table.specs.Seated.{TableId};
 ghost use Rattle.call_gate.specs.Calls.{slots_in};
 ghost use Rattle.call_gate.specs.Holders.{HeldKey};
-ghost use Rattle.gate_keeper.specs.Keepers.{AreOpen, CanReopen, Claims, IsKept, IsOrderly, KeeperView, ShutsAll, Takes, reopened, with_level, with_more, with_shut_all};
+ghost use Rattle.gate_keeper.specs.Keepers.{AreOpen, AreToShut, CanReopen, Claims, IsKept, IsOrderly, KeeperView, KnowsKey, ShutsAll, Takes, reopened, with_level, with_more, with_shut_all};
 ghost use Rattle.journal_core.specs.declared.entry.GateKey.{GateKey};
 ghost use Rattle.std.specs.Prelude.{◌≡◌, ◌+◌, ◌*◌, ◌<◌, ℕ, List, [], replicate};
 
@@ -36,4 +36,23 @@ pub fn note_told()
 #[tactic(auto, using(crate::proofs::Levels::taken_kept))]
 pub fn note_taken()
     ensures { (level : ℕ → ℕ) → (drain : HeldKey) → (before after : KeeperView) → IsKept level before → Takes drain before after → IsKept (with_more level drain.key.slot 2) after }
+{}
+
+/// For contracts alone: a keeper that knows each slot as it should be can open one that should be closed under the
+/// generation before this key's.
+#[tactic(auto, using(crate::proofs::Known::can_reopen))]
+pub fn note_can_reopen()
+    ensures { (level : ℕ → ℕ) → (k : KeeperView) → (key : GateKey) → IsOrderly k → IsKept level k → key.slot < slots_in k.gate → level key.slot + 1 ≡ 4 * key.generation → key.generation < 274877906944 → CanReopen k key }
+{}
+
+/// For contracts alone: it can shut slots that should be open under these keys.
+#[tactic(auto, using(crate::proofs::Known::can_shut))]
+pub fn note_can_shut()
+    ensures { (level : ℕ → ℕ) → (k : KeeperView) → (keys : List GateKey) → IsOrderly k → IsKept level k → AreToShut level (slots_in k.gate) keys → AreOpen k keys }
+{}
+
+/// For contracts alone: it knows each key of its gates by what the key's slot should be.
+#[tactic(auto, using(crate::proofs::Known::knows_key))]
+pub fn note_known()
+    ensures { (level : ℕ → ℕ) → (k : KeeperView) → (key : GateKey) → IsOrderly k → IsKept level k → key.slot < slots_in k.gate → KnowsKey level k key }
 {}

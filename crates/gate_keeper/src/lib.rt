@@ -11,4 +11,7 @@ mod laws;
 mod shutting;
 
 pub use keeper::Keeper;
-pub use laws::{note_first, note_reopened, note_shut, note_taken, note_told};
+pub use laws::{
+    note_can_reopen, note_can_shut, note_first, note_known, note_reopened, note_shut, note_taken,
+    note_told,
+};

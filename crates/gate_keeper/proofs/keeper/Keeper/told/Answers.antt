@@ -20,7 +20,7 @@ invariant_of-self c =
     let answer = c.in-Some.ensures.answer in
     let its = ap (λ (h : HeldKey). h.gate) answer.0 ∙ c.requires.own.1 ∙ sym c.requires.own.0 ∙ sym (ap (λ (k : KeeperView). k.gate) c.self.view_is) in
     let kept = moved_on old shelf _ c.self.invariant c.claim.new.seat key.slot (4 * key.generation + 3) c.in-Some.ensures.same
-        (ap (λ (v : GateView). v.keeps) answer.3) (ap (λ (v : GateView). v.inside) answer.3) (ap (λ (v : GateView). v.levels) answer.3)
-        (shut_is_away old shelf _ c.self.invariant key answer.2) drain its (ap (λ (h : HeldKey). h.key.slot) answer.0) (shut_word old shelf _ c.self.invariant key answer.2)
-        (sym (ap (λ (h : HeldKey). 4 * h.key.generation + 3) answer.0)) in
+    (ap (λ (v : GateView). v.keeps) answer.3) (ap (λ (v : GateView). v.inside) answer.3) (ap (λ (v : GateView). v.levels) answer.3)
+    (shut_is_away old shelf _ c.self.invariant key answer.2) drain its (ap (λ (h : HeldKey). h.key.slot) answer.0) (shut_word old shelf _ c.self.invariant key answer.2)
+    (sym (ap (λ (h : HeldKey). 4 * h.key.generation + 3) answer.0)) in
     subst (λ room. IsKeeper c.claim.new.seat c.push_reserved.new.self.items room) (sym c.push_reserved.ensures.capacity) (subst (λ (ds : List HeldKey). IsKeeper c.claim.new.seat ds (vec_capacity c.self.inside.shelf)) (sym c.push_reserved.ensures.items) kept)
