@@ -1,12 +1,12 @@
 -- What the type of a keeper keeps, at each of its calls.
-use Rattle.std.proofs.Common.{◌≡◌, ◌≢◌, ℕ, ◌+◌, ◌*◌, ◌<◌, ◌≤◌, ◌%◌, List, [], ◌∷◌, ◌++◌, length, get_or, set, refl, sym, ap, ◌∙◌, subst, arith, Bool, true, false}
+use Rattle.std.proofs.Common.{◌≡◌, ℕ, ◌+◌, ◌*◌, ◌<◌, ◌≤◌, List, [], ◌∷◌, ◌++◌, length, get_or, set, refl, sym, ap, ◌∙◌, subst, arith, false}
 use Rattle.std.proofs.lemmas.List.{length-set}
 use Rattle.atomic_table.specs.Seated.{TableId}
 use Rattle.call_gate.specs.Calls.{KnownOpen, KnownShut}
 use Rattle.call_gate.specs.Gates.{SeatView}
 use Rattle.call_gate.specs.Holders.{HeldKey}
 use Rattle.journal_core.specs.declared.entry.GateKey.{GateKey}
-use Rattle.gate_keeper.specs.Keepers.{AreShelved, CanComeBack, IsKeeper, IsOrderly, IsShelved, KeeperView, Takes, is_shelved, keeper_of, keys_held}
+use Rattle.gate_keeper.specs.Keepers.{AreShelved, CanComeBack, IsKeeper, IsOrderly, IsShelved, Takes, is_shelved, keeper_of, keys_held}
 use Rattle.gate_keeper.proofs.Shelves.{level_set, level_there, shelf_away, shelf_closed, shelf_pushed, shelf_room, shelf_set}
 
 module _ (seat : SeatView) (shelf : List HeldKey) (room : ℕ) (keeper : IsKeeper seat shelf room) where

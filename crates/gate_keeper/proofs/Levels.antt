@@ -1,5 +1,5 @@
 -- The keeper's levels stay as they should be.
-use Rattle.std.proofs.Common.{suc, take, ◌≡◌, ◌≢◌, ℕ, ◌+◌, ◌*◌, ◌<◌, ◌%◌, List, [], ◌∷◌, ◌++◌, length, get_or, set, refl, sym, ap, ◌∙◌, subst, arith, Bool, true, false, ◌||◌, inl, inr, ◌⊎◌}
+use Rattle.std.proofs.Common.{suc, take, ◌≡◌, ◌≢◌, ℕ, ◌+◌, ◌*◌, ◌<◌, ◌%◌, List, [], ◌∷◌, ◌++◌, length, get_or, set, refl, sym, ap, ◌∙◌, subst, arith, Bool, true, false, ◌||◌, inl, inr}
 use Rattle.std.specs.Prelude.{◌==◌, drop, replicate, if◌then◌else◌}
 use Rattle.std.proofs.Math.Seq.{drop-cons}
 use Rattle.std.proofs.lemmas.Bool.{both_ways, eq-eqb, eqb-true}

@@ -1,4 +1,4 @@
-use Rattle.std.proofs.Common.{rules, ◌≡◌, ◌+◌, ◌*◌, ◌++◌, [], ◌∷◌, List, ap, ◌∙◌, subst, sym}
+use Rattle.std.proofs.Common.{rules, ◌+◌, ◌*◌, List, ap, ◌∙◌, subst, sym}
 use Rattle.call_gate.specs.declared.rule.GateView.{GateView}
 use Rattle.call_gate.specs.Holders.{HeldKey}
 use Rattle.std.specs.Prelude.{vec_capacity}
