@@ -21,7 +21,8 @@ impl<K: Kinds + Drop> Hall<K> {
     /// drain it tries again.
     ///
     /// # Errors
-    /// Those of [`Core::command`](hall_locked::Core::command), by all that the pass has seen then. A refused command appends nothing.
+    /// Those of [`Core::command`](hall_locked::Core::command), by all that the pass has seen then. A refused command
+    /// appends nothing.
     #[tactic(auto, using(crate::proofs::Stretches::keeps_on))]
     pub fn command<R: Wait>(
         &self,
