@@ -97,7 +97,7 @@ enum Told<'t> {
     NoMemory,
 }
 
-fn told(fault: &WireFault) -> Told<'_> {
+fn told_by(fault: &WireFault) -> Told<'_> {
     match fault {
         WireFault::BadClause { at } => Told::Clause(*at),
         WireFault::BadVersion { at } => Told::Version(*at),
@@ -109,7 +109,7 @@ fn told(fault: &WireFault) -> Told<'_> {
 
 fn is_told(alloc: Global, headers: &str, wanted: &Told<'_>) -> bool {
     match wiring(alloc, headers) {
-        Some(Err(fault)) => told(&fault) == *wanted,
+        Some(Err(fault)) => told_by(&fault) == *wanted,
         _ => false,
     }
 }

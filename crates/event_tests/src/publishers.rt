@@ -230,7 +230,7 @@ impl Ended {
 }
 
 // What a hub comes to whose delivery takes so many posts.
-fn ended<R: Threads + Wait + Sync>(
+fn outcome<R: Threads + Wait + Sync>(
     rt: &R,
     alloc: Global,
     hub: EventHub,
@@ -255,7 +255,7 @@ fn ended<R: Threads + Wait + Sync>(
 // The same in a new hub, nothing where there is no memory.
 fn run<R: Threads + Wait + Sync>(rt: &R, alloc: Global, count: u64) -> Option<Ended> {
     match EventHub::new(alloc, 4) {
-        Ok((hub, publisher, delivery)) => Some(ended(rt, alloc, hub, publisher, delivery, count)),
+        Ok((hub, publisher, delivery)) => Some(outcome(rt, alloc, hub, publisher, delivery, count)),
         Err(_) => None,
     }
 }

@@ -30,10 +30,10 @@ module _ {s : Setting} {left left' : Option (List ℕ)} {pending : List ℕ} {fi
   ends_unanswered so_far left'' pending' after notes'' written'' line (LineTooLong at) next other answer = absurd answer
   ends_unanswered so_far left'' pending' after notes'' written'' line WriteFault next other (last, front, writes, is, wrote) =
       ends_in_line so_far left'' pending' after notes'' written'' line WriteFault last front (λ e. e) (λ others. writes) next other is wrote
-  ends_unanswered so_far left'' pending' after notes'' written'' line JournalFull next other (fills, is, same) =
+  ends_unanswered so_far left'' pending' after notes'' written'' line JournalFull next other (fills, (is, same)) =
       let P : Option (List ℕ) → Type 0 = λ w. Appends written' w [] in
       ends_in_line so_far left'' pending' after notes'' written'' line JournalFull [] [] (λ e. e) (λ others. (fills, (refl, refl))) next other (subst (λ w. w ≡ notes' ++ []) (sym is) (sym (append-nil notes'))) (subst P (sym same) (Appends-nil written'))
-  ends_unanswered so_far left'' pending' after notes'' written'' line NoMemory next other (wants, is, same) =
+  ends_unanswered so_far left'' pending' after notes'' written'' line NoMemory next other (wants, (is, same)) =
       let P : Option (List ℕ) → Type 0 = λ w. Appends written' w [] in
       ends_in_line so_far left'' pending' after notes'' written'' line NoMemory [] [] (λ e. e) (λ others. (inr wants, (refl, refl))) next other (subst (λ w. w ≡ notes' ++ []) (sym is) (sym (append-nil notes'))) (subst P (sym same) (Appends-nil written'))
 

@@ -1,12 +1,12 @@
 -- What a line comes to in a session, by what the hall answers.
-use Rattle.std.proofs.Common.{◌≡◌, ◌∙◌, ℕ, List, [], length, ap, sym, refl, subst, Bool, true, false, Ok, Err, Some}
+use Rattle.std.proofs.Common.{◌≡◌, ◌∙◌, ℕ, [], length, ap, refl, subst, true, Ok, Err, Some}
 use Rattle.std.specs.Prelude.{◌≢◌, Result}
 use Rattle.std.specs.declared.option.Option.{Option}
 use Rattle.hall_goings.specs.Went.{Went}
 use Rattle.platform_sessions.specs.Commands.{TakesCommand}
 use Rattle.platform_sessions.specs.Halls.{View, core_seen}
 use Rattle.platform_sessions.specs.Works.{Works}
-use Rattle.platform_shell.specs.Looks.{is_look}
+use Rattle.platform_shell.specs.Looks.{Looks, is_look}
 use Rattle.scr_world.specs.declared.command.Command.{Command as CoreCommand}
 use Rattle.scr_world.specs.declared.reply.CoreFault.{CoreFault}
 use Rattle.scr_world.specs.declared.reply.CoreFault.TheVariants.{NoBundle, NoComponent, WrongState, Stopping, SameName, Cycle, BundlesFull, ComponentsFull, ServicesFull, ConfigurationsFull, ListenersFull, NoService, NotOwner, NotUsing, NoListener, NoConfiguration, BadPid, FactoryClash, ActivationFailed, ActivationNoMemory, JournalFull as InCore, OutOfMemory as NoMemoryThere}
@@ -70,7 +70,7 @@ pub look_served : {E : Type 0} (s : Setting) (line asked : ShellLine) (before af
     → IsLooked asked (core_seen s.limits after) told → told ≡ Some (Ok reply) → item ≡ line_at front reply → ServesLook s line before after item
 look_served {E} s line asked before after front told reply item same went at looked tells is =
     let P : Option (Result ShellReply E) → Type 0 = λ t. IsLooked asked (core_seen s.limits after) t in
-    let Q : ShellLine → Type 0 = λ l. IsLooked l (core_seen s.limits after) (Some (Ok {T = ShellReply} {E = E} reply)) in
+    let Q : ShellLine → Type 0 = λ l. Looks l (core_seen s.limits after) reply in
     (went, (reply, subst Q same (subst P tells looked), is ∙ ap (λ n. line_at n reply) at))
 
 -- a line that looks is served as a look

@@ -1,5 +1,5 @@
 -- How far a session has come, and how it goes on.
-use Rattle.std.proofs.Common.{◌≡◌, ◌<◌, ◌≤◌, ℕ, List, [], ◌∷◌, ◌++◌, ap, sym, ◌∙◌, refl, subst, append_assoc, append-nil, true, false, inl, inr}
+use Rattle.std.proofs.Common.{◌≡◌, ◌<◌, ◌≤◌, ℕ, List, [], ◌∷◌, ◌++◌, ap, sym, ◌∙◌, refl, subst, append_assoc, append-nil, true, false}
 use Rattle.std.specs.declared.option.Option.{Option}
 use Rattle.std.specs.Io.KnownBytes.{Appends}
 use Rattle.std.proofs.KnownBytes.{Appends-trans, Appends-nil}
@@ -60,7 +60,7 @@ next_long : (number : ℕ) (lines rest : List Line) (line : Line) → lines ≡ 
 next_long number lines rest line is long = (rw (is, long_line line long) refl, rw (is, long_line line long) refl)
 
 -- the reading goes on behind a line
-goes_on : (left left' left'' : Option (List ℕ)) (pending pending' : List ℕ) (lines : List (List ℕ)) (number : ℕ) (line : List ℕ) → GoesOn left left' pending lines number
+pub goes_on : (left left' left'' : Option (List ℕ)) (pending pending' : List ℕ) (lines : List (List ℕ)) (number : ℕ) (line : List ℕ) → GoesOn left left' pending lines number
     → NextLine left' left'' pending pending' (OfLine line) → is_quit (shell_line line) ≡ false → GoesOn left left'' pending' (lines ++ line ∷ []) (next_count number)
 goes_on left left' left'' pending pending' lines number line so_far (size, short, next) other = λ more told.
     let here = next more told in

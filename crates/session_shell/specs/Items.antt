@@ -1,5 +1,5 @@
 -- What a line of a session comes to: what its pass had seen before, what it has seen afterwards, and what is noted. Our own.
-use Rattle.std.specs.Prelude.{◌≡◌, ℕ, List, [], ◌∷◌, length, Bool, false, Option, Some, None, Result, Ok, Err}
+use Rattle.std.specs.Prelude.{◌≡◌, ℕ, List, [], ◌∷◌, length, Bool, Option, Some, None, Result, Ok, Err}
 use Rattle.std.specs.Option.{option_map_or}
 use Rattle.hall_goings.specs.Went.{Went}
 use Rattle.kind_trait.specs.Meanings.{Told}

@@ -1,5 +1,4 @@
-use Rattle.std.proofs.Common.{◌≡◌, ◌∙◌, ap, sym, subst, refl, inl, false, Err, Ok, List, ℕ}
-use Rattle.std.specs.declared.option.Option.{Option}
+use Rattle.std.proofs.Common.{◌≡◌, ◌∙◌, ap, sym, subst, refl, inl, false, Err}
 use Rattle.fault_count.specs.Steps.{next_count}
 use Rattle.platform_sessions.proofs.Stretches.{keeps_itself, keeps_on}
 use Rattle.platform_shell.specs.Reading.{not_yet_read}
@@ -88,7 +87,7 @@ loop-line-preserved g c =
     let answer = c.in-Ok.ensures.answered in
     let R : Asked → Type 0 = λ a. ServesLine s a c.loop-line.pass.front c.answer_line.new.pass.front answer.0 in
     record {
-      reached = rw c.saturating_add.ensures (reached_line c.loop-line.invariant.reached (g.In.Source.left c.next_line.new.input) c.next_line.new.ahead.ended c.next_line.new.ahead.bytes.items c.answer_line.new.pass.front c.answer_line.new.notes.items (g.Out.Sink.written c.answer_line.new.output)
+      reached = rw c.saturating_add-number.ensures (reached_line c.loop-line.invariant.reached (g.In.Source.left c.next_line.new.input) c.next_line.new.ahead.ended c.next_line.new.ahead.bytes.items c.answer_line.new.pass.front c.answer_line.new.notes.items (g.Out.Sink.written c.answer_line.new.output)
           c.in-Line.line answer.0 c.in-Line.ensures.step c.in-Line.ensures.taken other (subst R (sym asked) answer.1) answer.2 answer.3);
       of = c.answer_line.ensures.of;
       keeps = keeps_on c.args.pass.now.front c.loop-line.pass.front c.answer_line.new.pass.front c.loop-line.invariant.keeps c.answer_line.ensures.keeps;
