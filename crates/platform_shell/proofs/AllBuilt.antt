@@ -5,6 +5,7 @@ use Rattle.std.specs.Option.{option_map_or}
 use Rattle.call_moves.specs.Evaluations.{Meaning}
 use Rattle.callback_orders.specs.declared.callback.Outcome.{Outcome}
 use Rattle.callback_orders.specs.declared.callback.Outcome.TheVariants.{Done as IsDone, Refused as IsRefused, NoMemory}
+use Rattle.http_wire.specs.declared.messages.Answered.{Answered}
 use Rattle.scr_calls.specs.declared.call_fault.CallFault.{CallFault}
 use Rattle.scr_calls.specs.declared.call_fault.CallFault.TheVariants.{Gone, NoObject, Pending, Refused as Declined, CallTooLong, Core, Settle as InSettling, OutOfMemory as CallNoMemory}
 use Rattle.scr_readers.specs.Events.{has_listener}
