@@ -59,8 +59,8 @@ def stale_library(top, over, libraries):
     return None
 
 
-def words_of_check(crate, only, kept):
-    """The words of rattle's check of these functions alone."""
+def words_of_check(crate, only, kept, by_sources=False):
+    """The words of rattle's check of these functions alone, over built libraries or over their sources."""
     functions = [it for name in only for it in ("--only", name)]
-    words = [*crate.words(["--jobs", "1"], keeps=False), *functions, "--incremental", kept]
+    words = [*crate.words(["--jobs", "1"], keeps=False, as_source=by_sources), *functions, "--incremental", kept]
     return [*RT.rtlib.guarded(), RT.rtlib.RATTLE, "check", *words]
