@@ -1,8 +1,8 @@
 //! The gates: one word for each slot, changed by single steps.
-ghost use Rattle.std.specs.Prelude.{◌≡◌, ◌≢◌, ◌+◌, ◌-◌, ◌*◌, ◌/◌, ◌%◌, ◌^◌, ◌<◌, ◌≤◌, ◌↔◌, true, false, if◌then◌else◌, replicate, [], ◌∷◌, length, slice_index, slice_set, IsTrue, IfOk, IfErr, IfSome, IfNone, MatchOption, MatchResult};
-ghost use Rattle.call_gate.specs.Gates.{SeatView, level_in, generation_in, stage_in, callers_in, with_inside, with_levels, with_look, with_shut, without, HasKey, LeavesLast};
+ghost use Rattle.std.specs.Prelude.{◌≡◌, ◌≢◌, ◌+◌, ◌-◌, ◌*◌, ◌/◌, ◌%◌, ◌^◌, ◌<◌, ◌≤◌, ◌↔◌, true, false, if◌then◌else◌, replicate, [], ◌∷◌, length, slice_index, slice_set, is_some, IsTrue, IfOk, IfErr, IfSome, IfNone, MatchOption, MatchResult};
+ghost use Rattle.call_gate.specs.Gates.{SeatView, level_in, generation_in, stage_in, callers_in, with_inside, with_levels, with_look, with_shut, without, HasKey, IsAlone, LeavesLast};
 ghost use Rattle.call_gate.specs.Starts.{first_view, seat_view, both_of};
-ghost use Rattle.call_gate.specs.Calls.{slots_in, KnownOpen, KnownClosed, KnownClaimed, NoneClaimed, opened_in, shut_in, told, gone_in, told_in, LastIs, EntersAs, ClaimsAs, ShutIs};
+ghost use Rattle.call_gate.specs.Calls.{slots_in, KnownOpen, KnownShut, KnownClosed, KnownClaimed, NoneClaimed, opened_in, shut_in, told, gone_in, told_in, LastIs, EntersAs, ClaimsAs, ShutIs};
 
 use crate::rule::{
     Beginning, Claim, Deal, Enter, GateView, Gates, Hear, Leave, Look, Mark, Raise, Shut, StepBack,
@@ -144,13 +144,14 @@ impl CallGate {
     }
 
     /// Shuts a gate that is open under the key, by one step from the keeper's seat. Tells the key as last exactly where
-    /// that step leaves the gate empty.
+    /// that step leaves the gate empty; so always where the keeper's seat has all of the places and nobody inside.
     pub fn shut(&self, seat: &mut GateSeat, key: GateKey) -> Option<Last>
         requires own { (seat.old.gate ≡ self.now) × (key.slot < slots_in self.now) }
         requires open { (seat.old.knows.keeps ≡ true) × KnownOpen key seat.old.knows.levels }
         ensures seat { seat.new ≡ record seat.old { knows = with_shut seat.old.knows key.slot (shut_in key seat.old.knows.levels) seat.new.knows.saw } }
         ensures last { ShutIs self.now key seat.new.knows.saw result }
         ensures told { seat.new.knows.lasts ≡ seat.old.knows.lasts + told result }
+        ensures alone { IsAlone seat.old.knows → is_some result ≡ true }
     {
         let found = self
             .table
@@ -168,12 +169,15 @@ impl CallGate {
 
     /// Claims the drain of a key that was told as last, by one try from the keeper's seat, which then knows the slot as
     /// closed. None exactly where the word isn't shut, unclaimed, empty and of the key's generation: it was claimed
-    /// before, or a caller is there, whose own step out tells the key again.
+    /// before, or a caller is there, whose own step out tells the key again. So a key that is known as shut is always claimed
+    /// where the keeper's seat has all of the places and nobody inside.
     pub fn claim(&self, seat: &mut GateSeat, last: Last) -> Option<Drain>
         requires own { (seat.old.gate ≡ self.now) × (last.gate ≡ self.now) }
         requires keeper { seat.old.knows.keeps ≡ true }
         ensures same { seat.new.gate ≡ seat.old.gate }
         ensures answer { ClaimsAs last seat.old.knows seat.new.knows result }
+        ensures slot { last.key.slot < slots_in self.now }
+        ensures alone { IsAlone seat.old.knows → KnownShut last.key seat.old.knows.levels → is_some result ≡ true }
     {
         let Last { key, of } = last;
         let level = 4 * key.generation + 1;

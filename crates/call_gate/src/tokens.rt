@@ -64,7 +64,9 @@ impl Last {
 }
 
 /// The right to tell that nobody is inside a key any more, and that nobody will be. There is at most one for each
-/// shutting. To a contract it is the key and the gates that it is of; its slot is one of theirs.
+/// shutting. To a contract it is the key and the gates that it is of; its slot is one of theirs. One that is let go is
+/// never told; whoever keeps drains says by its clauses which it has.
+#[derive(Drop)]
 pub struct Drain {
     pub(crate) key: GateKey,
     pub(crate) of: Seat<(), GateView>,

@@ -2,18 +2,19 @@
 use Rattle.std.proofs.Common.{◌≡◌, ℕ, ◌+◌, ◌*◌, ◌<◌, ◌≤◌, List, [], ◌∷◌, ◌++◌, length, get_or, set, refl, sym, ap, ◌∙◌, subst, arith, false}
 use Rattle.std.proofs.lemmas.List.{length-set}
 use Rattle.atomic_table.specs.Seated.{TableId}
-use Rattle.call_gate.specs.Calls.{KnownOpen, KnownShut}
+use Rattle.call_gate.specs.Calls.{KnownOpen, KnownShut, slots_in}
 use Rattle.call_gate.specs.Gates.{SeatView}
 use Rattle.call_gate.specs.Holders.{HeldKey}
 use Rattle.journal_core.specs.declared.entry.GateKey.{GateKey}
 use Rattle.gate_keeper.specs.Keepers.{AreShelved, CanComeBack, IsKeeper, IsOrderly, IsShelved, Takes, is_shelved, keeper_of, keys_held}
-use Rattle.gate_keeper.proofs.Shelves.{level_set, level_there, shelf_away, shelf_closed, shelf_pushed, shelf_room, shelf_set}
+use Rattle.gate_keeper.proofs.Shelves.{level_set, level_there, shelf_away, shelf_closed, shelf_pushed, shelf_room, shelf_set, shelf_within}
 
 module _ (seat : SeatView) (shelf : List HeldKey) (room : ℕ) (keeper : IsKeeper seat shelf room) where
   pub orderly : IsOrderly (keeper_of seat shelf)
   orderly = record {
     wide = keeper.wide;
     closed = λ slot on. let closed = shelf_closed seat.gate seat.knows.levels shelf slot keeper.drains on in let is = closed.1 in omega (arith, is);
+    within = λ slot on. shelf_within seat.gate seat.knows.levels shelf slot keeper.drains on;
   }
 
   -- an open slot is away from the shelf, and so is one that is shut
@@ -32,7 +33,7 @@ module _ (seat : SeatView) (shelf : List HeldKey) (room : ℕ) (keeper : IsKeepe
 
   -- and for one that comes back
   pub room_back : (drain : HeldKey) → CanComeBack (keeper_of seat shelf) drain → length shelf < room
-  room_back drain can = let fewer = shelf_room seat.gate seat.knows.levels shelf drain.key.slot keeper.drains can.word can.away in let places = keeper.places in omega (arith, fewer, places)
+  room_back drain can = let fewer = shelf_room seat.gate seat.knows.levels shelf drain.key.slot keeper.drains (let near = can.slot in omega (arith, near)) can.away in let places = keeper.places in omega (arith, fewer, places)
 
   -- the seat moved at one slot, which isn't on the shelf
   module _ (new : SeatView) (slot v : ℕ) (gate : new.gate ≡ seat.gate) (keeps : new.knows.keeps ≡ seat.knows.keeps) (inside : new.knows.inside ≡ seat.knows.inside) (levels : new.knows.levels ≡ set seat.knows.levels slot v)
@@ -50,7 +51,7 @@ module _ (seat : SeatView) (shelf : List HeldKey) (room : ℕ) (keeper : IsKeepe
     moved = record { keeps = keeps ∙ keeper.keeps; nobody = inside ∙ keeper.nobody; wide = wide_then; drains = drains_then; places = places_then }
 
     -- and its drain came on the shelf
-    pub moved_on : (drain : HeldKey) → drain.gate ≡ seat.gate → drain.key.slot ≡ slot → slot < seat.gate.words → v ≡ 4 * drain.key.generation + 3 → IsKeeper new (shelf ++ drain ∷ []) room
+    pub moved_on : (drain : HeldKey) → drain.gate ≡ seat.gate → drain.key.slot ≡ slot → slot < slots_in seat.gate → v ≡ 4 * drain.key.generation + 3 → IsKeeper new (shelf ++ drain ∷ []) room
     moved_on drain its at within is = record {
       keeps = keeps ∙ keeper.keeps;
       nobody = inside ∙ keeper.nobody;
@@ -65,7 +66,7 @@ module _ (seat : SeatView) (shelf : List HeldKey) (room : ℕ) (keeper : IsKeepe
         own : IsShelved new.gate new.knows.levels drain
         own = record {
           gate_is = its ∙ sym gate;
-          word = subst (λ (z : TableId). drain.key.slot < z.words) (sym gate) (subst (λ s. s < seat.gate.words) (sym at) within);
+          slot = subst (λ (z : TableId). drain.key.slot < slots_in z) (sym gate) (subst (λ s. s < slots_in seat.gate) (sym at) within);
           closed = ap (λ ls. get_or ls drain.key.slot 0) levels ∙ level_set seat.knows.levels slot drain.key.slot v (sym at) near ∙ is;
         }
 
@@ -76,7 +77,7 @@ module _ (seat : SeatView) (shelf : List HeldKey) (room : ℕ) (keeper : IsKeepe
     nobody = keeper.nobody;
     wide = keeper.wide;
     places = keeper.places;
-    drains = (record { gate_is = can.gate; word = can.word; closed = can.closed }, can.away, keeper.drains);
+    drains = (record { gate_is = can.gate; slot = can.slot; closed = can.closed }, can.away, keeper.drains);
   }
 
 -- the first drain is taken
@@ -89,5 +90,5 @@ module _ (seat : SeatView) (drain : HeldKey) (shelf : List HeldKey) (room : ℕ)
     gate = keeper.drains.0.gate_is;
     shelf = refl;
     rest = refl;
-    can = record { gate = keeper.drains.0.gate_is; word = keeper.drains.0.word; closed = keeper.drains.0.closed; away = keeper.drains.1 };
+    can = record { gate = keeper.drains.0.gate_is; slot = keeper.drains.0.slot; closed = keeper.drains.0.closed; away = keeper.drains.1 };
   }

@@ -7,7 +7,7 @@ use Rattle.gate_keeper.specs.Keepers.{AreOpen, AreToShut, CanReopen, IsKept, IsO
 
 module _ (level : ℕ → ℕ) (k : KeeperView) (orderly : IsOrderly k) (kept : IsKept level k) where
   -- a slot is on the shelf, where it should be shut, or it isn't, and its level is as it should be
-  by_shelf : (slot : ℕ) → slot < slots_in k.gate
+  pub by_shelf : (slot : ℕ) → slot < slots_in k.gate
       → ((is_shelved k.shelf slot ≡ true) × (get_or k.levels slot 0 ≡ level slot + 2) × (get_or k.levels slot 0 % 4 ≡ 3)) ⊎ ((is_shelved k.shelf slot ≡ false) × (get_or k.levels slot 0 ≡ level slot))
   by_shelf slot within = go (is_shelved k.shelf slot) refl
     where

@@ -76,6 +76,7 @@ pub orderly_set : (k : KeeperView) (at v : ℕ) → is_shelved k.shelf at ≡ fa
 orderly_set k at v away orderly = record {
   wide = length-set k.levels at v ∙ orderly.wide;
   closed = λ slot on. level_away slot on (at == slot) refl;
+  within = orderly.within;
 }
   where
     level_away : (slot : ℕ) → is_shelved k.shelf slot ≡ true → (b : Bool) → (at == slot) ≡ b → get_or (set k.levels at v) slot 0 % 4 ≡ 3
@@ -120,29 +121,37 @@ module _ (k : KeeperView) (key : GateKey) (orderly : IsOrderly k) (shut : KnownS
           or_nothing true = refl
           or_nothing false = refl
 
-  pub shelved_orderly : IsOrderly (shelved key k)
-  shelved_orderly = record {
+  pub shelved_orderly : key.slot < slots_in k.gate → IsOrderly (shelved key k)
+  shelved_orderly near = record {
     wide = length-set k.levels key.slot (4 * key.generation + 3) ∙ orderly.wide;
     closed = λ slot on. level_at slot on (key.slot == slot) refl;
+    within = λ slot on. slot_at slot on (key.slot == slot) refl;
   }
     where
       or_nothing : (b : Bool) → (b || false) ≡ b
       or_nothing true = refl
       or_nothing false = refl
 
+      was_on : (slot : ℕ) → is_shelved (k.shelf ++ key ∷ []) slot ≡ true → (key.slot == slot) ≡ false → is_shelved k.shelf slot ≡ true
+      was_on slot on other = sym (or_nothing (is_shelved k.shelf slot)) ∙ ap (λ b. is_shelved k.shelf slot || b) (sym other) ∙ sym (shelved_more k.shelf key slot) ∙ on
+
+      slot_at : (slot : ℕ) → is_shelved (k.shelf ++ key ∷ []) slot ≡ true → (b : Bool) → (key.slot == slot) ≡ b → slot < slots_in k.gate
+      slot_at slot on true here = subst (λ s. s < slots_in k.gate) (eqb-true key.slot slot here) near
+      slot_at slot on false other = orderly.within slot (was_on slot on other)
+
       level_at : (slot : ℕ) → is_shelved (k.shelf ++ key ∷ []) slot ≡ true → (b : Bool) → (key.slot == slot) ≡ b → get_or (set k.levels key.slot (4 * key.generation + 3)) slot 0 % 4 ≡ 3
       level_at slot on true here = let is = level_set k.levels key.slot slot v (eqb-true key.slot slot here) word in omega (arith, is)
       level_at slot on false other =
           ap (λ n. n % 4) (level_other k.levels key.slot slot v other)
-          ∙ orderly.closed slot (sym (or_nothing (is_shelved k.shelf slot)) ∙ ap (λ b. is_shelved k.shelf slot || b) (sym other) ∙ sym (shelved_more k.shelf key slot) ∙ on)
+          ∙ orderly.closed slot (was_on slot on other)
 
 pub told_kept : (level : ℕ → ℕ) (key : GateKey) (before after : KeeperView) → IsOrderly before → IsKept level before → Claims key before after → IsKept level after
 told_kept level key before after orderly kept (inl same) = subst (IsKept level) (sym same) kept
 told_kept level key before after orderly kept (inr (shut, is)) = subst (IsKept level) (sym is) (shelved_kept before key orderly shut level kept)
 
-told_orderly : (key : GateKey) (before after : KeeperView) → IsOrderly before → Claims key before after → IsOrderly after
-told_orderly key before after orderly (inl same) = subst IsOrderly (sym same) orderly
-told_orderly key before after orderly (inr (shut, is)) = subst IsOrderly (sym is) (shelved_orderly before key orderly shut)
+told_orderly : (key : GateKey) (before after : KeeperView) → key.slot < slots_in before.gate → IsOrderly before → Claims key before after → IsOrderly after
+told_orderly key before after near orderly (inl same) = subst IsOrderly (sym same) orderly
+told_orderly key before after near orderly (inr (shut, is)) = subst IsOrderly (sym is) (shelved_orderly before key orderly shut near)
 
 -- ---- a gate that is shut, and its drain that is claimed
 
@@ -151,7 +160,7 @@ shut_kept level key before after orderly kept on shuts =
     told_kept (with_more level key.slot 1) key (only_shut key before) after (only_shut_orderly before key orderly on) (only_shut_kept level before key orderly kept on) shuts
 
 pub shut_orderly : (key : GateKey) (before after : KeeperView) → IsOrderly before → IsOpen before key → Shuts key before after → IsOrderly after
-shut_orderly key before after orderly on shuts = told_orderly key (only_shut key before) after (only_shut_orderly before key orderly on) shuts
+shut_orderly key before after orderly on shuts = told_orderly key (only_shut key before) after on.0 (only_shut_orderly before key orderly on) shuts
 
 -- what a shutting leaves of the gates and of the other levels
 pub record Leaves (key : GateKey) (before after : KeeperView) : Type 0 where

@@ -1,4 +1,5 @@
 mod Shelves
-mod Levels
+pub mod Levels
 mod Keeping
-mod Known
+pub mod Known
+pub mod Alone

@@ -6,6 +6,7 @@ use Rattle.std.proofs.lemmas.Bool.{both_ways, eq-eqb, eqb-true}
 use Rattle.std.proofs.lemmas.List.Folds.{list_any-append}
 use Rattle.std.proofs.lemmas.Map.Steps.{length-le_from_distinct_below}
 use Rattle.atomic_table.specs.Seated.{TableId}
+use Rattle.call_gate.specs.Calls.{slots_in}
 use Rattle.call_gate.specs.Holders.{HeldKey}
 use Rattle.journal_core.specs.declared.entry.GateKey.{GateKey}
 use Rattle.gate_keeper.specs.Keepers.{AreShelved, IsShelved, is_shelved, keys_held}
@@ -58,7 +59,7 @@ module _ (gate : TableId) where
   shelf_set ls at v [] away h = tt
   shelf_set ls at v (d ∷ ds) away h =
       let parts = or_false (d.key.slot == at) (is_shelved (keys_held ds) at) away in
-      (record { gate_is = h.0.gate_is; word = h.0.word; closed = get_or-set_other ls at d.key.slot v 0 (λ e. both_ways (d.key.slot == at) parts.0 (eq-eqb d.key.slot at e)) ∙ h.0.closed }, h.1, shelf_set ls at v ds parts.1 h.2)
+      (record { gate_is = h.0.gate_is; slot = h.0.slot; closed = get_or-set_other ls at d.key.slot v 0 (λ e. both_ways (d.key.slot == at) parts.0 (eq-eqb d.key.slot at e)) ∙ h.0.closed }, h.1, shelf_set ls at v ds parts.1 h.2)
 
   -- a drain more
   pub shelf_pushed : (ls : List ℕ) (ds : List HeldKey) (d : HeldKey) → IsShelved gate ls d → is_shelved (keys_held ds) d.key.slot ≡ false → AreShelved gate ls ds → AreShelved gate ls (ds ++ d ∷ [])
@@ -118,12 +119,12 @@ module _ (gate : TableId) where
   distinct ls [] h = tt
   distinct ls (d ∷ ds) h = (apart_from ds d.key.slot h.1, distinct ls ds h.2)
 
-  shelf_within : (ls : List ℕ) (ds : List HeldKey) (slot : ℕ) → AreShelved gate ls ds → is_shelved (keys_held ds) slot ≡ true → slot < gate.words
+  pub shelf_within : (ls : List ℕ) (ds : List HeldKey) (slot : ℕ) → AreShelved gate ls ds → is_shelved (keys_held ds) slot ≡ true → slot < slots_in gate
   shelf_within ls [] slot h on = absurd (both_ways false refl on)
   shelf_within ls (d ∷ ds) slot h on = go (d.key.slot == slot) refl on (shelf_within ls ds slot h.2)
     where
-      go : (b : Bool) → (d.key.slot == slot) ≡ b → (b || is_shelved (keys_held ds) slot) ≡ true → (is_shelved (keys_held ds) slot ≡ true → slot < gate.words) → slot < gate.words
-      go true here also later = subst (λ s. s < gate.words) (eqb-true d.key.slot slot here) h.0.word
+      go : (b : Bool) → (d.key.slot == slot) ≡ b → (b || is_shelved (keys_held ds) slot) ≡ true → (is_shelved (keys_held ds) slot ≡ true → slot < slots_in gate) → slot < slots_in gate
+      go true here also later = subst (λ s. s < slots_in gate) (eqb-true d.key.slot slot here) h.0.slot
       go false other also later = later also
 
   slots_length : (ds : List HeldKey) → length (slots_on ds) ≡ length ds
@@ -146,4 +147,4 @@ module _ (gate : TableId) where
         where
           go : (b : Bool) → (q == slot) ≡ b → (b || list_any (eqb q) (slots_on ds)) ≡ true → q < gate.words
           go true here also = subst (λ s. s < gate.words) (sym (eqb-true q slot here)) within
-          go false other also = shelf_within ls ds q h (on_slots ds q also)
+          go false other also = let near = shelf_within ls ds q h (on_slots ds q also) in omega (arith, near)

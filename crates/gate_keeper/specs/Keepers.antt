@@ -1,5 +1,5 @@
 -- The keeper of gates, as contracts see it, and what its calls do. Our own.
-use Rattle.std.specs.Prelude.{◌≡◌, ℕ, ◌+◌, ◌*◌, ◌<◌, ◌≤◌, ◌⊎◌, ◌==◌, List, [], ◌∷◌, ◌++◌, Bool, true, false, if◌then◌else◌, length, map, slice_index, Option, Some, None}
+use Rattle.std.specs.Prelude.{◌≡◌, ◌≢◌, ℕ, ◌+◌, ◌*◌, ◌%◌, ◌<◌, ◌≤◌, ◌⊎◌, ◌==◌, List, [], ◌∷◌, ◌++◌, Bool, true, false, if◌then◌else◌, length, map, slice_index, Option, Some, None}
 use Rattle.std.specs.List.{list_any}
 use Rattle.atomic_table.specs.Seated.{TableId}
 use Rattle.call_gate.specs.Calls.{KnownClaimed, KnownClosed, KnownOpen, KnownShut, claimed_in, opened_in, shut_in, slots_in}
@@ -33,10 +33,11 @@ level_kept shelved level = if shelved then level + 2 else level
 abbrev pub IsKept : (ℕ → ℕ) → KeeperView → Type 0
 IsKept level k = (slot : ℕ) → slot < slots_in k.gate → slice_index k.levels slot ≡ level_kept (is_shelved k.shelf slot) (level slot)
 
--- what a keeper always knows: the level of each word of the gates; and a slot whose drain is on the shelf is closed
+-- what a keeper always knows: the level of each word of the gates; and a slot whose drain is on the shelf is one of the gates', and is closed
 pub record IsOrderly (k : KeeperView) : Type 0 where
   pub wide : length k.levels ≡ k.gate.words
   pub closed : (slot : ℕ) → is_shelved k.shelf slot ≡ true → KnownClosed slot k.levels
+  pub within : (slot : ℕ) → is_shelved k.shelf slot ≡ true → slot < slots_in k.gate
 
 -- ---- levels as they should be, and a change of them
 
@@ -100,7 +101,7 @@ Claims key before after = (after ≡ before) ⊎ (KnownShut key before.levels ×
 -- a drain of these gates, whose slot is closed under its key, and isn't on the shelf
 pub record CanComeBack (k : KeeperView) (drain : HeldKey) : Type 0 where
   pub gate : drain.gate ≡ k.gate
-  pub word : drain.key.slot < k.gate.words
+  pub slot : drain.key.slot < slots_in k.gate
   pub closed : slice_index k.levels drain.key.slot ≡ 4 * drain.key.generation + 3
   pub away : is_shelved k.shelf drain.key.slot ≡ false
 
@@ -112,6 +113,26 @@ Shuts key before after = Claims key (record before { levels = shut_in key before
 abbrev pub ShutsAll : List GateKey → KeeperView → KeeperView → Type 0
 ShutsAll [] before after = after ≡ before
 ShutsAll (key ∷ keys) before after = (between : KeeperView) × Shuts key before between × ShutsAll keys between after
+
+-- ---- a keeper that has all places
+
+-- its seat has all of the 2^24 - 1 places: so nobody else can be inside a gate
+abbrev pub HasAll : KeeperView → Type 0
+HasAll k = k.places ≡ 16777215
+
+-- a gate is shut, and its drain is on the shelf at once
+abbrev pub shut_and_shelved : GateKey → KeeperView → KeeperView
+shut_and_shelved key k = shelved key (record k { levels = shut_in key k.levels })
+
+abbrev pub all_shelved : List GateKey → KeeperView → KeeperView
+all_shelved [] k = k
+all_shelved (key ∷ keys) k = all_shelved keys (shut_and_shelved key k)
+
+-- no gate is shut for the keeper: each is open or closed
+abbrev pub NoneShut : KeeperView → Type 0
+NoneShut k = (slot : ℕ) → slice_index k.levels slot % 4 ≢ 1
+
+-- ---- drains that are taken
 
 -- something is on the shelf
 abbrev pub is_some_key : List GateKey → Bool
@@ -135,7 +156,7 @@ TakesFirst None before after = (before.shelf ≡ []) × (after ≡ before)
 -- the drain of a key of these gates, which is closed under it
 pub record IsShelved (gate : TableId) (levels : List ℕ) (drain : HeldKey) : Type 0 where
   pub gate_is : drain.gate ≡ gate
-  pub word : drain.key.slot < gate.words
+  pub slot : drain.key.slot < slots_in gate
   pub closed : slice_index levels drain.key.slot ≡ 4 * drain.key.generation + 3
 
 -- drains of different slots

@@ -1,7 +1,7 @@
 //! The keeper.
-ghost use Rattle.call_gate.specs.Calls.{slots_in};
+ghost use Rattle.call_gate.specs.Calls.{KnownShut, slots_in};
 ghost use Rattle.call_gate.specs.Starts.{seat_view};
-ghost use Rattle.gate_keeper.specs.Keepers.{CanComeBack, CanReopen, Claims, IsOpen, IsOrderly, Shuts, TakesFirst, is_some_key, reopened};
+ghost use Rattle.gate_keeper.specs.Keepers.{CanComeBack, CanReopen, Claims, HasAll, IsOpen, IsOrderly, Shuts, TakesFirst, is_some_key, reopened, shelved, shut_and_shelved};
 ghost use Rattle.std.specs.Prelude.{◌≡◌, ◌+◌, ◌-◌, ◌<◌, ◌≤◌, [], ◌∷◌, IfOk, replicate};
 
 use call_gate::{CallGate, Drain, GateSeat, Last};
@@ -15,6 +15,7 @@ use std::marker::Model;
 ///
 /// Nobody is inside a gate from its own seat. Each drain on the shelf is of a slot that it knows as closed under the
 /// drain's key, and no two are of one slot.
+#[derive(Drop)]
 pub struct Keeper {
     seat: GateSeat,
     shelf: Vec<Drain>,
@@ -74,11 +75,13 @@ impl Keeper {
     }
 
     /// Shuts a gate that is open under this key. Where nobody is inside then its drain is claimed at once, and is the last
-    /// on the shelf; else whoever leaves it last is told so. It takes no memory.
+    /// on the shelf; else whoever leaves it last is told so. Where the keeper has all of the places nobody is. It takes no
+    /// memory.
     pub fn shut(&mut self, gate: &CallGate, key: GateKey)
         requires own { self.old.gate ≡ gate.now }
         requires open { IsOpen self.old key }
-        ensures { Shuts key self.old self.new }
+        ensures shut { Shuts key self.old self.new }
+        ensures alone { HasAll self.old → self.new ≡ shut_and_shelved key self.old }
     {
         match gate.shut(&mut self.seat, key) {
             Some(last) => self.told(gate, last),
@@ -87,10 +90,12 @@ impl Keeper {
     }
 
     /// Takes the key of a gate that was left last: its drain is claimed, and is the last on the shelf. Where it can't be
-    /// claimed, since it was claimed before or somebody is inside, all stays as it was. It takes no memory.
+    /// claimed, since it was claimed before or somebody is inside, all stays as it was. Where the keeper has all of the
+    /// places, a gate that it knows as shut is always claimed. It takes no memory.
     pub fn told(&mut self, gate: &CallGate, last: Last)
         requires own { (self.old.gate ≡ gate.now) × (last.gate ≡ gate.now) }
-        ensures { Claims last.key self.old self.new }
+        ensures claims { Claims last.key self.old self.new }
+        ensures alone { HasAll self.old → KnownShut last.key self.old.levels → self.new ≡ shelved last.key self.old }
     {
         match gate.claim(&mut self.seat, last) {
             Some(drain) => self.shelf.push_reserved(drain),
@@ -133,15 +138,5 @@ impl Keeper {
             Ok(()) => {}
             Err(_) => unreachable!(),
         }
-    }
-
-    /// Lets the keeper go, with the drains on its shelf.
-    pub fn let_go(self) {
-        let Keeper { seat, mut shelf } = self;
-        drop(seat);
-        while let Some(drain) = shelf.pop() {
-            drain.spend();
-        }
-        shelf.destroy_empty();
     }
 }

@@ -2,9 +2,9 @@
 ghost use Rattle.atomic_table.specs.Seated.{TableId};
 ghost use Rattle.call_gate.specs.Calls.{slots_in};
 ghost use Rattle.call_gate.specs.Holders.{HeldKey};
-ghost use Rattle.gate_keeper.specs.Keepers.{AreOpen, AreToShut, CanReopen, Claims, IsKept, IsOrderly, KeeperView, KnowsKey, ShutsAll, Takes, reopened, with_level, with_more, with_shut_all};
+ghost use Rattle.gate_keeper.specs.Keepers.{AreOpen, AreToShut, CanReopen, Claims, IsKept, IsOrderly, KeeperView, KnowsKey, NoneShut, ShutsAll, Takes, all_shelved, is_shelved, reopened, with_level, with_more, with_shut_all};
 ghost use Rattle.journal_core.specs.declared.entry.GateKey.{GateKey};
-ghost use Rattle.std.specs.Prelude.{◌≡◌, ◌+◌, ◌*◌, ◌<◌, ℕ, List, [], replicate};
+ghost use Rattle.std.specs.Prelude.{◌≡◌, ◌+◌, ◌*◌, ◌%◌, ◌<◌, ℕ, List, [], replicate, true};
 
 /// For contracts alone: the keeper of gates that are made knows each slot as it should be, where that is closed under the
 /// generation 0.
@@ -55,4 +55,18 @@ pub fn note_can_shut()
 #[tactic(auto, using(crate::proofs::Known::knows_key))]
 pub fn note_known()
     ensures { (level : ℕ → ℕ) → (k : KeeperView) → (key : GateKey) → IsOrderly k → IsKept level k → key.slot < slots_in k.gate → KnowsKey level k key }
+{}
+
+/// For contracts alone: a keeper for which no gate is shut has none once it has shut some, where the drain of each came on
+/// the shelf at once.
+#[tactic(auto, using(crate::proofs::Alone::all_none))]
+pub fn note_none_shut()
+    ensures { (keys : List GateKey) → (k : KeeperView) → NoneShut k → NoneShut (all_shelved keys k) }
+{}
+
+/// For contracts alone: where no gate is shut for a keeper that knows each slot as it should be, the drain of each slot
+/// that should be shut is on the shelf.
+#[tactic(auto, using(crate::proofs::Alone::shut_is_shelved))]
+pub fn note_shelved()
+    ensures { (level : ℕ → ℕ) → (k : KeeperView) → IsOrderly k → IsKept level k → NoneShut k → (slot : ℕ) → slot < slots_in k.gate → level slot % 4 ≡ 1 → is_shelved k.shelf slot ≡ true }
 {}

@@ -12,6 +12,6 @@ mod shutting;
 
 pub use keeper::Keeper;
 pub use laws::{
-    note_can_reopen, note_can_shut, note_first, note_known, note_reopened, note_shut, note_taken,
-    note_told,
+    note_can_reopen, note_can_shut, note_first, note_known, note_none_shut, note_reopened,
+    note_shelved, note_shut, note_taken, note_told,
 };

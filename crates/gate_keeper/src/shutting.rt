@@ -1,5 +1,5 @@
 //! Gates that are shut one after the other.
-ghost use Rattle.gate_keeper.specs.Keepers.{AreOpen, ShutsAll};
+ghost use Rattle.gate_keeper.specs.Keepers.{AreOpen, HasAll, ShutsAll, all_shelved};
 ghost use Rattle.std.specs.Prelude.{◌≡◌};
 
 use crate::keeper::Keeper;
@@ -8,11 +8,13 @@ use journal_core::GateKey;
 
 impl Keeper {
     /// Shuts these gates in their order, each of which is open under its key, and no two of which have one slot: so the
-    /// drains of those in which nobody is come on the shelf in this order. It takes no memory.
+    /// drains of those in which nobody is come on the shelf in this order; where the keeper has all of the places, those of
+    /// all. It takes no memory.
     pub fn shut_all(&mut self, gate: &CallGate, keys: &[GateKey])
         requires own { self.old.gate ≡ gate.now }
         requires open { AreOpen self.old keys.now }
-        ensures { ShutsAll keys.now self.old self.new }
+        ensures shut { ShutsAll keys.now self.old self.new }
+        ensures alone { HasAll self.old → self.new ≡ all_shelved keys.now self.old }
     {
         for key in keys.iter() {
             self.shut(gate, *key);
