@@ -47,6 +47,7 @@ fn shown_numbers(alloc: Global, numbers: &[u64]) -> Result<String, OutOfMemory>
     match numbers {
         [] => String::from_str(alloc, "-"),
         [first, others @ ..] => {
+            let first = *first;
             let mut text = format!(in alloc; "{first}")?;
             text.push_str(each_behind_a_comma(alloc, others)?.as_str())?;
             Ok(text)
@@ -58,7 +59,7 @@ fn each_behind_a_comma(alloc: Global, numbers: &[u64]) -> Result<String, OutOfMe
     ensures { IfOk result (λ text. string_bytes text ≡ flat_map (λ next. codes "," ++ next) (map decimal numbers.now)) }
 {
     let mut text = String::new(alloc);
-    for number in numbers {
+    for &number in numbers {
         text.push_str(",")?;
         text.push_str(format!(in alloc; "{number}")?.as_str())?;
     }
