@@ -5,6 +5,7 @@ use Rattle.std.specs.Option.{option_map_or}
 use Rattle.call_moves.specs.Evaluations.{Meaning}
 use Rattle.callback_orders.specs.declared.callback.Outcome.{Outcome}
 use Rattle.callback_orders.specs.declared.callback.Outcome.TheVariants.{Done as IsDone, Refused as IsRefused, NoMemory}
+use Rattle.config_admin.specs.Configurations.{of_pid}
 use Rattle.http_wire.specs.declared.messages.Answered.{Answered}
 use Rattle.scr_calls.specs.declared.call_fault.CallFault.{CallFault}
 use Rattle.scr_calls.specs.declared.call_fault.CallFault.TheVariants.{Gone, NoObject, Pending, Refused as Declined, CallTooLong, Core, Settle as InSettling, OutOfMemory as CallNoMemory}
@@ -18,7 +19,7 @@ use Rattle.platform_hall.specs.Cores.{CoreView}
 use Rattle.platform_hall.specs.Platforms.{world}
 use Rattle.platform_hall.specs.declared.finish_fault.FinishFault.{FinishFault}
 use Rattle.platform_hall.specs.declared.finish_fault.FinishFault.TheVariants.{NoTurn as NoSuchTurn, OutOfMemory as NoMemoryLeft}
-use Rattle.shell_lang.specs.declared.shell_line.ShellLine.TheVariants.{Silent, Quit, Help, Command as Commanded, Bundles, Services, Components, Report, Held, Find, Events, BundleEvents, Trace, Wiring, BundleWiring, Routes, Settle, Begin, Finish, Call, Http}
+use Rattle.shell_lang.specs.declared.shell_line.ShellLine.TheVariants.{Silent, Quit, Help, Command as Commanded, Bundles, Services, Components, Report, Held, Find, Events, BundleEvents, Trace, Wiring, BundleWiring, Routes, Configurations, Configuration, Listeners, Journal, Settle, Begin, Finish, Call, Http}
 use Rattle.shell_lang.specs.declared.shell_reply.Refusal.TheVariants.{NotBuilt}
 use Rattle.shell_lang.specs.declared.shell_reply.ShellReply.{ShellReply}
 use Rattle.shell_lang.specs.declared.shell_reply.ShellReply.TheVariants.{Refused}
@@ -26,6 +27,7 @@ use Rattle.shell_lang.specs.ShellLines.{Asked}
 use Rattle.wiring_reader.specs.declared.wiring_line.NeedLine.{NeedLine}
 use Rattle.platform_shell.specs.Asks.{Asks, AsksBegin, AsksFinish, Manually, Setting, TellsBegun, TellsFinished, command_reply, events_reply, held_reply, report_reply}
 use Rattle.platform_shell.specs.Calling.{TellsCall}
+use Rattle.platform_shell.specs.Listings.{configuration_reply}
 use Rattle.platform_shell.specs.Requests.{AnswersFound, AnswersSized, greatest_body}
 use Rattle.platform_shell.specs.Wiring.{bundle_reply}
 
@@ -125,6 +127,11 @@ asks_built s (Ok Wiring) before after told (reply, is, (lines, tells, replied, s
 asks_built s (Ok (BundleWiring bundle)) before after told (reply, is, (lines, tells, replied, same)) =
     told_built told reply is (reply_built reply _ replied (bundle_built bundle lines))
 asks_built s (Ok Routes) before after told (is, same) = told_built told _ is tt
+asks_built s (Ok Configurations) before after told (is, same) = told_built told _ is tt
+asks_built s (Ok (Configuration pid)) before after told (is, same) =
+    told_built told (configuration_reply (world before) pid) is (mapped_built _ (of_pid pid (world before).configurations) _ (λ k. tt) tt)
+asks_built s (Ok Listeners) before after told (is, same) = told_built told _ is tt
+asks_built s (Ok Journal) before after told (is, same) = told_built told _ is tt
 asks_built s (Ok Settle) before after told (reply, is, (count, settles, replied)) = told_built told reply is (reply_built reply _ replied tt)
 asks_built s (Ok Begin) before after told (reply, is, asked) =
     told_built told reply is (manually_built s.is_manual AsksBegin before after reply (λ begun. begun_built after begun.0 reply begun.2) asked)

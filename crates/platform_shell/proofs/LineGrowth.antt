@@ -16,7 +16,7 @@ use Rattle.turn_runner.specs.declared.settle_fault.SettleFault.TheVariants.{Unse
 use Rattle.platform_hall.specs.declared.finish_fault.FinishFault.{FinishFault}
 use Rattle.platform_hall.specs.declared.finish_fault.FinishFault.TheVariants.{NoTurn as NoSuchTurn, OutOfMemory as NoMemoryLeft}
 use Rattle.platform_hall.specs.Platforms.{BeginsTurn, Finishes, FinishesTurn}
-use Rattle.shell_lang.specs.declared.shell_line.ShellLine.TheVariants.{Silent, Quit, Help, Command as Commanded, Bundles, Services, Components, Report, Held, Find, Events, BundleEvents, Trace, Wiring, BundleWiring, Routes, Settle, Begin, Finish, Call, Http}
+use Rattle.shell_lang.specs.declared.shell_line.ShellLine.TheVariants.{Silent, Quit, Help, Command as Commanded, Bundles, Services, Components, Report, Held, Find, Events, BundleEvents, Trace, Wiring, BundleWiring, Routes, Configurations, Configuration, Listeners, Journal, Settle, Begin, Finish, Call, Http}
 use Rattle.shell_lang.specs.declared.shell_reply.ShellReply.{ShellReply}
 use Rattle.shell_lang.specs.ShellLines.{Asked, shell_line}
 use Rattle.platform_shell.specs.declared.status.Status.{Status}
@@ -70,6 +70,10 @@ grew_asks s (Ok (Trace number)) before after told (is, same) = grew_not before a
 grew_asks s (Ok Wiring) before after told (said, is, (lines, tells, replied, same)) = grew_not before after same
 grew_asks s (Ok (BundleWiring bundle)) before after told (said, is, (lines, tells, replied, same)) = grew_not before after same
 grew_asks s (Ok Routes) before after told (is, same) = grew_not before after same
+grew_asks s (Ok Configurations) before after told (is, same) = grew_not before after same
+grew_asks s (Ok (Configuration pid)) before after told (is, same) = grew_not before after same
+grew_asks s (Ok Listeners) before after told (is, same) = grew_not before after same
+grew_asks s (Ok Journal) before after told (is, same) = grew_not before after same
 grew_asks s (Ok Settle) before after told (said, is, (count, settles, replied)) = grew_settled s.refuses before.limits.turns before after (Ok count) settles.0
 grew_asks s (Ok Begin) before after told (said, is, asked) =
     grew_manually s.is_manual AsksBegin before after said (λ asks. grew_begun before after asks.0 asks.1) asked
@@ -125,6 +129,10 @@ grew_cut_asked s (Ok (Trace number)) fault before after commands (is, (same, non
 grew_cut_asked s (Ok Wiring) fault before after commands (is, (same, none)) = grew_none before after commands none (grew_not before after same)
 grew_cut_asked s (Ok (BundleWiring bundle)) fault before after commands (is, (same, none)) = grew_none before after commands none (grew_not before after same)
 grew_cut_asked s (Ok Routes) fault before after commands (is, (same, none)) = grew_none before after commands none (grew_not before after same)
+grew_cut_asked s (Ok Configurations) fault before after commands (is, (same, none)) = grew_none before after commands none (grew_not before after same)
+grew_cut_asked s (Ok (Configuration pid)) fault before after commands (is, (same, none)) = grew_none before after commands none (grew_not before after same)
+grew_cut_asked s (Ok Listeners) fault before after commands (is, (same, none)) = grew_none before after commands none (grew_not before after same)
+grew_cut_asked s (Ok Journal) fault before after commands (is, (same, none)) = grew_none before after commands none (grew_not before after same)
 grew_cut_asked s (Ok Settle) fault before after commands (cut, none) = grew_none before after commands none (grew_settled s.refuses before.limits.turns before after (Err fault) cut.0)
 grew_cut_asked s (Ok Begin) fault before after commands (manual, cut, none) = grew_none before after commands none (grew_cut_begin fault before after cut)
 grew_cut_asked s (Ok (Finish turn)) fault before after commands (manual, cut, none) = grew_none before after commands none (grew_cut_finish s.refuses turn fault before after cut)

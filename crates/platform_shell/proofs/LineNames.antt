@@ -11,13 +11,13 @@ use Rattle.scr_world.specs.declared.command.Command.TheVariants.{Install, Update
 use Rattle.shell_lang.specs.declared.line_fault.LineFault.{LineFault}
 use Rattle.shell_lang.specs.declared.line_fault.LineFault.TheVariants.{NoFile, UnknownCommand}
 use Rattle.shell_lang.specs.declared.shell_line.ShellLine.{ShellLine}
-use Rattle.shell_lang.specs.declared.shell_line.ShellLine.TheVariants.{Quit, Command as Commanded, Bundles, Services, Components, Routes, Settle, Begin}
+use Rattle.shell_lang.specs.declared.shell_line.ShellLine.TheVariants.{Quit, Command as Commanded, Bundles, Services, Components, Routes, Configurations, Listeners, Journal, Settle, Begin}
 use Rattle.shell_lang.specs.declared.words.Misfit.{Misfit}
 use Rattle.shell_lang.specs.Arguments.{document_argument, filter_argument, given_document, names_file, properties_argument}
 use Rattle.shell_lang.specs.Help.{helping, line_word_at}
 use Rattle.shell_lang.specs.Interfaces.{interfaces_at}
 use Rattle.shell_lang.specs.LineFaults.{fitting}
-use Rattle.shell_lang.specs.ShellLines.{Asked, alone, bundle_line, calling, carrying_line, configuring, configuring_factory, configuring_line, finding, installing, is_silent, listening, named, named_line, numbered, paired, paired_line, reading_line, registering, setting, shell_line, text_line, unconfiguring, updating, wiring, worded_line}
+use Rattle.shell_lang.specs.ShellLines.{Asked, alone, asking_configuration, bundle_line, calling, carrying_line, configuring, configuring_factory, configuring_line, finding, installing, is_silent, listening, listing_line, named, named_line, numbered, paired, paired_line, reading_line, registering, setting, shell_line, text_line, unconfiguring, updating, wiring, worded_line}
 use Rattle.shell_lang.specs.Requesting.{method_at, requesting}
 use Rattle.shell_lang.specs.Words.{behind_word, first_word, nothing_at, number_and_text, number_and_word, number_at, only_number, only_word, text_at, two_numbers, two_numbers_and_text, two_words_and_text, word_and_text, word_at}
 use Rattle.platform_shell.proofs.ReadNames.{AreNamed, bundle_named}
@@ -108,6 +108,9 @@ factory_named rest = when_fitting (two_words_and_text rest) _ (λ words. when_re
 unconfiguring_named : (rest : Option (List ℕ)) → AskedNamed (unconfiguring rest)
 unconfiguring_named rest = when_fitting (only_word rest) _ (λ pid. tt)
 
+asking_configuration_named : (rest : Option (List ℕ)) → AskedNamed (asking_configuration rest)
+asking_configuration_named rest = when_fitting (only_word rest) _ (λ pid. tt)
+
 calling_named : (rest : Option (List ℕ)) → AskedNamed (calling rest)
 calling_named rest = when_fitting (two_numbers_and_text rest) _ (λ words. tt)
 
@@ -121,7 +124,8 @@ module _ (word : List ℕ) (rest : Option (List ℕ)) where
   configuring_line_named =
       either_line (bytes_eq word (codes "config")) (configuring rest) _ (configuring_named rest)
       (either_line (bytes_eq word (codes "factory")) (configuring_factory rest) _ (factory_named rest)
-      (either_line (bytes_eq word (codes "unconfig")) (unconfiguring rest) (Err UnknownCommand) (unconfiguring_named rest) tt))
+      (either_line (bytes_eq word (codes "unconfig")) (unconfiguring rest) _ (unconfiguring_named rest)
+      (either_line (bytes_eq word (codes "configuration")) (asking_configuration rest) (Err UnknownCommand) (asking_configuration_named rest) tt)))
 
   carrying_line_named : AskedNamed (carrying_line word rest)
   carrying_line_named =
@@ -162,6 +166,12 @@ module _ (word : List ℕ) (rest : Option (List ℕ)) where
       (either_line (bytes_eq word (codes "uninstall")) _ _ (numbered_named _ rest (λ n. tt))
       (either_line (bytes_eq word (codes "unlisten")) _ (reading_line word rest) (numbered_named _ rest (λ n. tt)) reading_line_named)))
 
+  listing_line_named : AskedNamed (listing_line word rest)
+  listing_line_named =
+      either_line (bytes_eq word (codes "configs")) (alone Configurations rest) _ (alone_named Configurations rest tt)
+      (either_line (bytes_eq word (codes "listeners")) (alone Listeners rest) _ (alone_named Listeners rest tt)
+      (either_line (bytes_eq word (codes "journal")) (alone Journal rest) (bundle_line word rest) (alone_named Journal rest tt) bundle_line_named))
+
   worded_line_named : AskedNamed (worded_line word rest)
   worded_line_named =
       either_line (bytes_eq word (codes "quit")) (alone Quit rest) _ (alone_named Quit rest tt)
@@ -171,7 +181,7 @@ module _ (word : List ℕ) (rest : Option (List ℕ)) where
       (either_line (bytes_eq word (codes "routes")) (alone Routes rest) _ (alone_named Routes rest tt)
       (either_line (bytes_eq word (codes "settle")) (alone Settle rest) _ (alone_named Settle rest tt)
       (either_line (bytes_eq word (codes "begin")) (alone Begin rest) _ (alone_named Begin rest tt)
-      (either_line (bytes_eq word (codes "help")) (helping rest) (bundle_line word rest) (helping_named rest) bundle_line_named)))))))
+      (either_line (bytes_eq word (codes "help")) (helping rest) (listing_line word rest) (helping_named rest) listing_line_named)))))))
 
 pub line_named : (line : List ℕ) → AskedNamed (shell_line line)
 line_named line = either_line (is_silent line) _ _ tt (either_line (is_utf8 line) (text_line line) (Err UnknownCommand) (worded_line_named (first_word line) (behind_word line)) tt)

@@ -29,12 +29,13 @@ use Rattle.platform_hall.specs.declared.finish_fault.FinishFault.{FinishFault}
 use Rattle.platform_hall.specs.declared.finish_fault.FinishFault.TheVariants.{NoTurn as NoSuchTurn, OutOfMemory as NoMemoryLeft}
 use Rattle.platform_hall.specs.Platforms.{BeginsTurn, FinishesTurn, TakesCommand, running, world}
 use Rattle.platform_hall.specs.SettleBounds.{SettlesWithin}
-use Rattle.shell_lang.specs.declared.shell_line.ShellLine.TheVariants.{Silent, Quit, Help as AskHelp, Command as Commanded, Bundles as AskBundles, Services as AskServices, Components as AskComponents, Report as AskReport, Held as AskHeld, Find as AskFind, Events as AskEvents, BundleEvents as AskBundleEvents, Trace as AskTrace, Wiring as AskWiring, BundleWiring as AskBundleWiring, Routes as AskRoutes, Settle, Begin, Finish, Call, Http}
+use Rattle.shell_lang.specs.declared.shell_line.ShellLine.TheVariants.{Silent, Quit, Help as AskHelp, Command as Commanded, Bundles as AskBundles, Services as AskServices, Components as AskComponents, Report as AskReport, Held as AskHeld, Find as AskFind, Events as AskEvents, BundleEvents as AskBundleEvents, Trace as AskTrace, Wiring as AskWiring, BundleWiring as AskBundleWiring, Routes as AskRoutes, Configurations as AskConfigurations, Configuration as AskConfiguration, Listeners as AskListeners, Journal as AskJournal, Settle, Begin, Finish, Call, Http}
 use Rattle.shell_lang.specs.declared.shell_reply.Refusal.TheVariants.{Line as InLine, Core as OfCore, NotManual, NoTurn}
 use Rattle.shell_lang.specs.declared.shell_reply.ShellReply.{ShellReply}
-use Rattle.shell_lang.specs.declared.shell_reply.ShellReply.TheVariants.{Done, Help, Bundle, Service, Uses, Listener, Bundles, Services, Components, Report, Held, Found, Events, BundleEvents, Trace, Routes, Turns, Begun, Idle, Finished, Refused}
+use Rattle.shell_lang.specs.declared.shell_reply.ShellReply.TheVariants.{Done, Help, Bundle, Service, Uses, Listener, Bundles, Services, Components, Report, Held, Found, Events, BundleEvents, Trace, Routes, Configurations, Listeners, Turns, Begun, Idle, Finished, Refused}
 use Rattle.shell_lang.specs.ShellLines.{Asked}
 use Rattle.platform_shell.specs.Calling.{AsksCall}
+use Rattle.platform_shell.specs.Listings.{configuration_lines, configuration_reply, journal_reply, listener_lines}
 use Rattle.platform_shell.specs.Refusals.{IsAnswer}
 use Rattle.platform_shell.specs.Requests.{AsksHttp}
 use Rattle.platform_shell.specs.Routes.{route_lines}
@@ -148,6 +149,10 @@ Asks s (Ok (AskTrace number)) before told after = Says (Trace (turns_above numbe
 Asks s (Ok AskWiring) before told after = Does AsksWiring before told after
 Asks s (Ok (AskBundleWiring bundle)) before told after = Does (AsksBundleWiring bundle) before told after
 Asks s (Ok AskRoutes) before told after = Says (Routes (route_lines (routing_in (world before)))) before told after
+Asks s (Ok AskConfigurations) before told after = Says (Configurations (configuration_lines (world before))) before told after
+Asks s (Ok (AskConfiguration pid)) before told after = Says (configuration_reply (world before) pid) before told after
+Asks s (Ok AskListeners) before told after = Says (Listeners (listener_lines (world before))) before told after
+Asks s (Ok AskJournal) before told after = Says (journal_reply before) before told after
 Asks s (Ok Settle) before told after = Does (AsksSettle s.refuses) before told after
 Asks s (Ok Begin) before told after = Does (Manually s.is_manual AsksBegin) before told after
 Asks s (Ok (Finish turn)) before told after = Does (Manually s.is_manual (AsksFinish s.refuses turn)) before told after

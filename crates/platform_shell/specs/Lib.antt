@@ -4,6 +4,7 @@ pub mod Forms
 pub mod Statuses
 pub mod Wiring
 pub mod Routes
+pub mod Listings
 pub mod Requests
 pub mod Refusals
 pub mod Calling

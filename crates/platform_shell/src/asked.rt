@@ -9,6 +9,7 @@ ghost use Rattle.shell_lang.specs.declared.shell_line.ShellLine.TheVariants.{Set
 ghost use Rattle.std.specs.Prelude.{Ok};
 
 use crate::calling::call;
+use crate::listings::{configuration, configurations, journal, listeners};
 use crate::readings::{
     bundle_events, bundles, components, events, found, held, reported, services, trace,
 };
@@ -54,6 +55,10 @@ pub(crate) fn carry_out<K: Kinds + Drop>(
         Ok(ShellLine::Wiring) => Ok(Some(wiring(alloc, core)?)),
         Ok(ShellLine::BundleWiring { bundle }) => Ok(Some(bundle_wiring(alloc, core, bundle)?)),
         Ok(ShellLine::Routes) => Ok(Some(told_routes(alloc, platform)?)),
+        Ok(ShellLine::Configurations) => Ok(Some(configurations(alloc, core)?)),
+        Ok(ShellLine::Configuration { pid }) => Ok(Some(configuration(alloc, core, &pid)?)),
+        Ok(ShellLine::Listeners) => Ok(Some(listeners(alloc, core)?)),
+        Ok(ShellLine::Journal) => Ok(Some(journal(core))),
         Ok(ShellLine::Settle) => settled(alloc, manual, platform),
         Ok(ShellLine::Begin) => Ok(Some(begin(alloc, manual, platform)?)),
         Ok(ShellLine::Finish { turn }) => Ok(Some(finish(alloc, manual, platform, turn)?)),

@@ -19,6 +19,7 @@ mod line_answer;
 mod line_ask;
 mod line_input;
 mod line_run;
+mod listings;
 mod load_answers;
 mod load_counts;
 mod load_line;

@@ -3,6 +3,7 @@ ghost use Rattle.platform_shell.specs.Looks.{Looks, is_look};
 ghost use Rattle.std.specs.Prelude.{◌≡◌, IfErr, IfOk, true};
 ghost use Rattle.turn_runner.specs.declared.settle_fault.SettleFault.TheVariants.{OutOfMemory};
 
+use crate::listings::{configuration, configurations, journal, listeners};
 use crate::readings::{
     bundle_events, bundles, components, events, found, held, reported, services, trace,
 };
@@ -34,6 +35,10 @@ pub fn is_look(line: &ShellLine) -> bool
         ShellLine::Wiring => true,
         ShellLine::BundleWiring { .. } => true,
         ShellLine::Routes => true,
+        ShellLine::Configurations => true,
+        ShellLine::Configuration { .. } => true,
+        ShellLine::Listeners => true,
+        ShellLine::Journal => true,
         ShellLine::Settle => false,
         ShellLine::Begin => false,
         ShellLine::Finish { .. } => false,
@@ -64,6 +69,10 @@ pub fn look_at(alloc: Global, core: &Core, line: &ShellLine) -> Result<ShellRepl
         ShellLine::Wiring => wiring(alloc, core),
         ShellLine::BundleWiring { bundle } => bundle_wiring(alloc, core, *bundle),
         ShellLine::Routes => routes(alloc, core),
+        ShellLine::Configurations => configurations(alloc, core),
+        ShellLine::Configuration { pid } => configuration(alloc, core, pid),
+        ShellLine::Listeners => listeners(alloc, core),
+        ShellLine::Journal => Ok(journal(core)),
         ShellLine::Silent => unreachable!(),
         ShellLine::Quit => unreachable!(),
         ShellLine::Help(_) => unreachable!(),

@@ -11,6 +11,7 @@ mod commands;
 mod drains;
 mod empty;
 mod generic;
+mod listings;
 mod platform_core;
 mod readers;
 mod room;

@@ -4,3 +4,4 @@ pub mod Inside
 pub mod Reaching
 pub mod Turns
 pub mod ComponentViews
+pub mod Counting

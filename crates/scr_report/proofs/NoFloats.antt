@@ -8,7 +8,7 @@ use Rattle.prop_map.specs.declared.value.Value.{Value}
 use Rattle.prop_map.specs.declared.value.Value.TheVariants.{Text, Whole, Flag, Texts, Wholes, Flags}
 use Rattle.scr_readers.specs.declared.view.ComponentView.{ComponentView}
 use Rattle.scr_readers.specs.declared.view.ReferenceState.{ReferenceState}
-use Rattle.serde_json.specs.Data.{Data, boolean, number, string, Members, no_members, member, put}
+use Rattle.serde_json.specs.Data.{Data, boolean, number, object, string, Members, no_members, member, put}
 use Rattle.serde_json.specs.Find.{of_integer}
 use Rattle.serde_json.specs.View.{items_of}
 use Rattle.serde_json.specs.Written.{has_float, items_have_float, members_have_float}
@@ -60,6 +60,9 @@ value_without (Flags bs) = list_without boolean (λ b. refl) bs
 properties_from : (ms : Members) (ps : List Property) → members_have_float ms ≡ false → members_have_float (fold (λ ns (p : Property). put p.key (value_data p.value) ns) ms ps) ≡ false
 properties_from ms [] none = none
 properties_from ms (p ∷ ps) none = properties_from (put p.key (value_data p.value) ms) ps (put_without p.key (value_data p.value) ms (value_without p.value) none)
+
+pub properties_without : (ps : List Property) → has_float (object (property_members ps)) ≡ false
+properties_without ps = properties_from no_members ps refl
 
 -- ---- the report
 

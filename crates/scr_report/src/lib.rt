@@ -3,12 +3,14 @@
 
 mod core_reports;
 mod lists;
+mod property_texts;
 mod property_values;
 mod reference_values;
 mod report_fault;
 mod reports;
 
 pub use core_reports::{report, report_text};
+pub use property_texts::properties_text;
 pub use report_fault::ReportFault;
 pub use reports::{report_of, report_text_of};
 pub use scr_core::Core;

@@ -102,7 +102,11 @@ fn serve_deed<R: Wait, K: Kinds + Drop>(
         | ShellLine::Trace { .. }
         | ShellLine::Wiring
         | ShellLine::BundleWiring { .. }
-        | ShellLine::Routes => unreachable!(),
+        | ShellLine::Routes
+        | ShellLine::Configurations
+        | ShellLine::Configuration { .. }
+        | ShellLine::Listeners
+        | ShellLine::Journal => unreachable!(),
     }
 }
 

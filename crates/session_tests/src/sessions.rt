@@ -137,6 +137,27 @@ fn lines_that_no_session_carries_out_are_refused(rt: HostRuntime) {
 }
 
 #[test]
+fn what_is_there_is_told_to_a_session(rt: HostRuntime) {
+    let lines = [
+        "config A {}",
+        "configs",
+        "configuration A",
+        "listeners",
+        "journal",
+    ];
+    let replies = b"ok\nok 1\nA - -\nok {\"service.pid\":\"A\"}\nok 0\nok 1 0 100\n";
+    assert!(rt;
+        is_served(
+            &rt,
+            rt.alloc(),
+            LIMITS,
+            &lines,
+            (SessionEnd::EndOfInput, 5, replies)
+        )
+    );
+}
+
+#[test]
 fn a_settle_runs_as_many_turns_as_the_limit_says(rt: HostRuntime) {
     let limits = Limits {
         journal: 100,

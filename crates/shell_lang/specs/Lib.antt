@@ -13,6 +13,7 @@ pub mod RefusalTexts
 pub mod TurnTexts
 pub mod WiringTexts
 pub mod RouteTexts
+pub mod ConfigurationTexts
 pub mod RowTexts
 pub mod ReplyTexts
 pub mod Loads

@@ -5,13 +5,14 @@ use Rattle.std.specs.Str.Lossy.{utf8_lossy}
 use Rattle.shell_lang.specs.Help.{help_text}
 use Rattle.serde_json.specs.Data.{string}
 use Rattle.serde_json.specs.Written.{compact_text}
+use Rattle.shell_lang.specs.ConfigurationTexts.{configuration_text}
 use Rattle.shell_lang.specs.RefusalTexts.{refusal_text}
 use Rattle.shell_lang.specs.RouteTexts.{route_text}
-use Rattle.shell_lang.specs.RowTexts.{bundle_event_text, bundle_text, component_text, held_text, number_text, placed_rows_text, registered_text, rows_text, service_event_text}
+use Rattle.shell_lang.specs.RowTexts.{bundle_event_text, bundle_text, component_text, held_text, listener_text, number_text, placed_rows_text, registered_text, rows_text, service_event_text}
 use Rattle.shell_lang.specs.TurnTexts.{finished_text, trace_text, turn_text}
 use Rattle.shell_lang.specs.WiringTexts.{need_text, wiring_text}
 use Rattle.shell_lang.specs.declared.shell_reply.ShellReply.{ShellReply}
-use Rattle.shell_lang.specs.declared.shell_reply.ShellReply.TheVariants.{Done, Help, Bundle, Service, Uses, Listener, Bundles, Services, Components, Report, Held, Found, Events, BundleEvents, Trace, Wiring, BundleWiring, Routes, Turns, Begun, Idle, Finished, Text, Http, Refused}
+use Rattle.shell_lang.specs.declared.shell_reply.ShellReply.TheVariants.{Done, Help, Bundle, Service, Uses, Listener, Bundles, Services, Components, Report, Held, Found, Events, BundleEvents, Trace, Wiring, BundleWiring, Routes, Configurations, Configuration, Listeners, Journal, Turns, Begun, Idle, Finished, Text, Http, Refused}
 
 -- a text in quotes, as JSON has it
 abbrev pub quoted_text : List ℕ → List ℕ
@@ -20,6 +21,10 @@ quoted_text text = compact_text (string text)
 -- a status, a service and a text as it is shown
 abbrev pub status_text : ℕ → ℕ → List ℕ → List ℕ
 status_text status service shown = codes "ok " ++ decimal status ++ codes " " ++ decimal service ++ codes " " ++ shown ++ codes "\n"
+
+-- how many entries the journal has, how many more are reserved, and how many it may have
+abbrev pub journal_text : ℕ → ℕ → ℕ → List ℕ
+journal_text used reserved limit = codes "ok " ++ decimal used ++ codes " " ++ decimal reserved ++ codes " " ++ decimal limit ++ codes "\n"
 
 -- the text of a reply; in what a request is answered U+FFFD stands for what is no UTF-8
 abbrev pub reply_text : ShellReply → List ℕ
@@ -41,6 +46,10 @@ reply_text (Trace rows) = rows_text trace_text rows
 reply_text (Wiring rows) = rows_text wiring_text rows
 reply_text (BundleWiring rows) = rows_text need_text rows
 reply_text (Routes rows) = rows_text route_text rows
+reply_text (Configurations rows) = rows_text configuration_text rows
+reply_text (Configuration text) = codes "ok " ++ text ++ codes "\n"
+reply_text (Listeners rows) = rows_text listener_text rows
+reply_text (Journal used reserved limit) = journal_text used reserved limit
 reply_text (Turns count) = codes "ok turns " ++ decimal count ++ codes "\n"
 reply_text (Begun line) = codes "ok turn " ++ turn_text line ++ codes "\n"
 reply_text Idle = codes "ok idle\n"

@@ -10,6 +10,7 @@ use Rattle.scr_world.specs.declared.lines.BundleLine.{BundleLine}
 use Rattle.scr_world.specs.declared.lines.ComponentLine.{ComponentLine}
 use Rattle.scr_world.specs.declared.lines.HeldLine.{HeldLine}
 use Rattle.shell_lang.specs.JoinedTexts.{joined}
+use Rattle.shell_lang.specs.declared.listener_line.ListenerLine.{ListenerLine}
 
 -- a bundle's number, state and name, and a text of its version
 abbrev pub versioned_text : BundleLine → List ℕ → List ℕ
@@ -31,6 +32,10 @@ held_text row = decimal row.instance ++ codes " " ++ row.reference ++ codes " " 
 abbrev pub registered_text : ServiceRow → List ℕ
 registered_text row =
     decimal row.id ++ codes " " ++ decimal row.bundle ++ codes " " ++ joined (codes ",") row.interfaces ++ codes " " ++ signed_decimal (ranking row.properties) ++ codes "\n"
+
+-- a listener's number, its bundle, and how many events it was told
+abbrev pub listener_text : ListenerLine → List ℕ
+listener_text row = decimal row.listener ++ codes " " ++ decimal row.bundle ++ codes " " ++ decimal row.told ++ codes "\n"
 
 -- a number alone
 abbrev pub number_text : ℕ → List ℕ

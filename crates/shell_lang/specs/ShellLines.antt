@@ -7,7 +7,7 @@ use Rattle.scr_world.specs.declared.command.Command.TheVariants.{Install, Update
 use Rattle.shell_lang.specs.declared.line_fault.LineFault.{LineFault}
 use Rattle.shell_lang.specs.declared.line_fault.LineFault.TheVariants.{UnknownCommand}
 use Rattle.shell_lang.specs.declared.shell_line.ShellLine.{ShellLine}
-use Rattle.shell_lang.specs.declared.shell_line.ShellLine.TheVariants.{Silent, Quit, Command as Commanded, Bundles, Services, Components, Report, Held, Find, Events, BundleEvents, Trace, Wiring, BundleWiring, Routes, Settle, Begin, Finish, Call}
+use Rattle.shell_lang.specs.declared.shell_line.ShellLine.TheVariants.{Silent, Quit, Command as Commanded, Bundles, Services, Components, Report, Held, Find, Events, BundleEvents, Trace, Wiring, BundleWiring, Routes, Configurations, Configuration, Listeners, Journal, Settle, Begin, Finish, Call}
 use Rattle.shell_lang.specs.Arguments.{document_argument, filter_argument, properties_argument}
 use Rattle.shell_lang.specs.Help.{helping}
 use Rattle.shell_lang.specs.Interfaces.{interfaces_at}
@@ -70,6 +70,9 @@ configuring_factory rest = fitting (two_words_and_text rest) (λ words. after (p
 abbrev pub unconfiguring : Option (List ℕ) → Asked
 unconfiguring rest = fitting (only_word rest) (λ pid. Ok (Commanded (Unconfigure pid)))
 
+abbrev pub asking_configuration : Option (List ℕ) → Asked
+asking_configuration rest = fitting (only_word rest) (λ pid. Ok (Configuration pid))
+
 -- the request stands behind the bundle and the service, and may be empty
 abbrev pub calling : Option (List ℕ) → Asked
 calling rest = fitting (two_numbers_and_text rest) (λ words. Ok (Call words.0 words.1 words.2))
@@ -79,7 +82,8 @@ abbrev pub configuring_line : List ℕ → Option (List ℕ) → Asked
 configuring_line word rest =
     if bytes_eq word (codes "config") then configuring rest
     else (if bytes_eq word (codes "factory") then configuring_factory rest
-    else (if bytes_eq word (codes "unconfig") then unconfiguring rest else Err UnknownCommand))
+    else (if bytes_eq word (codes "unconfig") then unconfiguring rest
+    else (if bytes_eq word (codes "configuration") then asking_configuration rest else Err UnknownCommand)))
 
 -- with a document, properties, a filter or a request
 abbrev pub carrying_line : List ℕ → Option (List ℕ) → Asked
@@ -130,6 +134,13 @@ bundle_line word rest =
     else (if bytes_eq word (codes "uninstall") then numbered (λ bundle. Commanded (Uninstall bundle)) rest
     else (if bytes_eq word (codes "unlisten") then numbered (λ listener. Commanded (Unlisten listener)) rest else reading_line word rest)))
 
+-- alone: what is there
+abbrev pub listing_line : List ℕ → Option (List ℕ) → Asked
+listing_line word rest =
+    if bytes_eq word (codes "configs") then alone Configurations rest
+    else (if bytes_eq word (codes "listeners") then alone Listeners rest
+    else (if bytes_eq word (codes "journal") then alone Journal rest else bundle_line word rest))
+
 -- alone, or with a word of a line
 abbrev pub worded_line : List ℕ → Option (List ℕ) → Asked
 worded_line word rest =
@@ -140,7 +151,7 @@ worded_line word rest =
     else (if bytes_eq word (codes "routes") then alone Routes rest
     else (if bytes_eq word (codes "settle") then alone Settle rest
     else (if bytes_eq word (codes "begin") then alone Begin rest
-    else (if bytes_eq word (codes "help") then helping rest else bundle_line word rest)))))))
+    else (if bytes_eq word (codes "help") then helping rest else listing_line word rest)))))))
 
 abbrev pub text_line : List ℕ → Asked
 text_line line = worded_line (first_word line) (behind_word line)

@@ -3,6 +3,8 @@
 
 mod arguments;
 mod call_refusal;
+mod configuration_line;
+mod configuration_text;
 mod core_fault_text;
 mod fault_text;
 mod generator;
@@ -13,6 +15,7 @@ mod line_forms;
 mod line_help;
 mod line_reading;
 mod line_table;
+mod listener_line;
 mod load_counts;
 mod load_text;
 mod refusal_text;
@@ -28,11 +31,13 @@ mod wiring_text;
 mod words;
 
 pub use call_refusal::CallRefusal;
+pub use configuration_line::ConfigurationLine;
 pub use generator::Generator;
 pub use line_fault::LineFault;
 pub use line_help::LineHelp;
 pub use line_reading::read_line;
 pub use line_table::LINES;
+pub use listener_line::ListenerLine;
 pub use load_counts::{LoadCounts, write_counts};
 pub use reply_text::write_reply;
 pub use route_line::RouteLine;

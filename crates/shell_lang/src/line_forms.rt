@@ -1,7 +1,7 @@
 //! The forms of lines, by their first word.
 ghost use Rattle.std.specs.Prelude.{◌≡◌, option_map};
 ghost use Rattle.shell_lang.specs.LineFaults.{Reads};
-ghost use Rattle.shell_lang.specs.ShellLines.{alone, bundle_line, calling, carrying_line, configuring, configuring_factory, configuring_line, finding, installing, listening, named_line, paired_line, reading_line, registering, setting, unconfiguring, updating, wiring, worded_line};
+ghost use Rattle.shell_lang.specs.ShellLines.{alone, asking_configuration, bundle_line, calling, carrying_line, configuring, configuring_factory, configuring_line, finding, installing, listening, listing_line, named_line, paired_line, reading_line, registering, setting, unconfiguring, updating, wiring, worded_line};
 
 use crate::arguments::{owned, read_document, read_filter, read_properties};
 use crate::interfaces::interfaces_at;
@@ -32,6 +32,17 @@ pub(crate) fn worded_line(
         "settle" => alone(ShellLine::Settle, rest),
         "begin" => alone(ShellLine::Begin, rest),
         "help" => helping(alloc, rest),
+        _ => listing_line(alloc, word, rest),
+    }
+}
+
+fn listing_line(alloc: Global, word: &str, rest: Option<&str>) -> Result<ShellLine, LineFault>
+    ensures { Reads (listing_line word.now (option_map (λ t. t.now) rest.entry)) result }
+{
+    match word {
+        "configs" => alone(ShellLine::Configurations, rest),
+        "listeners" => alone(ShellLine::Listeners, rest),
+        "journal" => alone(ShellLine::Journal, rest),
         _ => bundle_line(alloc, word, rest),
     }
 }
@@ -165,6 +176,7 @@ fn configuring_line(alloc: Global, word: &str, rest: Option<&str>) -> Result<She
         "config" => configuring(alloc, rest),
         "factory" => configuring_factory(alloc, rest),
         "unconfig" => unconfiguring(alloc, rest),
+        "configuration" => asking_configuration(alloc, rest),
         _ => Err(LineFault::UnknownCommand),
     }
 }
@@ -269,4 +281,12 @@ fn unconfiguring(alloc: Global, rest: Option<&str>) -> Result<ShellLine, LineFau
     let pid = only_word(rest)?;
     let pid = owned(alloc, pid)?;
     Ok(ShellLine::Command(Command::Unconfigure { pid }))
+}
+
+fn asking_configuration(alloc: Global, rest: Option<&str>) -> Result<ShellLine, LineFault>
+    ensures { Reads (asking_configuration (option_map (λ t. t.now) rest.entry)) result }
+{
+    let pid = only_word(rest)?;
+    let pid = owned(alloc, pid)?;
+    Ok(ShellLine::Configuration { pid })
 }

@@ -35,6 +35,10 @@ pub const LINES: &[(&str, &str)] = &[
         "tells what a listener was told behind position P",
     ),
     ("unlisten L", "takes a listener away"),
+    (
+        "listeners",
+        "tells each listener: number, bundle, how many events it was told",
+    ),
     ("bundles", "tells each bundle: number, state, name, version"),
     (
         "bundle-events P",
@@ -55,6 +59,14 @@ pub const LINES: &[(&str, &str)] = &[
     ),
     ("unconfig PID", "deletes a configuration"),
     (
+        "configs",
+        "tells each configuration: PID, factory, the component configurations for which it counts",
+    ),
+    (
+        "configuration PID",
+        "tells the properties of a configuration, as JSON",
+    ),
+    (
         "components",
         "tells each component configuration: number, name, state",
     ),
@@ -64,6 +76,10 @@ pub const LINES: &[(&str, &str)] = &[
         "tells the services that the instances of a component configuration hold",
     ),
     ("trace P", "tells the turns behind number P"),
+    (
+        "journal",
+        "tells the entries of the journal: how many there are, are reserved, and may be",
+    ),
     (
         "wiring",
         "tells which bundles resolve by their manifests, and their wires",

@@ -1,6 +1,6 @@
 //! The text of a reply.
 ghost use Rattle.std.specs.Prelude.{◌≡◌, IfOk, codes, string_bytes};
-ghost use Rattle.shell_lang.specs.ReplyTexts.{quoted_text, reply_text, status_text};
+ghost use Rattle.shell_lang.specs.ReplyTexts.{journal_text, quoted_text, reply_text, status_text};
 ghost use Rattle.shell_lang.specs.TurnTexts.{finished_text};
 
 use crate::ShellReply;
@@ -48,6 +48,14 @@ fn reply_text(alloc: Global, reply: &ShellReply) -> Result<String, OutOfMemory>
         ShellReply::Wiring(rows) => rows_text(alloc, rows.as_slice()),
         ShellReply::BundleWiring(rows) => rows_text(alloc, rows.as_slice()),
         ShellReply::Routes(rows) => rows_text(alloc, rows.as_slice()),
+        ShellReply::Configurations(rows) => rows_text(alloc, rows.as_slice()),
+        ShellReply::Configuration(text) => format!(in alloc; "ok {}\n", text.as_str()),
+        ShellReply::Listeners(rows) => rows_text(alloc, rows.as_slice()),
+        ShellReply::Journal {
+            used,
+            reserved,
+            limit,
+        } => journal_text(alloc, *used, *reserved, *limit),
         ShellReply::Turns(count) => format!(in alloc; "ok turns {count}\n"),
         ShellReply::Begun(line) => begun_text(alloc, line),
         ShellReply::Idle => String::from_str(alloc, "ok idle\n"),
@@ -63,6 +71,13 @@ fn reply_text(alloc: Global, reply: &ShellReply) -> Result<String, OutOfMemory>
             format!(in alloc; "refused {}\n", refusal.as_str())
         }
     }
+}
+
+// How many entries the journal has, how many more are reserved, and how many it may have.
+fn journal_text(alloc: Global, used: u64, reserved: u64, limit: u64) -> Result<String, OutOfMemory>
+    ensures { IfOk result (λ text. string_bytes text ≡ journal_text used reserved limit) }
+{
+    format!(in alloc; "ok {used} {reserved} {limit}\n")
 }
 
 fn begun_text(alloc: Global, line: &TurnLine) -> Result<String, OutOfMemory>

@@ -1,10 +1,10 @@
 //! The rows that a reply tells, each on a line of its own.
 ghost use Rattle.std.specs.Prelude.{◌≡◌, IfOk, codes, string_bytes};
 ghost use Rattle.shell_lang.specs.Help.{help_text};
-ghost use Rattle.shell_lang.specs.RowTexts.{bundle_event_text, bundle_text, component_text, held_text, number_text, placed_rows_text, registered_text, rows_text, service_event_text, versioned_text};
+ghost use Rattle.shell_lang.specs.RowTexts.{bundle_event_text, bundle_text, component_text, held_text, listener_text, number_text, placed_rows_text, registered_text, rows_text, service_event_text, versioned_text};
 
-use crate::LineHelp;
 use crate::joined_text::joined;
+use crate::{LineHelp, ListenerLine};
 use bundle_life::BundleEvent;
 use prop_map::OutOfMemory;
 use scr_world::{BundleLine, ComponentLine, HeldLine};
@@ -103,6 +103,17 @@ impl Row for ServiceRow {
         let interfaces = joined(alloc, ",", self.interfaces.names())?;
         let ranking = ranking(&self.properties);
         format!(in alloc; "{service} {bundle} {} {ranking}\n", interfaces.as_str())
+    }
+}
+
+impl Row for ListenerLine {
+    ghost row_text = { listener_text };
+
+    fn text(&self, alloc: Global) -> Result<String, OutOfMemory> {
+        let listener = self.listener;
+        let bundle = self.bundle;
+        let told = self.told;
+        format!(in alloc; "{listener} {bundle} {told}\n")
     }
 }
 

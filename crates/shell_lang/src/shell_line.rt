@@ -63,6 +63,17 @@ pub enum ShellLine {
     },
     /// Which patterns of servlets are in effect, and what isn't and why.
     Routes,
+    /// The configurations, and for which component configurations each counts.
+    Configurations,
+    /// The properties of a configuration.
+    Configuration {
+        /// Its PID.
+        pid: Str,
+    },
+    /// The listeners.
+    Listeners,
+    /// How many entries the journal has, how many more are reserved, and how many it may have.
+    Journal,
     /// To run the turns that are due, until none is.
     Settle,
     /// To begin the first due turn.

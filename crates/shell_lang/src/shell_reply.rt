@@ -1,6 +1,6 @@
 //! What lines are answered.
 
-use crate::{CallRefusal, LineFault, LineHelp, RouteLine};
+use crate::{CallRefusal, ConfigurationLine, LineFault, LineHelp, ListenerLine, RouteLine};
 use bundle_life::BundleEvent;
 use callback_orders::Outcome;
 use prop_map::{List, Str};
@@ -87,6 +87,21 @@ pub enum ShellReply {
     BundleWiring(List<NeedLine>),
     /// The patterns in effect, and then what isn't.
     Routes(List<RouteLine>),
+    /// The configurations.
+    Configurations(List<ConfigurationLine>),
+    /// The properties of a configuration, as JSON without blanks.
+    Configuration(Str),
+    /// The listeners.
+    Listeners(List<ListenerLine>),
+    /// The room of the journal.
+    Journal {
+        /// How many entries it has.
+        used: u64,
+        /// How many more are reserved.
+        reserved: u64,
+        /// How many it may have.
+        limit: u64,
+    },
     /// How many turns ran.
     Turns(u64),
     /// The turn that has begun.

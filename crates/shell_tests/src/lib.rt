@@ -6,6 +6,8 @@ mod ends;
 #[cfg(test)]
 mod forms;
 #[cfg(test)]
+mod listings;
+#[cfg(test)]
 mod loads;
 #[cfg(test)]
 mod platforms;
