@@ -84,9 +84,6 @@ stretch p q pass back turn began log kept own its apart goes put left = record {
 }
 
 module _ (p q : View) (began log : Own) (kept : List (ℕ × ℕ)) (s : Stretch p q began log kept) where
-  pub stretch_of : (hall : HallView) → IsOf hall (record { front = p }) → IsOf hall (record { front = q })
-  stretch_of hall of = record { lock = ap (λ (v : View). v.lock) s.same ∙ of.lock; limits = ap (λ (v : View). v.tie) s.same ∙ of.limits }
-
   pub stretch_seat : KeepsSeat p q
   stretch_seat = (ap (λ (v : View). v.number) s.same, ap (λ (v : View). v.spare) s.same)
 

@@ -127,9 +127,9 @@ asks_built s (Ok (BundleWiring bundle)) before after told (reply, is, (lines, te
 asks_built s (Ok Routes) before after told (is, same) = told_built told _ is tt
 asks_built s (Ok Settle) before after told (reply, is, (count, settles, replied)) = told_built told reply is (reply_built reply _ replied tt)
 asks_built s (Ok Begin) before after told (reply, is, asked) =
-    told_built told reply is (manually_built s.is_manual AsksBegin before after reply (λ begun. begun_built after begun.0 reply begun.1.1) asked)
+    told_built told reply is (manually_built s.is_manual AsksBegin before after reply (λ begun. begun_built after begun.0 reply begun.2) asked)
 asks_built s (Ok (Finish turn)) before after told (reply, is, asked) =
-    told_built told reply is (manually_built s.is_manual (AsksFinish s.refuses turn) before after reply (λ ends. finished_built turn ends.0 reply ends.1.1) asked)
+    told_built told reply is (manually_built s.is_manual (AsksFinish s.refuses turn) before after reply (λ ends. finished_built turn ends.0 reply ends.2) asked)
 asks_built s (Ok (Call bundle service request)) before after told (reply, is, (answer, calls, tells)) = told_built told reply is (called_built answer reply tells)
 asks_built s (Ok (Http method target body)) before after told (reply, is, (same, (found, finds, answers))) =
     told_built told reply is (found_built s.next method target body before found reply answers)

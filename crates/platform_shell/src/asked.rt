@@ -1,7 +1,10 @@
 //! What a line asks, carried out.
 ghost use Rattle.std.specs.Prelude.{◌≡◌};
 ghost use Rattle.platform_shell.specs.Asks.{line_for};
-ghost use Rattle.platform_shell.specs.Carries.{CarriesBegin, CarriesCommand, CarriesFinish, CarriesOut, TellsRefusal};
+ghost use Rattle.platform_hall.specs.Platforms.{world};
+ghost use Rattle.platform_shell.specs.Carries.{CarriesBegin, CarriesCommand, CarriesFinish, CarriesOut, CarriesReading, TellsRefusal};
+ghost use Rattle.platform_shell.specs.Routes.{route_lines};
+ghost use Rattle.scr_calls.specs.Servlets.{routing_in};
 ghost use Rattle.shell_lang.specs.declared.shell_line.ShellLine.TheVariants.{Settle};
 ghost use Rattle.std.specs.Prelude.{Ok};
 
@@ -50,7 +53,7 @@ pub(crate) fn carry_out<K: Kinds + Drop>(
         Ok(ShellLine::Trace { after }) => Ok(Some(trace(alloc, core, after)?)),
         Ok(ShellLine::Wiring) => Ok(Some(wiring(alloc, core)?)),
         Ok(ShellLine::BundleWiring { bundle }) => Ok(Some(bundle_wiring(alloc, core, bundle)?)),
-        Ok(ShellLine::Routes) => Ok(Some(routes(alloc, core)?)),
+        Ok(ShellLine::Routes) => Ok(Some(told_routes(alloc, platform)?)),
         Ok(ShellLine::Settle) => settled(alloc, manual, platform),
         Ok(ShellLine::Begin) => Ok(Some(begin(alloc, manual, platform)?)),
         Ok(ShellLine::Finish { turn }) => Ok(Some(finish(alloc, manual, platform, turn)?)),
@@ -72,6 +75,16 @@ pub(crate) fn carry_out<K: Kinds + Drop>(
             },
         ) => Ok(Some(http(alloc, platform, method, target, body)?)),
     }
+}
+
+// The patterns of servlets that are in effect on the platform, and what isn't and why.
+fn told_routes<K: Kinds + Drop>(
+    alloc: Global,
+    platform: &Platform<K>,
+) -> Result<ShellReply, SettleFault>
+    ensures { CarriesReading (ShellReply.Routes (route_lines (routing_in (world platform.now)))) result }
+{
+    routes(alloc, platform.core())
 }
 
 fn run_command<K: Kinds + Drop>(

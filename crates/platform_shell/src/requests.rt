@@ -1,6 +1,6 @@
 //! What the line `http` asks.
-ghost use Rattle.platform_shell.specs.Requests.{CarriesFound, CarriesHttp, CarriesPath, CarriesRequest, FindsPath, bare, request_of, told_answer};
-ghost use Rattle.std.specs.Prelude.{◌≡◌, [], IfOk, if◌then◌else◌};
+ghost use Rattle.platform_shell.specs.Requests.{CarriesFound, CarriesHttp, CarriesPath, CarriesRequest, FindsPath, bare, greatest_body, request_of, told_answer};
+ghost use Rattle.std.specs.Prelude.{◌≡◌, [], IfOk, if◌then◌else◌, length, nat_le};
 
 use http::Method;
 use http_wire::{AnswerStop, Answered, Request, read_path};
@@ -68,12 +68,19 @@ fn answer_path<K: Kinds + Drop>(
 ) -> Result<ShellReply, SettleFault>
     ensures { CarriesPath K.next method target body platform.old path result platform.new }
 {
-    if body.as_slice().len() <= GREATEST_BODY {
+    if fits(&body) {
         let request = request_of(method, target, body, path);
         answer_request(alloc, platform, &request)
     } else {
         Ok(bare(alloc, 413))
     }
+}
+
+// Whether a body isn't too long.
+fn fits(body: &List<u8>) -> bool
+    ensures { result ≡ nat_le (length body.now) greatest_body }
+{
+    body.as_slice().len() <= GREATEST_BODY
 }
 
 // The request of these parts.

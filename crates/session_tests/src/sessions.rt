@@ -217,16 +217,16 @@ fn a_last_line_counts_without_its_end(rt: HostRuntime) {
     assert!(rt; ended.is_some_and(|session| session.is(SessionEnd::EndOfInput, 1, b"ok 0\n")));
 }
 
-// A line, and behind it one of so many bytes.
-fn long_line(alloc: Global, count: usize) -> Option<Vec<u8>> {
+// A line of seven bytes with its end, and behind it another one, of so many bytes together.
+fn long_line(alloc: Global, together: usize) -> Option<Vec<u8>> {
     let mut bytes = b"bundles\n".to_vec(alloc).ok()?;
-    bytes.resize(count + 8, b'x').ok()?;
+    bytes.resize(together, b'x').ok()?;
     Some(bytes)
 }
 
 #[test]
 fn a_line_that_is_too_long_ends_a_session(rt: HostRuntime) {
-    let ended = match long_line(rt.alloc(), 1_048_577) {
+    let ended = match long_line(rt.alloc(), 8 + 1_048_577) {
         Some(bytes) => served_bytes(&rt, rt.alloc(), bytes),
         None => None,
     };

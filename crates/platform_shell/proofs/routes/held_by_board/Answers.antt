@@ -8,7 +8,7 @@ use Rattle.service_registry.specs.declared.row.ServiceRow.{ServiceRow}
 use Rattle.platform_shell.proofs.routes.held_by_board.Goals as goal
 
 pub returns : goal.returns
-returns g c =
+returns c =
     let p = c.args.core.now in
     let same = board_rows p.limits.journal (history_of p.journal) c.note_legal.ensures c.args.reference.now in
     subst (λ (xs : List ServiceRow). IfOk c.held_services.result (λ rows. rows ≡ xs)) same
