@@ -12,6 +12,7 @@ impl<K: Kinds + Drop> Hall<K> {
     /// what the pass knows of it; the pass knows from now on that the hall was closed.
     pub fn close(&self, pass: &mut HallPass)
         requires of { IsOf self.now pass.old }
+        ensures of { IsOf self.now pass.new }
         ensures same { pass.new ≡ record pass.old { closed = true } }
     {
         self.closing.store(true, Ordering::SeqCst);
@@ -22,6 +23,7 @@ impl<K: Kinds + Drop> Hall<K> {
     /// after. Nothing is said of when other passes are told.
     pub fn closed(&self, pass: &mut HallPass) -> bool
         requires of { IsOf self.now pass.old }
+        ensures of { IsOf self.now pass.new }
         ensures same { pass.new ≡ record pass.old { closed = result } }
         ensures ever { pass.old.closed ≡ true → result ≡ true }
     {

@@ -4,12 +4,8 @@ use crate::hall::Hall;
 use crate::hall_pass::HallPass;
 use kind_trait::Kinds;
 
-/// Does nothing. That it is proved says that threads may share a [`Hall`] where they may share its component code, and
-/// where its objects may be shared by threads and go from one to another.
-pub fn hall_is_sync<K: Kinds + Sync>()
-where
-    K::Object: Send + Sync,
-{
+/// Does nothing. That it is proved says that threads may share a [`Hall`] where they may share its component code.
+pub fn hall_is_sync<K: Kinds + Sync>() {
     is_sync::<Hall<K>>();
 }
 
