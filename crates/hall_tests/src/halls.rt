@@ -4,8 +4,9 @@ ghost use Rattle.std.specs.Prelude.{◌≡◌, ◌+◌, IfSome};
 
 use crate::samples::{IMMEDIATE, LIMITS, PROVIDER, install};
 use demonstration_kinds::Demonstration;
+use journal_core::Journal;
 use platform_sessions::{Core, Hall, HallPass, LockFault, Look};
-use scr_world::{Command, Reply};
+use scr_world::{Command, Reply, Step};
 use std::alloc::Global;
 use std::sync::Wait;
 
@@ -198,7 +199,8 @@ fn a_hall_is_told_to_close(rt: HostRuntime) {
     assert!(rt; in_hall(&rt, rt.alloc(), Deed::Close));
 }
 
-// Whether two sessions are told so: each installs the one bundle and starts it, and no turn is due then.
+// Whether two sessions are told so: each installs the one bundle and starts it, no turn is due then, and both have seen
+// the two entries.
 fn told<R: Wait>(
     rt: &R,
     alloc: Global,
@@ -215,7 +217,19 @@ fn told<R: Wait>(
     let started = starts(rt, alloc, hall, second);
     let once_more = starts(rt, alloc, hall, first);
     let idle = works(rt, alloc, hall, first, 0);
-    installed && again && started && once_more && idle
+    let seen = first.seen() == 2 && second.seen() == 2;
+    installed && again && started && once_more && idle && seen
+}
+
+// Whether these are the entries of an install and a start.
+fn are_both(journal: &Journal<Step>) -> bool {
+    match journal.entries() {
+        [install, start] => {
+            matches!(&install.step, Step::Command(Command::Install { .. }))
+                && matches!(&start.step, Step::Command(Command::Start { .. }))
+        }
+        _ => false,
+    }
 }
 
 // Whether the entries are those of the two who changed something.
@@ -228,8 +242,8 @@ fn shares<R: Wait>(rt: &R, alloc: Global, hall: DemoHall, first: HallPass, secon
     let number = second.number();
     let told = told(rt, alloc, &hall, &mut first, &mut second);
     let pass = hall.join(rt, first, second);
-    let (_, owners) = hall.into_journal(pass);
-    told && owners.as_slice() == [0, number].as_slice()
+    let (journal, owners) = hall.into_journal(pass);
+    told && are_both(&journal) && owners.as_slice() == [0, number].as_slice()
 }
 
 fn shared<R: Wait>(rt: &R, alloc: Global) -> bool {

@@ -8,3 +8,4 @@ pub mod Reading
 pub mod Handing
 pub mod Turning
 pub mod Working
+pub mod Sends

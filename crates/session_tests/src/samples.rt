@@ -24,6 +24,9 @@ pub(crate) const PROVIDER: &str =
 pub(crate) const IMMEDIATE: &str =
     r#"install {"location":"m","components":{"m":{"name":"m","implementationClass":"M"}}}"#;
 
+// Installs a bundle without components.
+pub(crate) const EMPTY: &str = r#"install {"location":"d"}"#;
+
 // A new hall and its pass.
 pub(crate) fn new_hall(alloc: Global, limits: Limits) -> Option<(DemoHall, HallPass)>
     requires { AreWithinGreatest limits }
