@@ -12,7 +12,9 @@ pub mod Taking
 pub mod Holders
 pub mod Alone
 pub mod Owners
+pub mod Kept
 pub mod Seen
+pub mod Righting
 pub mod Finishing
 pub mod Draining
 pub mod Results

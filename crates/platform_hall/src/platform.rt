@@ -1,10 +1,10 @@
 //! The platform.
-ghost use Rattle.std.specs.Prelude.{◌≡◌, [], IfOk, IfErr};
+ghost use Rattle.std.specs.Prelude.{◌≡◌, [], None, IfOk, IfErr, OnOk};
 ghost use Rattle.scr_world.specs.declared.reply.CoreFault.TheVariants.{OutOfMemory};
 ghost use Rattle.scr_requests.specs.Cores.{AreWithinGreatest};
 ghost use Rattle.scr_world.specs.Legal.{IsLegal};
 ghost use Rattle.scr_world.specs.Steps.{history_of};
-ghost use Rattle.platform_hall.specs.Desks.{DeskSettles, FinishesHeard, SettlesHeard};
+ghost use Rattle.platform_hall.specs.Desks.{AreRight, DeskSettles, FinishesHeard, SettlesHeard, left};
 ghost use Rattle.platform_hall.specs.Platforms.{BeginsTurn, FinishesTurn, SettlesAs, TakesCommand};
 ghost use Rattle.platform_hall.specs.SettleBounds.{SettlesWithin};
 
@@ -31,6 +31,7 @@ pub struct Platform<K: Kinds> {
 
 impl<K: Kinds> Model for Platform<K> {
     ghost use Rattle.scr_requests.specs.Cores.{CoreView};
+    ghost use Rattle.platform_hall.specs.Desks.{AreRight};
     ghost use Rattle.platform_hall.specs.Requests.{WereServletsOf};
     ghost use Rattle.std.specs.Prelude.{MatchOption};
     ghost use Rattle.std.specs.Coded.{codes};
@@ -42,7 +43,7 @@ impl<K: Kinds> Model for Platform<K> {
 
     ghost view = { λ p. p.desk.core };
 
-    ghost invariant = { λ p. MatchOption p.servlets (Unit {0}) (WereServletsOf p.desk.core.journal) };
+    ghost invariant = { λ p. MatchOption p.servlets (Unit {0}) (WereServletsOf p.desk.core.journal) × AreRight K.refuses p.desk.kept };
 }
 
 // Runs the turns that are due over the desk, and sees of it what contracts see of its core.
@@ -52,8 +53,10 @@ fn settle_desk<K: Kinds>(
     kinds: &K,
     turns: u64,
 ) -> Result<u64, SettleFault>
-    ensures settles { SettlesAs K.refuses turns desk.old.core result desk.new.core }
+    ensures settles { AreRight K.refuses desk.old.kept → SettlesAs K.refuses turns desk.old.core result desk.new.core }
+    ensures right { AreRight K.refuses desk.old.kept → AreRight K.refuses desk.new.kept }
     ensures heard { DeskSettles K.made K.hears K.refuses turns desk.old result desk.new }
+    ensures left { OnOk result (left desk.new ≡ None) }
 {
     settle(alloc, desk, kinds, turns)
 }
@@ -90,8 +93,10 @@ impl<K: Kinds + Drop> Platform<K> {
         Ok(accepted.reply)
     }
 
-    /// Runs the turns that are due, one after the other, until none is due, and answers how many ran. The drains that are due
-    /// behind a turn are posted before the next one begins. Each turn but a Create and a Destroy is heard of once, by the object that
+    /// Ends the turn that an earlier settling left under way for want of memory, if there is one, and then runs the turns that are
+    /// due, one after the other, until none is due, and answers how many of these ran. A turn that was told before it was left
+    /// ends with what it came to then, and nobody is told again. The drains that are due behind a turn are posted before the next
+    /// one begins. Where it is over it leaves no turn of its own under way. Each turn but a Create and a Destroy is heard of once, by the object that
     /// is kept for its instance, and that object was made for the class and the properties of its Create. Where the platform is calm and no creation or activation ends other than
     /// Done, no component configuration closes, and at most as many turns run as the settle bound says.
     ///
@@ -116,7 +121,7 @@ impl<K: Kinds + Drop> Platform<K> {
         ensures { BeginsTurn self.old result self.new }
     {
         self.servlets = None;
-        match self.desk.take(alloc) {
+        match self.desk.begin(alloc) {
             Ok(Some(work)) => Ok(Some(work.number)),
             Ok(None) => Ok(None),
             Err(DeskFault::JournalFull) => Err(CoreFault::JournalFull),
@@ -125,20 +130,21 @@ impl<K: Kinds + Drop> Platform<K> {
     }
 
     /// Runs a turn that has begun, ends it, posts the drains that are due then, and answers the outcome. Unless it is a Create or a
-    /// Destroy, the object that is kept for its instance hears of it once.
+    /// Destroy, the object that is kept for its instance hears of it once. A turn that was told before, and couldn't be ended then
+    /// for want of memory, ends with what it came to then, and nobody is told again.
     ///
     /// # Errors
-    /// `NoTurn` exactly where no turn of this number is under way. Otherwise only want of memory, which may leave the turn ended and
-    /// some of the drains posted.
+    /// `NoTurn` exactly where no turn of this number is under way. Otherwise only want of memory, which may leave the turn under
+    /// way, told or not, or ended and some of the drains posted.
     pub fn finish(&mut self, alloc: Global, turn: u64) -> Result<Outcome, FinishFault>
         ensures finishes { FinishesTurn K.refuses self.old turn result self.new }
-        ensures heard { IfOk result (λ outcome. FinishesHeard K.made K.hears self.old turn outcome self.new) }
+        ensures heard { IfOk result (λ outcome. FinishesHeard K.made K.hears K.refuses self.old turn outcome self.new) }
     {
         self.servlets = None;
         let Some(work) = self.desk.work(alloc, turn)? else {
             return Err(FinishFault::NoTurn);
         };
-        match finish(alloc, &mut self.desk, &self.kinds, &work) {
+        match finish(alloc, &mut self.desk, &self.kinds, work) {
             Ok(outcome) => Ok(outcome),
             Err(_) => Err(FinishFault::OutOfMemory),
         }
