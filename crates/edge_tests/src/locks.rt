@@ -1,10 +1,9 @@
 //! A lock round a list, and its passes.
-ghost use Rattle.std.specs.Prelude.{◌≡◌, [], ◌∷◌, ◌++◌, IfOk, OnErr, OnOk};
+ghost use Rattle.std.specs.Prelude.{◌≡◌, [], ◌∷◌, ◌++◌, ◌+◌, OnErr, OnOk};
 
 use front_lock::{FrontLock, Grows, LockFault, Pass};
 use std::alloc::{AllocError, Global};
 use std::sync::Wait;
-use std::test::Fail;
 
 // Letters, each with its owner, and marks that are kept for passes.
 #[derive(Drop)]
@@ -73,71 +72,103 @@ fn mark<R: Wait>(rt: &R, lock: &FrontLock<Letters>, pass: Pass<char>, mark: u64)
     }
 }
 
-fn new_lock(alloc: Global) -> Result<(FrontLock<Letters>, Pass<char>), Fail>
-    ensures { IfOk result (λ r. (r.1.lock ≡ r.0) × (r.1.spare ≡ 63)) }
+/// What is done with a new lock and its one pass.
+#[derive(Clone, Copy)]
+enum Deed {
+    /// Each of two passes appends a letter.
+    Append,
+    /// Each of two passes keeps a mark.
+    Mark,
+    /// A second pass is to be split.
+    Split,
+}
+
+// Whether the letters stand in the order of the appends, each under its pass.
+fn both_append<R: Wait>(
+    rt: &R,
+    lock: FrontLock<Letters>,
+    first: Pass<char>,
+    second: Pass<char>,
+) -> bool
+    requires { (first.lock ≡ lock) × (second.lock ≡ lock) × (first.spare + second.spare + 1 ≡ 63) }
 {
+    let number = second.number();
+    let second = append(rt, &lock, second, 'b');
+    let first = append(rt, &lock, first, 'a');
+    let are_seen = first.seen() == 2 && second.seen() == 1;
+    let pass = lock.join(rt, first, second);
+    let letters = lock.close(pass);
+    are_seen && letters.items.as_slice() == [(number, 'b'), (0, 'a')].as_slice()
+}
+
+// Whether the marks stand in the order in which they were kept, each under its pass.
+fn both_mark<R: Wait>(
+    rt: &R,
+    lock: FrontLock<Letters>,
+    first: Pass<char>,
+    second: Pass<char>,
+) -> bool
+    requires { (first.lock ≡ lock) × (second.lock ≡ lock) × (first.spare + second.spare + 1 ≡ 63) }
+{
+    let number = second.number();
+    let second = mark(rt, &lock, second, 8);
+    let first = mark(rt, &lock, first, 7);
+    let inner = lock.enter(rt, second);
+    let is_fourth = inner.ticket() == 4;
+    let second = lock.leave(inner);
+    let pass = lock.join(rt, first, second);
+    let letters = lock.close(pass);
+    is_fourth && letters.marks.as_slice() == [(number, 8), (0, 7)].as_slice()
+}
+
+fn is_not_split<R: Wait>(rt: &R, lock: &FrontLock<Letters>, pass: Pass<char>) -> bool
+    requires { pass.lock ≡ lock.now }
+{
+    if pass.spare() != 0 {
+        return false;
+    }
+    match lock.split(rt, pass) {
+        Ok(_) => false,
+        Err((_, fault)) => fault == LockFault::SeatsFull,
+    }
+}
+
+fn is_done<R: Wait>(rt: &R, lock: FrontLock<Letters>, pass: Pass<char>, deed: Deed) -> bool
+    requires { (pass.lock ≡ lock) × (pass.spare ≡ 63) }
+{
+    match lock.split(rt, pass) {
+        Ok((first, second)) => match deed {
+            Deed::Append => both_append(rt, lock, first, second),
+            Deed::Mark => both_mark(rt, lock, first, second),
+            Deed::Split => is_not_split(rt, &lock, second),
+        },
+        Err(_) => false,
+    }
+}
+
+// Whether a deed comes to what it says. No other function makes a lock.
+fn holds<R: Wait>(rt: &R, alloc: Global, deed: Deed) -> bool {
     let letters = Letters {
         items: Vec::new(alloc),
         marks: Vec::new(alloc),
     };
     match FrontLock::new(alloc, letters) {
-        Ok(made) => Ok(made),
-        Err(_) => Err("no memory".into()),
+        Ok((lock, pass)) => is_done(rt, lock, pass, deed),
+        Err(_) => false,
     }
 }
 
 #[test]
-fn passes_append_to_one_history(rt: HostRuntime) -> Result<(), Fail> {
-    let (lock, pass) = new_lock(rt.alloc())?;
-    let (first, second) = match lock.split(&rt, pass) {
-        Ok(both) => both,
-        Err(_) => return Err("no second pass".into()),
-    };
-    let number = second.number();
-    let second = append(&rt, &lock, second, 'b');
-    let first = append(&rt, &lock, first, 'a');
-    assert_eq!(rt; (first.seen(), second.seen()), (2, 1));
-    let pass = lock.join(&rt, first, second);
-    let letters = lock.close(pass);
-    assert_eq!(rt;
-        letters.items.as_slice(),
-        [(number, 'b'), (0, 'a')].as_slice()
-    );
-    Ok(())
+fn passes_append_to_one_history(rt: HostRuntime) {
+    assert!(rt; holds(&rt, rt.alloc(), Deed::Append));
 }
 
 #[test]
-fn marks_are_kept_for_their_passes(rt: HostRuntime) -> Result<(), Fail> {
-    let (lock, pass) = new_lock(rt.alloc())?;
-    let (first, second) = match lock.split(&rt, pass) {
-        Ok(both) => both,
-        Err(_) => return Err("no second pass".into()),
-    };
-    let number = second.number();
-    let second = mark(&rt, &lock, second, 8);
-    let first = mark(&rt, &lock, first, 7);
-    let inner = lock.enter(&rt, second);
-    assert_eq!(rt; inner.ticket(), 4);
-    let second = lock.leave(inner);
-    let pass = lock.join(&rt, first, second);
-    let letters = lock.close(pass);
-    assert_eq!(rt; letters.marks.as_slice(), [(number, 8), (0, 7)].as_slice());
-    Ok(())
+fn marks_are_kept_for_their_passes(rt: HostRuntime) {
+    assert!(rt; holds(&rt, rt.alloc(), Deed::Mark));
 }
 
 #[test]
-fn a_second_pass_is_not_split(rt: HostRuntime) -> Result<(), Fail> {
-    let (lock, pass) = new_lock(rt.alloc())?;
-    let (_first, second) = match lock.split(&rt, pass) {
-        Ok(both) => both,
-        Err(_) => return Err("no second pass".into()),
-    };
-    assert_eq!(rt; second.spare(), 0);
-    match lock.split(&rt, second) {
-        Ok(_) => Err("split".into()),
-        Err((_, fault)) => {
-            assert_eq!(rt; fault, LockFault::SeatsFull);
-            Ok(())
-        }
-    }
+fn a_second_pass_is_not_split(rt: HostRuntime) {
+    assert!(rt; holds(&rt, rt.alloc(), Deed::Split));
 }

@@ -1,17 +1,21 @@
 //! Bundles for tests.
 
 use bundle_headers::Manifest;
-use bundle_wiring::{Wiring, read_wiring};
+use bundle_wiring::{Offer, WireFault, Wiring, read_wiring};
 use std::alloc::Global;
-use std::test::Fail;
 
-/// What a manifest with these headers needs and offers.
-pub(crate) fn wiring(alloc: Global, headers: &str) -> Result<Wiring, Fail> {
-    let manifest = Manifest::parse(alloc, headers.as_bytes())?;
-    Ok(read_wiring(alloc, &manifest)?)
+/// What a manifest with these headers needs and offers, or why that is none; nothing where it is no manifest.
+pub(crate) fn wiring(alloc: Global, headers: &str) -> Option<Result<Wiring, WireFault>> {
+    match Manifest::parse(alloc, headers.as_bytes()) {
+        Ok(manifest) => Some(read_wiring(alloc, &manifest)),
+        Err(_) => None,
+    }
 }
 
-/// A bundle with this number and these headers.
-pub(crate) fn bundle(alloc: Global, number: u64, headers: &str) -> Result<(u64, Wiring), Fail> {
-    Ok((number, wiring(alloc, headers)?))
+/// Whether an offer has this version.
+pub(crate) fn has_version(alloc: Global, offer: &Offer, version: &str) -> bool {
+    match offer.version.get().text(alloc) {
+        Ok(text) => text.as_str() == version,
+        Err(_) => false,
+    }
 }

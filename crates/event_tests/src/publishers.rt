@@ -3,11 +3,10 @@ ghost use Rattle.std.specs.Thread.{IsSync};
 ghost use Rattle.std.specs.Prelude.{◌≡◌};
 
 use crate::samples::post;
-use event_admin::{Delivery, EventHub, Post, Publisher};
+use event_admin::{Delivery, EventHub, Left, Post, Publisher};
 use std::alloc::Global;
 use std::sync::Wait;
 use std::sync::atomic::{AtomicBool, Ordering};
-use std::test::Fail;
 use std::thread;
 use std::thread::{Threads, join};
 
@@ -201,36 +200,86 @@ fn send_and_receive<R: Threads + Wait + Sync>(
     )
 }
 
-#[test]
-fn a_third_thread_takes_all(rt: HostRuntime) -> Result<(), Fail> {
-    let (hub, publisher, delivery) = EventHub::new(rt.alloc(), 4)?;
+// What each publisher posted, what the delivery took, and what was left then.
+#[derive(Drop)]
+struct Ended {
+    first: u64,
+    second: u64,
+    tally: Tally,
+    left: Left,
+}
+
+impl Ended {
+    fn is_all(&self) -> bool {
+        self.tally.first == 1000
+            && self.tally.second == 1000
+            && !self.tally.amiss
+            && self.left.taken == 2000
+            && self.left.left.len() == 0
+    }
+
+    // Whether a thousand were taken, and with what is left they are all that was posted.
+    fn is_whole(&self) -> bool {
+        let mut tally = self.tally;
+        let is_half = self.left.taken == 1000 && tally.count() == 1000;
+        for post in self.left.left.as_slice() {
+            tally.note(post);
+        }
+        is_half && tally.first == self.first && tally.second == self.second && !tally.amiss
+    }
+}
+
+// What a hub comes to whose delivery takes so many posts.
+fn outcome<R: Threads + Wait + Sync>(
+    rt: &R,
+    alloc: Global,
+    hub: EventHub,
+    publisher: Publisher,
+    delivery: Delivery,
+    count: u64,
+) -> Ended
+    requires { (publisher.hub ≡ hub.hub) × (delivery.hub ≡ hub.hub) × (publisher.spare ≡ 63) }
+{
     let publishers = hub.split(publisher);
-    let (first, second, received) = run_all(&rt, rt.alloc(), &hub, publishers, delivery, 2000);
+    let (first, second, received) = run_all(rt, alloc, &hub, publishers, delivery, count);
     let publisher = hub.join(first.publisher, second.publisher);
-    let left = hub.close(&rt, publisher, received.delivery);
-    let Tally {
-        first,
-        second,
-        amiss,
-    } = received.tally;
-    assert_eq!(rt; (first, second, amiss), (1000, 1000, false));
-    assert_eq!(rt; (left.taken, left.left.len()), (2000, 0));
-    Ok(())
+    let left = hub.close(rt, publisher, received.delivery);
+    Ended {
+        first: first.count,
+        second: second.count,
+        tally: received.tally,
+        left,
+    }
+}
+
+// The same in a new hub, nothing where there is no memory.
+fn run<R: Threads + Wait + Sync>(rt: &R, alloc: Global, count: u64) -> Option<Ended> {
+    match EventHub::new(alloc, 4) {
+        Ok((hub, publisher, delivery)) => Some(outcome(rt, alloc, hub, publisher, delivery, count)),
+        Err(_) => None,
+    }
+}
+
+fn takes_all<R: Threads + Wait + Sync>(rt: &R, alloc: Global) -> bool {
+    match run(rt, alloc, 2000) {
+        Some(ended) => ended.is_all(),
+        None => false,
+    }
 }
 
 #[test]
-fn what_was_taken_and_what_is_left_are_the_whole(rt: HostRuntime) -> Result<(), Fail> {
-    let (hub, publisher, delivery) = EventHub::new(rt.alloc(), 4)?;
-    let publishers = hub.split(publisher);
-    let (first, second, received) = run_all(&rt, rt.alloc(), &hub, publishers, delivery, 1000);
-    let publisher = hub.join(first.publisher, second.publisher);
-    let left = hub.close(&rt, publisher, received.delivery);
-    let mut tally = received.tally;
-    assert_eq!(rt; (left.taken, tally.count()), (1000, 1000));
-    for post in left.left.as_slice() {
-        tally.note(post);
+fn a_third_thread_takes_all(rt: HostRuntime) {
+    assert!(rt; takes_all(&rt, rt.alloc()));
+}
+
+fn are_whole<R: Threads + Wait + Sync>(rt: &R, alloc: Global) -> bool {
+    match run(rt, alloc, 1000) {
+        Some(ended) => ended.is_whole(),
+        None => false,
     }
-    let counts = (tally.first, tally.second, tally.amiss);
-    assert_eq!(rt; counts, (first.count, second.count, false));
-    Ok(())
+}
+
+#[test]
+fn what_was_taken_and_what_is_left_are_the_whole(rt: HostRuntime) {
+    assert!(rt; are_whole(&rt, rt.alloc()));
 }

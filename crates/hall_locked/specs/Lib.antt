@@ -1,3 +1,4 @@
+pub mod Cores
 pub mod Owned
 pub mod Locks
 pub mod Parts

@@ -17,4 +17,5 @@ mod turns;
 pub use locked::Locked;
 pub use owed::Owed;
 pub use part::Part;
+pub use scr_core::Core;
 pub use sending::locked_is_send;

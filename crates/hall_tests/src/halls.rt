@@ -4,8 +4,8 @@ ghost use Rattle.std.specs.Prelude.{◌≡◌, ◌+◌, IfSome};
 
 use crate::samples::{IMMEDIATE, LIMITS, PROVIDER, install};
 use demonstration_kinds::Demonstration;
-use platform_sessions::{Hall, HallPass, LockFault, Look};
-use scr_core::{Command, Core, Reply};
+use platform_sessions::{Core, Hall, HallPass, LockFault, Look};
+use scr_world::{Command, Reply};
 use std::alloc::Global;
 use std::sync::Wait;
 

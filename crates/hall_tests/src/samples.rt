@@ -1,7 +1,7 @@
 //! Documents and commands for tests.
 
 use bundle_doc::read_bundle;
-use scr_core::{Command, Limits};
+use scr_world::{Command, Limits};
 use std::alloc::Global;
 
 pub(crate) const LIMITS: Limits = Limits {

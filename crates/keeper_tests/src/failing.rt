@@ -1,59 +1,82 @@
 //! A keeper whose third call fails, and what faults are told as.
 
-use crate::changes::{P, install, start, tell};
+use crate::changes::{P, Told, tell};
+use crate::stories::{Story, holds_in_database, holds_in_memory};
 use std::alloc::Global;
-use std::test::Fail;
-use world_keeper::{KeepFault, Keeper, Kept, MemoryKeeper, SqliteKeeper};
+use world_keeper::{KeepFault, Keeper, Kept};
+
+/// What a third call comes to, how many faults there are then, and whether the bundle is marked.
+pub(crate) struct Third {
+    end: Result<(), KeepFault>,
+    faults: u64,
+    marked: bool,
+}
 
 // How a start went behind a `load` and an install.
 fn start_third<K: Keeper>(alloc: Global, keeper: &mut K) -> Result<(), KeepFault> {
     match keeper.load() {
-        Ok(_) => tell(keeper, install(alloc, "p", P))?,
+        Ok(_) => tell(alloc, keeper, &Told::Install("p", P))?,
         Err(fault) => return Err(fault),
     }
-    tell(keeper, start(alloc, "p"))
+    tell(alloc, keeper, &Told::Start("p"))
 }
 
-// Whether the one bundle that is kept is marked.
-fn is_marked<K: Keeper>(keeper: &mut K) -> Option<bool> {
+// Whether one bundle is kept, and is marked so.
+fn is_marked<K: Keeper>(keeper: &mut K, marked: bool) -> bool {
     match keeper.load() {
-        Ok(kept) => mark_in(&kept),
-        Err(_) => None,
+        Ok(kept) => mark_is(&kept, marked),
+        Err(_) => false,
     }
 }
 
-fn mark_in(kept: &Kept) -> Option<bool> {
+fn mark_is(kept: &Kept, marked: bool) -> bool {
     match kept.bundles.as_slice() {
-        [bundle] => Some(bundle.started),
-        _ => None,
+        [bundle] => bundle.started == marked,
+        _ => false,
     }
 }
+
+/// Whether the third call goes so.
+pub(crate) fn goes<K: Keeper>(alloc: Global, keeper: &mut K, third: &Third) -> bool {
+    start_third(alloc, keeper) == third.end
+        && keeper.faults() == third.faults
+        && is_marked(keeper, third.marked)
+}
+
+const FAILED: &Third = &Third {
+    end: Err(KeepFault::Failed),
+    faults: 1,
+    marked: false,
+};
 
 #[test]
-fn the_listed_call_fails(rt: HostRuntime) -> Result<(), Fail> {
-    let alloc = rt.alloc();
-    let mut keeper = MemoryKeeper::new(alloc, vec![in alloc; 2]?);
-    assert_eq!(rt; start_third(alloc, &mut keeper), Err(KeepFault::Failed));
-    assert_eq!(rt; keeper.faults(), 1);
-    assert_eq!(rt; is_marked(&mut keeper), Some(false));
-    Ok(())
+fn the_listed_call_fails(rt: HostRuntime) {
+    assert!(rt; holds_in_memory(rt.alloc(), &[2], &Story::Third(FAILED)));
 }
+
+const DONE: &Third = &Third {
+    end: Ok(()),
+    faults: 0,
+    marked: true,
+};
 
 #[test]
 fn a_database_in_memory_has_no_fault(rt: HostRuntime) {
-    let alloc = rt.alloc();
-    let mut keeper = SqliteKeeper::new(alloc);
-    assert_eq!(rt; start_third(alloc, &mut keeper), Ok(()));
-    assert_eq!(rt; keeper.faults(), 0);
-    assert_eq!(rt; is_marked(&mut keeper), Some(true));
+    assert!(rt; holds_in_database(rt.alloc(), &Story::Third(DONE)));
+}
+
+fn is_printed(alloc: Global, fault: KeepFault, wanted: &str) -> bool {
+    match format!(in alloc; "{fault}") {
+        Ok(text) => text.as_str() == wanted,
+        Err(_) => false,
+    }
 }
 
 #[test]
-fn faults_have_texts(rt: HostRuntime) -> Result<(), Fail> {
+fn faults_have_texts(rt: HostRuntime) {
     let alloc = rt.alloc();
-    let failed = format!(in alloc; "{}", KeepFault::Failed)?;
-    assert_eq!(rt; failed.as_str(), "the keeper failed");
-    let no_memory = format!(in alloc; "{}", KeepFault::OutOfMemory)?;
-    assert_eq!(rt; no_memory.as_str(), "out of memory");
-    Ok(())
+    assert!(rt;
+        is_printed(alloc, KeepFault::Failed, "the keeper failed")
+            && is_printed(alloc, KeepFault::OutOfMemory, "out of memory")
+    );
 }

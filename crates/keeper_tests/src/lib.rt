@@ -13,3 +13,5 @@ mod long_lists;
 mod odd_texts;
 #[cfg(test)]
 mod shown;
+#[cfg(test)]
+mod stories;

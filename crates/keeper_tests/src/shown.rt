@@ -3,14 +3,21 @@
 use prop_map::{OutOfMemory, Properties, Value};
 use scr_world::Command;
 use std::alloc::Global;
-use world_keeper::{KeepFault, Keeper, Kept, KeptBundle, KeptConfiguration};
+use world_keeper::{Keeper, Kept, KeptBundle, KeptConfiguration};
 use world_reopening::reopen_commands;
 
-/// The bundles that a keeper keeps, the configurations, and the commands for them, or why there are none.
-pub(crate) fn shown<K: Keeper>(alloc: Global, keeper: &mut K) -> Result<String, KeepFault> {
+/// Whether the bundles that a keeper keeps, the configurations, and the commands for them, or why there are none, are shown so.
+pub(crate) fn is_shown<K: Keeper>(alloc: Global, keeper: &mut K, wanted: &str) -> bool {
     match keeper.load() {
-        Ok(kept) => Ok(text_of(alloc, &kept)?),
-        Err(fault) => Err(fault),
+        Ok(kept) => is_text(text_of(alloc, &kept), wanted),
+        Err(_) => false,
+    }
+}
+
+fn is_text(text: Result<String, OutOfMemory>, wanted: &str) -> bool {
+    match text {
+        Ok(text) => text.as_str() == wanted,
+        Err(_) => false,
     }
 }
 

@@ -11,7 +11,7 @@ use Rattle.hall_locked.specs.Locks.{AppendsFor, IsLocked, LockedView, limits_cod
 use Rattle.hall_locked.specs.Owned.{as_kept, entries_in, owned}
 use Rattle.journal_core.specs.declared.entry.Entry.{Entry}
 use Rattle.platform_sessions.specs.Halls.{HallPassView, HallView, IsOf, KeepsPass, KeepsSeat, Own, View, core_seen}
-use Rattle.scr_core.specs.Cores.{CoreView}
+use Rattle.hall_locked.specs.Cores.{CoreView}
 use Rattle.scr_world.specs.declared.command.Limits.{Limits}
 use Rattle.scr_world.specs.declared.step.Step.{Step}
 
@@ -84,9 +84,6 @@ stretch p q pass back turn began log kept own its apart goes put left = record {
 }
 
 module _ (p q : View) (began log : Own) (kept : List (ℕ × ℕ)) (s : Stretch p q began log kept) where
-  pub stretch_of : (hall : HallView) → IsOf hall (record { front = p }) → IsOf hall (record { front = q })
-  stretch_of hall of = record { lock = ap (λ (v : View). v.lock) s.same ∙ of.lock; limits = ap (λ (v : View). v.tie) s.same ∙ of.limits }
-
   pub stretch_seat : KeepsSeat p q
   stretch_seat = (ap (λ (v : View). v.number) s.same, ap (λ (v : View). v.spare) s.same)
 

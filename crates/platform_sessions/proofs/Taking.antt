@@ -16,7 +16,7 @@ use Rattle.platform_hall.specs.Platforms.{CoreTakes, has_drain, world}
 use Rattle.platform_sessions.specs.Commands.{Appended, IsDrain, IsOwed, Posts, Refused, TookCommand, Unchanged}
 use Rattle.platform_sessions.specs.Halls.{View}
 use Rattle.platform_sessions.proofs.Stretches.{core_is, journal_is, journal_was, longer_by_one, looked, near, none_more, one_more, went_by}
-use Rattle.scr_core.specs.Cores.{CoreView}
+use Rattle.hall_locked.specs.Cores.{CoreView}
 use Rattle.scr_world.specs.Calls.{Commands, GrownIf, next_drain, world_at}
 use Rattle.scr_world.specs.Refusals.{refusal, refuse_if}
 use Rattle.scr_world.specs.Replies.{Replies, answer, changes, has_effect, reply}

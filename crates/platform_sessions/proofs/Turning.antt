@@ -26,7 +26,7 @@ use Rattle.platform_sessions.proofs.Things.{but_kept, by_but, by_there}
 use Rattle.platform_sessions.proofs.WorkStays.{running_stays}
 use Rattle.platform_sessions.proofs.Stretches.{core_is, core_with, entries_owned, journal_was, longer_by_one, looked, none_more, one_more, went_by}
 use Rattle.prop_map.specs.declared.properties.Property.{Property}
-use Rattle.scr_core.specs.Cores.{CoreView}
+use Rattle.hall_locked.specs.Cores.{CoreView}
 use Rattle.scr_laws.proofs.Numbering.{next_turn}
 use Rattle.scr_world.specs.Dues.{next_begin}
 use Rattle.scr_world.specs.declared.command.Limits.{Limits}

@@ -12,7 +12,7 @@ use Rattle.platform_sessions.specs.Halls.{KeepsPass, KeepsSeat, Own, View}
 use Rattle.platform_sessions.specs.Works.{AllEnd, AllPosted, AllTold, AreTurnSteps, BeginsOne, EndsIn, EndsOne, HasBegun, HasEnd, HasEnded, IsBeginOf, IsEndOf, IsPostedBehind, IsPostedFor, IsOneMore, IsTold, IsTurnStep, RanSoMany, RunsDue, Works, begins_in, things_but}
 use Rattle.platform_sessions.proofs.Goings.{posted_owed, posts_owed}
 use Rattle.prop_map.specs.declared.properties.Property.{Property}
-use Rattle.scr_core.specs.Cores.{CoreView}
+use Rattle.hall_locked.specs.Cores.{CoreView}
 use Rattle.scr_world.specs.Stepping.{begins_by}
 use Rattle.scr_world.specs.declared.command.Limits.{Limits}
 use Rattle.scr_world.specs.declared.reply.CoreFault.{CoreFault}

@@ -1,12 +1,12 @@
 -- A hall and its passes, as contracts see them, and what a pass has seen. Our own.
-use Rattle.std.specs.Prelude.{◌≡◌, ℕ, List, [], Option, Some, None}
+use Rattle.std.specs.Prelude.{◌≡◌, ℕ, List, [], Bool, Option, Some, None}
 use Rattle.atomic_table.specs.Seated.{TableId}
 use Rattle.front_lock.specs.Passes.{PassView}
 use Rattle.hall_goings.specs.Went.{up_to}
 use Rattle.hall_locked.specs.Locks.{limits_code}
 use Rattle.hall_locked.specs.Owned.{entries_in}
 use Rattle.journal_core.specs.declared.entry.Entry.{Entry}
-use Rattle.scr_core.specs.Cores.{CoreView}
+use Rattle.hall_locked.specs.Cores.{CoreView}
 use Rattle.scr_world.specs.declared.command.Limits.{Limits}
 use Rattle.scr_world.specs.declared.step.Step.{Step}
 
@@ -23,9 +23,10 @@ pub record HallView : Type 0 where
   pub lock : TableId
   pub limits : Limits
 
--- a pass of a hall: what its pass of the lock knows
+-- a pass of a hall: what its pass of the lock knows, and whether it closed the hall or was told that somebody did
 pub record HallPassView : Type 0 where
   pub front : View
+  pub closed : Bool
 
 -- what a caller owes: the pass is one of this hall
 pub record IsOf (hall : HallView) (pass : HallPassView) : Type 0 where

@@ -1,3 +1,4 @@
+pub mod Cores
 pub mod Halls
 pub mod Commands
 pub mod Reads

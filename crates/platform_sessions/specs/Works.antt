@@ -1,16 +1,18 @@
 -- What running turns does in a hall, for a pass. Our own; callbacks and their outcomes are OSGi Compendium 8, chapter 112, component life
 -- cycle.
-use Rattle.std.specs.Prelude.{◌≡◌, ℕ, ◌+◌, ◌≤◌, ◌<◌, ◌⊎◌, ◌==◌, List, [], ◌∷◌, filter, length, not, Bool, true, false, Option, Some, None, is_some, Result, Ok, Err}
-use Rattle.std.specs.List.{Contains}
+use Rattle.std.specs.Prelude.{◌≡◌, ℕ, ◌+◌, ◌≤◌, ◌<◌, ◌⊎◌, ◌==◌, List, [], ◌∷◌, filter, length, not, Bool, true, false, Option, Some, None, is_some, option_map, IfSome, MatchOption, Result, Ok, Err}
+use Rattle.std.specs.Arc.{arc_value}
+use Rattle.std.specs.List.{Contains, find}
 use Rattle.hall_goings.specs.Went.{Went}
 use Rattle.hall_locked.specs.Owned.{turn_thing}
+use Rattle.hall_locked.specs.declared.part.Part.{Part}
 use Rattle.journal_core.specs.declared.entry.Entry.{Entry}
 use Rattle.kind_trait.specs.Meanings.{Told}
 use Rattle.platform_hall.specs.Platforms.{BeginsTurn, has_drain, has_due, running}
 use Rattle.platform_sessions.specs.Commands.{AreDrains}
 use Rattle.platform_sessions.specs.Halls.{Own, View, core_seen, core_up_to}
 use Rattle.prop_map.specs.declared.properties.Property.{Property}
-use Rattle.scr_core.specs.Cores.{CoreView}
+use Rattle.hall_locked.specs.Cores.{CoreView}
 use Rattle.scr_world.specs.Stepping.{begins_by}
 use Rattle.scr_world.specs.declared.command.Limits.{Limits}
 use Rattle.scr_world.specs.declared.reply.CoreFault.{CoreFault}
@@ -150,6 +152,14 @@ IsRunFor refuses limits pass turn ran =
 abbrev pub IsTask : {X : Type 0} → TurnWork → Option (TurnWork × Option X) → Type 0
 IsTask work None = Unit {0}
 IsTask work (Some task) = (task.0 ≡ work) × (is_some task.1 ≡ needs_object work)
+
+-- the object that is kept for an instance, the first one of them
+abbrev pub object_kept : {O : Type 0} → List (Part O) → ℕ → Option O
+object_kept parts instance = option_map (λ part. arc_value part.object) (find (λ part. part.instance == instance) parts)
+
+-- what is handed out has the object that is kept for the turn's instance
+abbrev pub IsOwn : {O X : Type 0} → (X → O) → List (Part O) → Option (TurnWork × Option X) → Type 0
+IsOwn shared parts task = IfSome task (λ t. MatchOption t.1 (Unit {0}) (λ object. object_kept parts t.0.instance ≡ Some (shared object)))
 
 -- what a value answers where a turn is begun in it, without what is handed out
 abbrev pub begun_of : {X : Type 0} → Result (Option (ℕ × X)) CoreFault → Result (Option ℕ) CoreFault

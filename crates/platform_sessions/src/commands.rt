@@ -8,7 +8,7 @@ use crate::hall_pass::{HallPass, put};
 use hall_locked::Owed;
 use kind_trait::Kinds;
 use prop_map::OutOfMemory;
-use scr_core::{Accepted, Command, CoreFault, Reply};
+use scr_world::{Accepted, Command, CoreFault, Reply};
 use std::alloc::Global;
 use std::sync::Wait;
 use std::thread;
@@ -21,7 +21,8 @@ impl<K: Kinds + Drop> Hall<K> {
     /// drain it tries again.
     ///
     /// # Errors
-    /// Those of [`scr_core::Core::command`], by all that the pass has seen then. A refused command appends nothing.
+    /// Those of [`Core::command`](hall_locked::Core::command), by all that the pass has seen then. A refused command
+    /// appends nothing.
     #[tactic(auto, using(crate::proofs::Stretches::keeps_on))]
     pub fn command<R: Wait>(
         &self,
@@ -32,6 +33,7 @@ impl<K: Kinds + Drop> Hall<K> {
     ) -> Result<(u64, Reply), CoreFault>
         requires of { IsOf self.now pass.old }
         ensures of { IsOf self.now pass.new }
+        ensures closed { pass.new.closed ≡ pass.old.closed }
         ensures keeps { KeepsPass pass.old.front pass.new.front }
         ensures taken { TakesCommand self.now.limits pass.old.front pass.new.front command result }
     {
@@ -51,6 +53,7 @@ impl<K: Kinds + Drop> Hall<K> {
     ) -> (Result<(Accepted, Option<Owed>), CoreFault>, u64)
         requires of { IsOf self.now pass.old }
         ensures of { IsOf self.now pass.new }
+        ensures closed { pass.new.closed ≡ pass.old.closed }
         ensures keeps { KeepsPass pass.old.front pass.new.front }
         ensures taken { TookCommand self.now.limits pass.old.front pass.new.front command result.0 result.1 }
     {
@@ -75,6 +78,7 @@ impl<K: Kinds + Drop> Hall<K> {
     )
         requires of { IsOf self.now pass.old }
         ensures of { IsOf self.now pass.new }
+        ensures closed { pass.new.closed ≡ pass.old.closed }
         ensures keeps { KeepsPass pass.old.front pass.new.front }
         ensures posted { PostsOwed self.now.limits owed pass.old.front pass.new.front }
     {
@@ -90,6 +94,7 @@ impl<K: Kinds + Drop> Hall<K> {
     fn post_all<R: Wait>(&self, rt: &R, alloc: Global, pass: &mut HallPass, owed: Owed)
         requires of { IsOf self.now pass.old }
         ensures of { IsOf self.now pass.new }
+        ensures closed { pass.new.closed ≡ pass.old.closed }
         ensures keeps { KeepsPass pass.old.front pass.new.front }
         ensures posted { Posts pass.old.front pass.new.front }
         ensures all { IsPosted self.now.limits pass.new.front }
@@ -118,6 +123,7 @@ impl<K: Kinds + Drop> Hall<K> {
     ) -> Result<Option<Owed>, (Owed, OutOfMemory)>
         requires of { IsOf self.now pass.old }
         ensures of { IsOf self.now pass.new }
+        ensures closed { pass.new.closed ≡ pass.old.closed }
         ensures keeps { KeepsPass pass.old.front pass.new.front }
         ensures posted { Posts pass.old.front pass.new.front }
         ensures left { IfOk result (λ left. IsOwed self.now.limits pass.new.front left) }

@@ -3,18 +3,18 @@ ghost use Rattle.front_lock.specs.Histories.{AllEnded, AllPlaced, Extends, In, O
 ghost use Rattle.front_lock.specs.Passes.{names_of};
 ghost use Rattle.hall_locked.specs.Owned.{owned};
 ghost use Rattle.platform_sessions.specs.Halls.{IsOf, first_pass};
-ghost use Rattle.scr_core.specs.Cores.{AreWithinGreatest};
+ghost use Rattle.hall_locked.specs.Cores.{AreWithinGreatest};
 ghost use Rattle.scr_world.specs.Legal.{IsLegal};
 ghost use Rattle.scr_world.specs.Steps.{history_of};
 ghost use Rattle.scr_world.specs.declared.reply.CoreFault.TheVariants.{OutOfMemory};
-ghost use Rattle.std.specs.Prelude.{◌≡◌, ℕ, IfErr, IfOk, length};
+ghost use Rattle.std.specs.Prelude.{◌≡◌, ℕ, IfErr, IfOk, false, length};
 
 use crate::hall_pass::HallPass;
 use front_lock::FrontLock;
 use hall_locked::Locked;
 use journal_core::Journal;
 use kind_trait::Kinds;
-use scr_core::{CoreFault, Limits, Step};
+use scr_world::{CoreFault, Limits, Step};
 use std::alloc::Global;
 use std::marker::Model;
 use std::sync::atomic::AtomicBool;
@@ -45,6 +45,7 @@ impl<K: Kinds + Drop> Hall<K> {
     pub fn new(alloc: Global, kinds: K, limits: Limits) -> Result<(Hall<K>, HallPass), CoreFault>
         requires within { AreWithinGreatest limits }
         ensures ok { IfOk result (λ r. (r.0.limits ≡ limits) × (r.1.front ≡ first_pass r.0)) }
+        ensures open { IfOk result (λ r. r.1.closed ≡ false) }
         ensures of { IfOk result (λ r. IsOf r.0 r.1) }
         ensures err { IfErr result (λ fault. fault ≡ OutOfMemory) }
     {
@@ -57,10 +58,17 @@ impl<K: Kinds + Drop> Hall<K> {
                     limits,
                     closing: AtomicBool::new(false),
                 };
-                Ok((hall, HallPass::of(pass)))
+                Ok((hall, HallPass::of(pass, false)))
             }
             Err(_) => Err(CoreFault::OutOfMemory),
         }
+    }
+
+    /// Its limits.
+    pub fn limits(&self) -> Limits
+        ensures { result ≡ self.now.limits }
+    {
+        self.limits
     }
 
     /// The journal, and the owner of each entry: the number of the pass under which it was appended. All other passes

@@ -5,16 +5,18 @@ ghost use Rattle.std.specs.Prelude.{◌≡◌, None, Some, length};
 
 use front_lock::Pass;
 use journal_core::Entry;
-use scr_core::Step;
+use scr_world::Step;
 use std::marker::Model;
 use std::mem;
 
 /// A pass of a hall: the right to make calls of it. Contracts see what it knows of the one history: which entries it
-/// has seen, and which of them are its own. A pass that is dropped is never joined, so its hall never gives its journal.
+/// has seen, and which of them are its own; and whether it knows that the hall was closed. A pass that is dropped is
+/// never joined, so its hall never gives its journal.
 #[derive(Drop)]
 pub struct HallPass {
     // None while it is at the lock.
     pub(crate) pass: Option<Pass<Entry<Step>>>,
+    pub(crate) closed: bool,
 }
 
 impl Model for HallPass {
@@ -29,18 +31,22 @@ impl Model for HallPass {
 
     ghost coded = { Prim.hlevel (codes, tree_code) };
 
-    ghost view = { λ h. record { front = front_in h.pass } };
+    ghost view = { λ h. record { front = front_in h.pass; closed = h.closed } };
 
     ghost invariant = { λ h. (h.pass ≡ Some (front_in h.pass)) × Distinct (names_of (front_in h.pass)) };
 }
 
 impl HallPass {
-    // The pass of a hall that has this pass of its lock.
-    pub(crate) fn of(pass: Pass<Entry<Step>>) -> HallPass
+    // The pass of a hall that has this pass of its lock, and knows so much of its closing.
+    pub(crate) fn of(pass: Pass<Entry<Step>>, closed: bool) -> HallPass
         requires { Distinct (names_of pass) }
-        ensures { result.front ≡ pass }
+        ensures front { result.front ≡ pass }
+        ensures closed { result.closed ≡ closed }
     {
-        HallPass { pass: Some(pass) }
+        HallPass {
+            pass: Some(pass),
+            closed,
+        }
     }
 
     // Its pass of the lock.
@@ -48,7 +54,7 @@ impl HallPass {
         ensures front { result ≡ self.front }
         ensures distinct { Distinct (names_of result) }
     {
-        let HallPass { pass } = self;
+        let HallPass { pass, closed: _ } = self;
         pass.unwrap()
     }
 

@@ -18,5 +18,6 @@ mod works;
 
 pub use front_lock::LockFault;
 pub use hall::Hall;
+pub use hall_locked::Core;
 pub use hall_pass::HallPass;
 pub use look::Look;

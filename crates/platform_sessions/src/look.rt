@@ -4,7 +4,7 @@ ghost use Rattle.scr_world.specs.declared.command.Limits.{Limits};
 ghost use Rattle.scr_world.specs.declared.step.Step.{Step};
 ghost use Rattle.std.specs.Prelude.{List};
 
-use scr_core::Core;
+use hall_locked::Core;
 
 /// A look at the core. It can't change the core, and keeps of it what it will.
 pub trait Look {

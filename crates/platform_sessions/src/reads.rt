@@ -15,6 +15,7 @@ impl<K: Kinds + Drop> Hall<K> {
     pub fn read<R: Wait, L: Look>(&self, rt: &R, pass: &mut HallPass, look: &mut L) -> u64
         requires of { IsOf self.now pass.old }
         ensures of { IsOf self.now pass.new }
+        ensures closed { pass.new.closed ≡ pass.old.closed }
         ensures keeps { KeepsPass pass.old.front pass.new.front }
         ensures read { Reads L.looks self.now.limits pass.old.front pass.new.front look.old result look.new }
     {

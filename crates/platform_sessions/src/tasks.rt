@@ -1,8 +1,9 @@
 //! What a turn that has begun takes outside the lock, and how it runs there.
 ghost use Rattle.platform_hall.specs.Platforms.{running};
-ghost use Rattle.platform_sessions.specs.Works.{IsTask};
+ghost use Rattle.platform_sessions.specs.Works.{IsOwn, IsTask, object_kept};
+ghost use Rattle.std.specs.Arc.{arc_value};
 ghost use Rattle.std.specs.List.{find};
-ghost use Rattle.std.specs.Prelude.{◌≡◌, ◌==◌, IfOk, Some, is_some};
+ghost use Rattle.std.specs.Prelude.{◌≡◌, ◌==◌, IfOk, MatchOption, Some, is_some};
 ghost use Rattle.turn_runner.specs.Outcomes.{IsOutcome, is_refused, makes_object};
 ghost use Rattle.turn_work.specs.declared.work.TurnWork.{TurnWork};
 
@@ -21,7 +22,8 @@ pub(crate) type Task<O> = (TurnWork, Option<Arc<O>>);
 // The work of a turn that is under way, with the object that it is told to; None where memory is wanting.
 pub(crate) fn task_of<O: Drop>(alloc: Global, value: &Locked<O>, turn: u64) -> Option<Task<O>>
     requires { (work : TurnWork) × (running value.now.core turn ≡ Some work) }
-    ensures { (work : TurnWork) → running value.now.core turn ≡ Some work → IsTask work result }
+    ensures task { (work : TurnWork) → running value.now.core turn ≡ Some work → IsTask work result }
+    ensures own { IsOwn arc_value value.now.parts result }
 {
     value.note_kept();
     let work = match value.look().turn_work(alloc, turn) {
@@ -37,7 +39,8 @@ pub(crate) fn task_of<O: Drop>(alloc: Global, value: &Locked<O>, turn: u64) -> O
 
 // A share of the object that is kept for an instance; None where none is.
 fn object_of<O: Drop>(value: &Locked<O>, instance: u64) -> Result<Option<Arc<O>>, OutOfMemory>
-    ensures { IfOk result (λ object. is_some object ≡ is_some (find (λ part. part.instance == instance) value.now.parts)) }
+    ensures has { IfOk result (λ object. is_some object ≡ is_some (find (λ part. part.instance == instance) value.now.parts)) }
+    ensures own { IfOk result (λ object. MatchOption object (Unit {0}) (λ o. object_kept value.now.parts instance ≡ Some (arc_value o))) }
 {
     match value.part(instance) {
         Some(part) => Ok(Some(Arc::try_clone(&part.object)?)),

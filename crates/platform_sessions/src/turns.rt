@@ -6,8 +6,9 @@ ghost use Rattle.hall_locked.specs.Parts.{with_begun};
 ghost use Rattle.platform_hall.specs.Platforms.{BeginsTurn};
 ghost use Rattle.platform_sessions.specs.Commands.{IsOwed};
 ghost use Rattle.platform_sessions.specs.Halls.{IsOf, KeepsPass, KeepsSeat};
-ghost use Rattle.platform_sessions.specs.Works.{BeginsOne, HandsOut, HasEnded, IsMine, IsOneMore, IsRunFor, begun_of, things_but};
-ghost use Rattle.std.specs.Prelude.{◌≡◌, [], IfErr, IfOk, OnErr, OnOk};
+ghost use Rattle.platform_sessions.specs.Works.{BeginsOne, HandsOut, HasEnded, IsMine, IsOneMore, IsOwn, IsRunFor, begun_of, things_but};
+ghost use Rattle.std.specs.Arc.{arc_value};
+ghost use Rattle.std.specs.Prelude.{◌≡◌, [], IfErr, IfOk, IfSome, OnErr, OnOk};
 
 use crate::hall::Hall;
 use crate::hall_pass::{HallPass, put};
@@ -15,7 +16,7 @@ use crate::tasks::{Task, task_of};
 use hall_locked::{Locked, Owed};
 use kind_trait::Kinds;
 use prop_map::OutOfMemory;
-use scr_core::CoreFault;
+use scr_world::CoreFault;
 use std::alloc::Global;
 use std::sync::Wait;
 use std::thread;
@@ -35,6 +36,7 @@ fn begin_in<O: Drop>(
     ensures turns { value.new.turns ≡ with_begun owner (begun_of result) value.old.turns }
     ensures limits { value.new.core.limits ≡ value.old.core.limits }
     ensures out { HandsOut value.new.core result }
+    ensures own { IfOk result (λ begun. IfSome begun (λ b. IsOwn arc_value value.new.parts b.1)) }
     ensures refused { OnErr result (value.new ≡ value.old) }
 {
     match value.take(alloc, owner) {
@@ -54,6 +56,7 @@ impl<K: Kinds + Drop> Hall<K> {
     ) -> Result<Option<Begun<K::Object>>, CoreFault>
         requires of { IsOf self.now pass.old }
         ensures of { IsOf self.now pass.new }
+        ensures closed { pass.new.closed ≡ pass.old.closed }
         ensures seat { KeepsSeat pass.old.front pass.new.front }
         ensures begins { BeginsOne self.now.limits pass.old.front pass.new.front result }
         ensures more { IsOneMore (begun_of result) pass.old.front.kept pass.new.front.kept }
@@ -82,6 +85,7 @@ impl<K: Kinds + Drop> Hall<K> {
         requires mine { IsMine turn pass.old.front }
         requires fits { IsRunFor K.refuses self.now.limits pass.old.front turn ran }
         ensures of { IsOf self.now pass.new }
+        ensures closed { pass.new.closed ≡ pass.old.closed }
         ensures seat { KeepsSeat pass.old.front pass.new.front }
         ensures left { pass.new.front.kept ≡ things_but (turn_thing turn) pass.old.front.kept }
         ensures ended { HasEnded K.refuses self.now.limits pass.old.front pass.new.front turn }
@@ -114,6 +118,7 @@ impl<K: Kinds + Drop> Hall<K> {
         requires mine { IsMine turn pass.old.front }
         requires fits { IsRunFor K.refuses self.now.limits pass.old.front turn ran }
         ensures of { IsOf self.now pass.new }
+        ensures closed { pass.new.closed ≡ pass.old.closed }
         ensures seat { KeepsSeat pass.old.front pass.new.front }
         ensures left { OnOk result (pass.new.front.kept ≡ things_but (turn_thing turn) pass.old.front.kept) }
         ensures ended { OnOk result (HasEnded K.refuses self.now.limits pass.old.front pass.new.front turn) }

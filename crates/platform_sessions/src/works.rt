@@ -10,7 +10,7 @@ use crate::hall::Hall;
 use crate::hall_pass::HallPass;
 use crate::tasks::{Task, run_task};
 use kind_trait::Kinds;
-use scr_core::CoreFault;
+use scr_world::CoreFault;
 use std::alloc::Global;
 use std::sync::Wait;
 
@@ -33,6 +33,7 @@ impl<K: Kinds + Drop> Hall<K> {
     ) -> Result<u64, CoreFault>
         requires of { IsOf self.now pass.old }
         ensures of { IsOf self.now pass.new }
+        ensures closed { pass.new.closed ≡ pass.old.closed }
         ensures keeps { KeepsPass pass.old.front pass.new.front }
         ensures worked { Works K.refuses self.now.limits pass.old.front pass.new.front turns result }
     {
@@ -56,6 +57,7 @@ impl<K: Kinds + Drop> Hall<K> {
     ) -> Result<bool, CoreFault>
         requires of { IsOf self.now pass.old }
         ensures of { IsOf self.now pass.new }
+        ensures closed { pass.new.closed ≡ pass.old.closed }
         ensures keeps { KeepsPass pass.old.front pass.new.front }
         ensures ran { RunsDue K.refuses self.now.limits pass.old.front pass.new.front result }
     {
@@ -83,6 +85,7 @@ impl<K: Kinds + Drop> Hall<K> {
         requires mine { IsMine turn pass.old.front }
         requires task { (work : TurnWork) × (running (core_seen self.now.limits pass.old.front) turn ≡ Some work) × IsTask work task }
         ensures of { IsOf self.now pass.new }
+        ensures closed { pass.new.closed ≡ pass.old.closed }
         ensures seat { KeepsSeat pass.old.front pass.new.front }
         ensures left { pass.new.front.kept ≡ things_but (turn_thing turn) pass.old.front.kept }
         ensures ended { EndsOne K.refuses self.now.limits pass.old.front pass.new.front turn }

@@ -8,6 +8,7 @@ pub mod LineGrowth
 pub mod NothingDue
 pub mod Refusals
 pub mod BoardRows
+pub mod Requesting
 pub mod Resting
 pub mod Progress
 pub mod Reached
@@ -17,6 +18,7 @@ pub mod ReadNames
 pub mod LineNames
 pub mod OwnNames
 pub mod NamesKept
+pub mod AllBuilt
 pub mod Mapped
 pub mod Replaying
 pub mod Counting

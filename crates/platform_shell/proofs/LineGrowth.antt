@@ -16,7 +16,7 @@ use Rattle.turn_runner.specs.declared.settle_fault.SettleFault.TheVariants.{Unse
 use Rattle.platform_hall.specs.declared.finish_fault.FinishFault.{FinishFault}
 use Rattle.platform_hall.specs.declared.finish_fault.FinishFault.TheVariants.{NoTurn as NoSuchTurn, OutOfMemory as NoMemoryLeft}
 use Rattle.platform_hall.specs.Platforms.{BeginsTurn, Finishes, FinishesTurn}
-use Rattle.shell_lang.specs.declared.shell_line.ShellLine.TheVariants.{Silent, Quit, Help, Command as Commanded, Bundles, Services, Components, Report, Held, Find, Events, BundleEvents, Trace, Wiring, BundleWiring, Routes, Settle, Begin, Finish, Call}
+use Rattle.shell_lang.specs.declared.shell_line.ShellLine.TheVariants.{Silent, Quit, Help, Command as Commanded, Bundles, Services, Components, Report, Held, Find, Events, BundleEvents, Trace, Wiring, BundleWiring, Routes, Settle, Begin, Finish, Call, Http}
 use Rattle.shell_lang.specs.declared.shell_reply.ShellReply.{ShellReply}
 use Rattle.shell_lang.specs.ShellLines.{Asked, shell_line}
 use Rattle.platform_shell.specs.declared.status.Status.{Status}
@@ -76,6 +76,7 @@ grew_asks s (Ok Begin) before after told (said, is, asked) =
 grew_asks s (Ok (Finish turn)) before after told (said, is, asked) =
     grew_manually s.is_manual (AsksFinish s.refuses turn) before after said (λ asks. grew_finished s.refuses before after turn asks.0 asks.1) asked
 grew_asks s (Ok (Call bundle service request)) before after told (said, is, (answer, calls, tells)) = grew_calls s.refuses s.next before after bundle service request answer calls
+grew_asks s (Ok (Http method target body)) before after told (said, is, asked) = grew_not before after asked.0
 grew_asks s (Err fault) before after told (is, same) = grew_not before after same
 
 grew_rests_by : (manual : Bool) (s : Setting) (between after : CoreView) → RestsBy manual s between after → Grew between after []
@@ -128,6 +129,7 @@ grew_cut_asked s (Ok Settle) fault before after commands (cut, none) = grew_none
 grew_cut_asked s (Ok Begin) fault before after commands (manual, cut, none) = grew_none before after commands none (grew_cut_begin fault before after cut)
 grew_cut_asked s (Ok (Finish turn)) fault before after commands (manual, cut, none) = grew_none before after commands none (grew_cut_finish s.refuses turn fault before after cut)
 grew_cut_asked s (Ok (Call bundle service request)) fault before after commands (cut, none) = grew_none before after commands none (grew_cut_call s.refuses s.next before after bundle service request fault cut)
+grew_cut_asked s (Ok (Http method target body)) fault before after commands (is, (same, none)) = grew_none before after commands none (grew_not before after same)
 grew_cut_asked s (Err why) fault before after commands (is, (same, none)) = grew_none before after commands none (grew_not before after same)
 
 -- a line that is cut off

@@ -17,7 +17,8 @@ use Rattle.shell_lang.specs.Arguments.{document_argument, filter_argument, given
 use Rattle.shell_lang.specs.Help.{helping, line_word_at}
 use Rattle.shell_lang.specs.Interfaces.{interfaces_at}
 use Rattle.shell_lang.specs.LineFaults.{fitting}
-use Rattle.shell_lang.specs.ShellLines.{Asked, alone, bundle_line, calling, carrying_line, configuring, configuring_factory, configuring_line, finding, installing, is_silent, listening, named, named_line, numbered, other_fault, paired, paired_line, reading_line, registering, setting, shell_line, text_line, unconfiguring, updating, wiring, worded_line}
+use Rattle.shell_lang.specs.ShellLines.{Asked, alone, bundle_line, calling, carrying_line, configuring, configuring_factory, configuring_line, finding, installing, is_silent, listening, named, named_line, numbered, paired, paired_line, reading_line, registering, setting, shell_line, text_line, unconfiguring, updating, wiring, worded_line}
+use Rattle.shell_lang.specs.Requesting.{method_at, requesting}
 use Rattle.shell_lang.specs.Words.{behind_word, first_word, nothing_at, number_and_text, number_and_word, number_at, only_number, only_word, text_at, two_numbers, two_numbers_and_text, two_words_and_text, word_and_text, word_at}
 use Rattle.platform_shell.proofs.ReadNames.{AreNamed, bundle_named}
 
@@ -110,6 +111,9 @@ unconfiguring_named rest = when_fitting (only_word rest) _ (λ pid. tt)
 calling_named : (rest : Option (List ℕ)) → AskedNamed (calling rest)
 calling_named rest = when_fitting (two_numbers_and_text rest) _ (λ words. tt)
 
+requesting_named : (rest : Option (List ℕ)) → AskedNamed (requesting rest)
+requesting_named rest = when_fitting (method_at 1 rest) _ (λ method. when_fitting (word_at 2 method.1) _ (λ target. tt))
+
 -- ---- by the first word
 
 module _ (word : List ℕ) (rest : Option (List ℕ)) where
@@ -117,7 +121,7 @@ module _ (word : List ℕ) (rest : Option (List ℕ)) where
   configuring_line_named =
       either_line (bytes_eq word (codes "config")) (configuring rest) _ (configuring_named rest)
       (either_line (bytes_eq word (codes "factory")) (configuring_factory rest) _ (factory_named rest)
-      (either_line (bytes_eq word (codes "unconfig")) (unconfiguring rest) (Err (other_fault word)) (unconfiguring_named rest) tt))
+      (either_line (bytes_eq word (codes "unconfig")) (unconfiguring rest) (Err UnknownCommand) (unconfiguring_named rest) tt))
 
   carrying_line_named : AskedNamed (carrying_line word rest)
   carrying_line_named =
@@ -127,7 +131,8 @@ module _ (word : List ℕ) (rest : Option (List ℕ)) where
       (either_line (bytes_eq word (codes "set")) (setting rest) _ (setting_named rest)
       (either_line (bytes_eq word (codes "listen")) (listening rest) _ (listening_named rest)
       (either_line (bytes_eq word (codes "find")) (finding rest) _ (finding_named rest)
-      (either_line (bytes_eq word (codes "call")) (calling rest) (configuring_line word rest) (calling_named rest) configuring_line_named))))))
+      (either_line (bytes_eq word (codes "call")) (calling rest) _ (calling_named rest)
+      (either_line (bytes_eq word (codes "http")) (requesting rest) (configuring_line word rest) (requesting_named rest) configuring_line_named)))))))
 
   named_line_named : AskedNamed (named_line word rest)
   named_line_named =

@@ -8,7 +8,7 @@ use Rattle.scr_world.specs.declared.command.Command.{Command}
 use Rattle.scr_world.specs.declared.command.Limits.{Limits}
 use Rattle.scr_world.specs.Lists.{world_of}
 use Rattle.scr_world.specs.Replies.{changes}
-use Rattle.shell_lang.specs.declared.shell_line.ShellLine.TheVariants.{Silent, Quit, Help, Command as Commanded, Bundles, Services, Components, Report, Held, Find, Events, BundleEvents, Trace, Wiring, BundleWiring, Routes, Settle, Begin, Finish, Call}
+use Rattle.shell_lang.specs.declared.shell_line.ShellLine.TheVariants.{Silent, Quit, Help, Command as Commanded, Bundles, Services, Components, Report, Held, Find, Events, BundleEvents, Trace, Wiring, BundleWiring, Routes, Settle, Begin, Finish, Call, Http}
 use Rattle.shell_lang.specs.declared.shell_reply.ShellReply.{ShellReply}
 use Rattle.shell_lang.specs.ShellLines.{Asked, shell_line}
 use Rattle.platform_hall.specs.Platforms.{world}
@@ -54,6 +54,7 @@ asked_all (Ok Settle) before its = none_named
 asked_all (Ok Begin) before its = none_named
 asked_all (Ok (Finish turn)) before its = none_named
 asked_all (Ok (Call bundle service request)) before its = none_named
+asked_all (Ok (Http method target body)) before its = none_named
 asked_all (Err fault) before its = none_named
 
 line_all : (line : List ℕ) (before : CoreView) → AllNamed (commands_of before (shell_line line))

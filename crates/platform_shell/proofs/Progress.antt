@@ -103,10 +103,10 @@ progress_start s o left written before = record {
   still = λ auto none. none;
 }
 
-short_line : (line : Line) → line.size ≤ longest_line → is_too_long line ≡ false
+pub short_line : (line : Line) → line.size ≤ longest_line → is_too_long line ≡ false
 short_line line short = grind (arith, nat_tests)
 
-long_line : (line : Line) → longest_line < line.size → is_too_long line ≡ true
+pub long_line : (line : Line) → longest_line < line.size → is_too_long line ≡ true
 long_line line long = grind (arith, nat_tests)
 
 -- a script that goes on with a line that is run

@@ -39,7 +39,7 @@ reached_start s o left written before = record {
 }
 
 -- one line more was read
-line_more : (left now now' : Option (List ℕ)) (pending pending' : List ℕ) (lines : List (List ℕ)) (line : List ℕ) → ReadSoFar left now pending lines → LineRead now now' pending pending' (OfLine line)
+pub line_more : (left now now' : Option (List ℕ)) (pending pending' : List ℕ) (lines : List (List ℕ)) (line : List ℕ) → ReadSoFar left now pending lines → LineRead now now' pending pending' (OfLine line)
     → is_quit (shell_line line) ≡ false → ReadSoFar left now' pending' (lines ++ line ∷ [])
 line_more left now now' pending pending' lines line so_far (piece, size, got, short, is) other = record {
   taken = so_far.taken ++ piece;

@@ -31,7 +31,7 @@ use Rattle.scr_world.specs.Worlds.{all_instances}
 use Rattle.platform_hall.specs.Calls.{CallsByGet, CallsOnOne, GetsUse, Releases}
 use Rattle.platform_hall.specs.Platforms.{Accepts, Drained, SettlesAs, TakesCommand, none_under_way, world}
 use Rattle.platform_hall.proofs.Steps.{grown_after}
-use Rattle.shell_lang.specs.declared.shell_line.ShellLine.TheVariants.{Silent, Quit, Help, Command as Commanded, Bundles, Services, Components, Report, Held, Find, Events, BundleEvents, Trace, Wiring, BundleWiring, Routes, Settle, Begin, Finish, Call}
+use Rattle.shell_lang.specs.declared.shell_line.ShellLine.TheVariants.{Silent, Quit, Help, Command as Commanded, Bundles, Services, Components, Report, Held, Find, Events, BundleEvents, Trace, Wiring, BundleWiring, Routes, Settle, Begin, Finish, Call, Http}
 use Rattle.shell_lang.specs.declared.shell_reply.ShellReply.{ShellReply}
 use Rattle.shell_lang.specs.ShellLines.{Asked}
 use Rattle.platform_shell.specs.Asks.{Asks, AsksBegin, AsksFinish, Manually, Setting}
@@ -155,6 +155,7 @@ asks_still turns_end s (Ok Settle) before after told auto legal (said, is, (coun
 asks_still turns_end s (Ok Begin) before after told auto legal (said, is, asked) none = manually_still s.is_manual AsksBegin before after said auto asked none
 asks_still turns_end s (Ok (Finish turn)) before after told auto legal (said, is, asked) none = manually_still s.is_manual (AsksFinish s.refuses turn) before after said auto asked none
 asks_still turns_end s (Ok (Call bundle service request)) before after told auto legal (said, is, (answer, calls, tells)) none = calls_still turns_end s.refuses s.next before after bundle service request legal none answer said calls tells
+asks_still turns_end s (Ok (Http method target body)) before after told auto legal (said, is, asked) none = same_still before after asked.0 none
 asks_still turns_end s (Err fault) before after told auto legal (is, same) none = same_still before after same none
 
 -- no turn is under way in a quiet platform

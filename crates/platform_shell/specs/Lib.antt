@@ -4,9 +4,11 @@ pub mod Forms
 pub mod Statuses
 pub mod Wiring
 pub mod Routes
+pub mod Requests
 pub mod Refusals
 pub mod Calling
 pub mod Asks
+pub mod Looks
 pub mod Cuts
 pub mod Rests
 pub mod Carries

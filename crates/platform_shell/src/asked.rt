@@ -1,7 +1,10 @@
 //! What a line asks, carried out.
 ghost use Rattle.std.specs.Prelude.{◌≡◌};
 ghost use Rattle.platform_shell.specs.Asks.{line_for};
-ghost use Rattle.platform_shell.specs.Carries.{CarriesBegin, CarriesCommand, CarriesFinish, CarriesOut, TellsRefusal};
+ghost use Rattle.platform_hall.specs.Platforms.{world};
+ghost use Rattle.platform_shell.specs.Carries.{CarriesBegin, CarriesCommand, CarriesFinish, CarriesOut, CarriesReading, TellsRefusal};
+ghost use Rattle.platform_shell.specs.Routes.{route_lines};
+ghost use Rattle.scr_calls.specs.Servlets.{routing_in};
 ghost use Rattle.shell_lang.specs.declared.shell_line.ShellLine.TheVariants.{Settle};
 ghost use Rattle.std.specs.Prelude.{Ok};
 
@@ -9,6 +12,7 @@ use crate::calling::call;
 use crate::readings::{
     bundle_events, bundles, components, events, found, held, reported, services, trace,
 };
+use crate::requests::http;
 use crate::routes::routes;
 use crate::wiring::{bundle_wiring, wiring};
 use callback_orders::Outcome;
@@ -28,27 +32,28 @@ pub(crate) fn carry_out<K: Kinds + Drop>(
 ) -> Result<Option<ShellReply>, SettleFault>
     ensures { CarriesOut (record { is_manual = manual; refuses = K.refuses; next = K.next }) asked platform.old result platform.new }
 {
+    let core = platform.core();
     match asked {
         Err(fault) => Ok(Some(ShellReply::Refused(Refusal::Line { fault }))),
         Ok(ShellLine::Silent | ShellLine::Quit) => Ok(None),
         Ok(ShellLine::Help(rows)) => Ok(Some(ShellReply::Help(rows))),
         Ok(ShellLine::Command(command)) => Ok(Some(run_command(alloc, platform, command)?)),
-        Ok(ShellLine::Bundles) => Ok(Some(bundles(alloc, platform)?)),
-        Ok(ShellLine::Services) => Ok(Some(services(alloc, platform)?)),
-        Ok(ShellLine::Components) => Ok(Some(components(alloc, platform)?)),
+        Ok(ShellLine::Bundles) => Ok(Some(bundles(alloc, core)?)),
+        Ok(ShellLine::Services) => Ok(Some(services(alloc, core)?)),
+        Ok(ShellLine::Components) => Ok(Some(components(alloc, core)?)),
         Ok(ShellLine::Report { configuration }) => {
-            Ok(Some(reported(alloc, platform, configuration)?))
+            Ok(Some(reported(alloc, core, configuration)?))
         }
-        Ok(ShellLine::Held { configuration }) => Ok(Some(held(alloc, platform, configuration)?)),
-        Ok(ShellLine::Find { filter }) => Ok(Some(found(alloc, platform, &filter)?)),
+        Ok(ShellLine::Held { configuration }) => Ok(Some(held(alloc, core, configuration)?)),
+        Ok(ShellLine::Find { filter }) => Ok(Some(found(alloc, core, &filter)?)),
         Ok(ShellLine::Events { listener, after }) => {
-            Ok(Some(events(alloc, platform, listener, after)?))
+            Ok(Some(events(alloc, core, listener, after)?))
         }
-        Ok(ShellLine::BundleEvents { after }) => Ok(Some(bundle_events(alloc, platform, after)?)),
-        Ok(ShellLine::Trace { after }) => Ok(Some(trace(alloc, platform, after)?)),
-        Ok(ShellLine::Wiring) => Ok(Some(wiring(alloc, platform)?)),
-        Ok(ShellLine::BundleWiring { bundle }) => Ok(Some(bundle_wiring(alloc, platform, bundle)?)),
-        Ok(ShellLine::Routes) => Ok(Some(routes(alloc, platform)?)),
+        Ok(ShellLine::BundleEvents { after }) => Ok(Some(bundle_events(alloc, core, after)?)),
+        Ok(ShellLine::Trace { after }) => Ok(Some(trace(alloc, core, after)?)),
+        Ok(ShellLine::Wiring) => Ok(Some(wiring(alloc, core)?)),
+        Ok(ShellLine::BundleWiring { bundle }) => Ok(Some(bundle_wiring(alloc, core, bundle)?)),
+        Ok(ShellLine::Routes) => Ok(Some(told_routes(alloc, platform)?)),
         Ok(ShellLine::Settle) => settled(alloc, manual, platform),
         Ok(ShellLine::Begin) => Ok(Some(begin(alloc, manual, platform)?)),
         Ok(ShellLine::Finish { turn }) => Ok(Some(finish(alloc, manual, platform, turn)?)),
@@ -62,7 +67,24 @@ pub(crate) fn carry_out<K: Kinds + Drop>(
             let told = call(alloc, platform, bundle, service, &request)?;
             Ok(Some(told))
         }
+        Ok(
+            ShellLine::Http {
+                method,
+                target,
+                body,
+            },
+        ) => Ok(Some(http(alloc, platform, method, target, body)?)),
     }
+}
+
+// The patterns of servlets that are in effect on the platform, and what isn't and why.
+fn told_routes<K: Kinds + Drop>(
+    alloc: Global,
+    platform: &Platform<K>,
+) -> Result<ShellReply, SettleFault>
+    ensures { CarriesReading (ShellReply.Routes (route_lines (routing_in (world platform.now)))) result }
+{
+    routes(alloc, platform.core())
 }
 
 fn run_command<K: Kinds + Drop>(

@@ -87,5 +87,6 @@ pub(crate) fn is_refusal(reply: &ShellReply) -> bool
         ShellReply::Idle => false,
         ShellReply::Finished(_) => false,
         ShellReply::Text(_) => false,
+        ShellReply::Http { .. } => false,
     }
 }

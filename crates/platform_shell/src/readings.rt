@@ -1,4 +1,4 @@
-//! What lines ask that look at the platform alone.
+//! What lines ask that look at the core alone.
 ghost use Rattle.platform_shell.specs.Asks.{events_reply, report_reply};
 ghost use Rattle.platform_shell.specs.Carries.{CarriesHeld, CarriesReading};
 ghost use Rattle.platform_hall.specs.Platforms.{world};
@@ -10,58 +10,47 @@ ghost use Rattle.shell_lang.specs.declared.shell_reply.Refusal.TheVariants.{Core
 ghost use Rattle.std.specs.Fmt.{decimal};
 
 use crate::asked::refused;
-use kind_trait::Kinds;
 use ldap_filter::Filter;
-use platform_hall::Platform;
 use prop_map::{List, Str};
-use scr_report::{ReportFault, report_text};
+use scr_report::{Core, ReportFault, report_text};
 use scr_world::CoreFault;
 use shell_lang::{Refusal, ShellReply};
 use std::alloc::Global;
 use turn_runner::SettleFault;
 
 // The bundles and their states.
-pub(crate) fn bundles<K: Kinds + Drop>(
-    alloc: Global,
-    platform: &Platform<K>,
-) -> Result<ShellReply, SettleFault>
-    ensures { CarriesReading (ShellReply.Bundles (bundle_lines (world platform.now))) result }
+pub(crate) fn bundles(alloc: Global, core: &Core) -> Result<ShellReply, SettleFault>
+    ensures { CarriesReading (ShellReply.Bundles (bundle_lines (world core.now))) result }
 {
-    let rows = platform.core().bundle_rows(alloc)?;
+    let rows = core.bundle_rows(alloc)?;
     Ok(ShellReply::Bundles(rows))
 }
 
 // The services.
-pub(crate) fn services<K: Kinds + Drop>(
-    alloc: Global,
-    platform: &Platform<K>,
-) -> Result<ShellReply, SettleFault>
-    ensures { CarriesReading (ShellReply.Services (service_lines (world platform.now))) result }
+pub(crate) fn services(alloc: Global, core: &Core) -> Result<ShellReply, SettleFault>
+    ensures { CarriesReading (ShellReply.Services (service_lines (world core.now))) result }
 {
-    let rows = platform.core().service_rows(alloc)?;
+    let rows = core.service_rows(alloc)?;
     Ok(ShellReply::Services(rows))
 }
 
 // The component configurations and their states.
-pub(crate) fn components<K: Kinds + Drop>(
-    alloc: Global,
-    platform: &Platform<K>,
-) -> Result<ShellReply, SettleFault>
-    ensures { CarriesReading (ShellReply.Components (component_lines (world platform.now))) result }
+pub(crate) fn components(alloc: Global, core: &Core) -> Result<ShellReply, SettleFault>
+    ensures { CarriesReading (ShellReply.Components (component_lines (world core.now))) result }
 {
-    let rows = platform.core().component_rows(alloc)?;
+    let rows = core.component_rows(alloc)?;
     Ok(ShellReply::Components(rows))
 }
 
 // What is told of a component configuration.
-pub(crate) fn reported<K: Kinds + Drop>(
+pub(crate) fn reported(
     alloc: Global,
-    platform: &Platform<K>,
+    core: &Core,
     configuration: u64,
 ) -> Result<ShellReply, SettleFault>
-    ensures { CarriesReading (report_reply (world platform.now) configuration) result }
+    ensures { CarriesReading (report_reply (world core.now) configuration) result }
 {
-    match report_text(alloc, platform.core(), configuration) {
+    match report_text(alloc, core, configuration) {
         Ok(text) => Ok(ShellReply::Report(Str::of(text))),
         Err(ReportFault::NoComponent { id }) => no_component(alloc, id),
         Err(ReportFault::OutOfMemory) => Err(SettleFault::OutOfMemory),
@@ -78,41 +67,37 @@ fn no_component(alloc: Global, id: u64) -> Result<ShellReply, SettleFault>
 }
 
 // What the instances of a component configuration hold.
-pub(crate) fn held<K: Kinds + Drop>(
+pub(crate) fn held(
     alloc: Global,
-    platform: &Platform<K>,
+    core: &Core,
     configuration: u64,
 ) -> Result<ShellReply, SettleFault>
-    ensures { CarriesHeld configuration platform.now result }
+    ensures { CarriesHeld configuration core.now result }
 {
-    match platform.core().held_rows(alloc, configuration) {
+    match core.held_rows(alloc, configuration) {
         Ok(rows) => Ok(ShellReply::Held(rows)),
         Err(fault) => refused(fault),
     }
 }
 
 // The services that a filter matches.
-pub(crate) fn found<K: Kinds + Drop>(
-    alloc: Global,
-    platform: &Platform<K>,
-    filter: &Filter,
-) -> Result<ShellReply, SettleFault>
-    ensures { CarriesReading (ShellReply.Found (found (world platform.now) filter.now)) result }
+pub(crate) fn found(alloc: Global, core: &Core, filter: &Filter) -> Result<ShellReply, SettleFault>
+    ensures { CarriesReading (ShellReply.Found (found (world core.now) filter.now)) result }
 {
-    let numbers = platform.core().find(alloc, filter)?;
+    let numbers = core.find(alloc, filter)?;
     Ok(ShellReply::Found(List::of(numbers)))
 }
 
 // What a listener was told.
-pub(crate) fn events<K: Kinds + Drop>(
+pub(crate) fn events(
     alloc: Global,
-    platform: &Platform<K>,
+    core: &Core,
     listener: u64,
     before: u64,
 ) -> Result<ShellReply, SettleFault>
-    ensures { CarriesReading (events_reply (world platform.now) listener before) result }
+    ensures { CarriesReading (events_reply (world core.now) listener before) result }
 {
-    match platform.core().events(listener, before) {
+    match core.events(listener, before) {
         Ok(events) => {
             let events = List::of(Vec::from_slice(alloc, events)?);
             Ok(ShellReply::Events { before, events })
@@ -122,26 +107,22 @@ pub(crate) fn events<K: Kinds + Drop>(
 }
 
 // What happened to bundles.
-pub(crate) fn bundle_events<K: Kinds + Drop>(
+pub(crate) fn bundle_events(
     alloc: Global,
-    platform: &Platform<K>,
+    core: &Core,
     before: u64,
 ) -> Result<ShellReply, SettleFault>
-    ensures { CarriesReading (ShellReply.BundleEvents before (bundle_events_after before (world platform.now))) result }
+    ensures { CarriesReading (ShellReply.BundleEvents before (bundle_events_after before (world core.now))) result }
 {
-    let events = Vec::from_slice(alloc, platform.core().bundle_events(before))?;
+    let events = Vec::from_slice(alloc, core.bundle_events(before))?;
     let events = List::of(events);
     Ok(ShellReply::BundleEvents { before, events })
 }
 
 // The turns with a number above this one.
-pub(crate) fn trace<K: Kinds + Drop>(
-    alloc: Global,
-    platform: &Platform<K>,
-    after: u64,
-) -> Result<ShellReply, SettleFault>
-    ensures { CarriesReading (ShellReply.Trace (turns_above after (history_of platform.now.journal))) result }
+pub(crate) fn trace(alloc: Global, core: &Core, after: u64) -> Result<ShellReply, SettleFault>
+    ensures { CarriesReading (ShellReply.Trace (turns_above after (history_of core.now.journal))) result }
 {
-    let turns = platform.core().trace(alloc, after)?;
+    let turns = core.trace(alloc, after)?;
     Ok(ShellReply::Trace(turns))
 }

@@ -7,9 +7,8 @@ ghost use Rattle.scr_readers.specs.Reaching.{held_rows};
 ghost use Rattle.std.specs.Prelude.{◌≡◌, ◌++◌, IfOk, OnOk, codes, map};
 ghost use Rattle.wb_routes.specs.Listing.{routing_of};
 
-use kind_trait::Kinds;
-use platform_hall::Platform;
 use prop_map::{Copies, List, OutOfMemory, Str};
+use scr_report::Core;
 use service_registry::ServiceRow;
 use shell_lang::{RouteLine, ShellReply};
 use std::alloc::Global;
@@ -17,48 +16,42 @@ use turn_runner::SettleFault;
 use wb_routes::{RouteFailure, RouteRow, Routes};
 
 // The patterns of servlets that are in effect, and what isn't and why.
-pub(crate) fn routes<K: Kinds + Drop>(
-    alloc: Global,
-    platform: &Platform<K>,
-) -> Result<ShellReply, SettleFault>
-    ensures { CarriesReading (ShellReply.Routes (route_lines (routing_in (world platform.now)))) result }
+pub(crate) fn routes(alloc: Global, core: &Core) -> Result<ShellReply, SettleFault>
+    ensures { CarriesReading (ShellReply.Routes (route_lines (routing_in (world core.now)))) result }
 {
-    let routes = routes_in(alloc, platform)?;
+    let routes = routes_in(alloc, core)?;
     let lines = lines_of(alloc, &routes)?;
     Ok(ShellReply::Routes(lines))
 }
 
 // What the whiteboard's instance holds for a reference.
-fn held_by_board<K: Kinds + Drop>(
+fn held_by_board(
     alloc: Global,
-    platform: &Platform<K>,
+    core: &Core,
     reference: &str,
 ) -> Result<List<ServiceRow>, OutOfMemory>
-    ensures { IfOk result (λ rows. rows ≡ held_rows (world platform.now) reference.now (world platform.now).whiteboard) }
+    ensures { IfOk result (λ rows. rows ≡ held_rows (world core.now) reference.now (world core.now).whiteboard) }
 {
     let reference = Str::spell(alloc, reference)?;
-    platform.core().held_services(alloc, 0, &reference)
+    core.note_legal();
+    core.held_services(alloc, 0, &reference)
 }
 
 // The routes over these servlets.
-fn routes_over<K: Kinds + Drop>(
-    alloc: Global,
-    platform: &Platform<K>,
-    servlets: &[ServiceRow],
-) -> Result<Routes, OutOfMemory>
+fn routes_over(alloc: Global, core: &Core, servlets: &[ServiceRow]) -> Result<Routes, OutOfMemory>
     ensures { IfOk result (λ routes.
-        routes ≡ routing_of (held_rows (world platform.now) (codes "contexts") (world platform.now).whiteboard) servlets.now) }
+        routes ≡ routing_of (held_rows (world core.now) (codes "contexts") (world core.now).whiteboard) servlets.now) }
 {
-    let contexts = held_by_board(alloc, platform, "contexts")?;
+    let contexts = held_by_board(alloc, core, "contexts")?;
     Routes::of(alloc, contexts.as_slice(), servlets)
 }
 
 // The routes of what the whiteboard's instance holds.
-fn routes_in<K: Kinds + Drop>(alloc: Global, platform: &Platform<K>) -> Result<Routes, OutOfMemory>
-    ensures { IfOk result (λ routes. routes ≡ routing_in (world platform.now)) }
+fn routes_in(alloc: Global, core: &Core) -> Result<Routes, OutOfMemory>
+    ensures { IfOk result (λ routes. routes ≡ routing_in (world core.now)) }
 {
-    let servlets = held_by_board(alloc, platform, "servlets")?;
-    routes_over(alloc, platform, servlets.as_slice())
+    let servlets = held_by_board(alloc, core, "servlets")?;
+    routes_over(alloc, core, servlets.as_slice())
 }
 
 // The lines of routes.

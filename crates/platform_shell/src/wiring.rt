@@ -2,9 +2,8 @@
 ghost use Rattle.platform_shell.specs.Wiring.{AsksBundleWiring, AsksWiring, CarriesWiring, bundle_reply};
 ghost use Rattle.std.specs.Prelude.{◌≡◌};
 
-use kind_trait::Kinds;
-use platform_hall::Platform;
 use prop_map::List;
+use scr_report::Core;
 use scr_world::CoreFault;
 use shell_lang::{Refusal, ShellReply};
 use std::alloc::Global;
@@ -12,26 +11,21 @@ use turn_runner::SettleFault;
 use wiring_reader::{NeedLine, kept_bundle_wiring, kept_wiring_lines};
 
 // The wiring of all bundles.
-pub(crate) fn wiring<K: Kinds + Drop>(
-    alloc: Global,
-    platform: &Platform<K>,
-) -> Result<ShellReply, SettleFault>
-    ensures { CarriesWiring AsksWiring platform.now result }
+pub(crate) fn wiring(alloc: Global, core: &Core) -> Result<ShellReply, SettleFault>
+    ensures { CarriesWiring AsksWiring core.now result }
 {
-    let core = platform.core();
     let lines = kept_wiring_lines(alloc, core.documents(), core.wirings())?;
     Ok(ShellReply::Wiring(lines))
 }
 
 // The wiring of one bundle.
-pub(crate) fn bundle_wiring<K: Kinds + Drop>(
+pub(crate) fn bundle_wiring(
     alloc: Global,
-    platform: &Platform<K>,
+    core: &Core,
     bundle: u64,
 ) -> Result<ShellReply, SettleFault>
-    ensures { CarriesWiring (AsksBundleWiring bundle) platform.now result }
+    ensures { CarriesWiring (AsksBundleWiring bundle) core.now result }
 {
-    let core = platform.core();
     let told = kept_bundle_wiring(alloc, core.documents(), core.wirings(), bundle)?;
     Ok(bundle_reply(bundle, told))
 }

@@ -11,3 +11,4 @@ mod reports;
 pub use core_reports::{report, report_text};
 pub use report_fault::ReportFault;
 pub use reports::{report_of, report_text_of};
+pub use scr_core::Core;

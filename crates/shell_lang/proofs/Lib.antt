@@ -1,4 +1,5 @@
 pub mod FilterLemmas
 pub mod TextLemmas
+pub mod TokenLemmas
 pub mod LoadLemmas
 pub mod Draws

@@ -4,6 +4,7 @@ pub mod FilterTexts
 pub mod Arguments
 pub mod Interfaces
 pub mod Help
+pub mod Requesting
 pub mod ShellLines
 pub mod JoinedTexts
 pub mod FaultTexts

@@ -8,9 +8,9 @@ use Rattle.shell_lang.specs.FaultTexts.{document_fault_text, prop_fault_text, sp
 use Rattle.shell_lang.specs.declared.call_refusal.CallRefusal.{CallRefusal}
 use Rattle.shell_lang.specs.declared.call_refusal.CallRefusal.TheVariants.{Gone, NoObject, Pending, Refused, CallTooLong}
 use Rattle.shell_lang.specs.declared.line_fault.LineFault.{LineFault}
-use Rattle.shell_lang.specs.declared.line_fault.LineFault.TheVariants.{NotBuilt, UnknownCommand, BadWords, Document, NoFile, NotJson, Properties, FilterText, OutOfMemory}
+use Rattle.shell_lang.specs.declared.line_fault.LineFault.TheVariants.{UnknownCommand, BadWords, Document, NoFile, NotJson, Properties, FilterText, OutOfMemory}
 use Rattle.shell_lang.specs.declared.shell_reply.Refusal.{Refusal}
-use Rattle.shell_lang.specs.declared.shell_reply.Refusal.TheVariants.{Line, Core, NotManual, NoTurn, Call}
+use Rattle.shell_lang.specs.declared.shell_reply.Refusal.TheVariants.{Line, Core, NotManual, NotBuilt, NoTurn, Call}
 
 -- whether a text that is no filter ends where it ceases to be the beginning of one
 abbrev pub ending_word : Bool → List ℕ
@@ -23,7 +23,6 @@ filter_fault_text NoFilterMemory = codes "OutOfMemory"
 
 -- why a line is refused before it comes to the core
 abbrev pub line_fault_text : LineFault → List ℕ
-line_fault_text NotBuilt = codes "NotBuilt"
 line_fault_text UnknownCommand = codes "UnknownCommand"
 line_fault_text (BadWords at) = codes "BadWords" ++ spaced (decimal at)
 line_fault_text (Document fault) = document_fault_text fault
@@ -45,5 +44,6 @@ abbrev pub refusal_text : Refusal → List ℕ
 refusal_text (Line fault) = line_fault_text fault
 refusal_text (Core fault) = core_fault_text fault
 refusal_text NotManual = codes "NotManual"
+refusal_text NotBuilt = codes "NotBuilt"
 refusal_text (NoTurn turn) = codes "NoTurn " ++ decimal turn
 refusal_text (Call fault) = call_refusal_text fault

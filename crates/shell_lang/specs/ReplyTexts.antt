@@ -1,6 +1,7 @@
 -- The text of a reply. Our own form.
 use Rattle.std.specs.Prelude.{ℕ, List, ◌++◌, codes}
 use Rattle.std.specs.Fmt.{decimal}
+use Rattle.std.specs.Str.Lossy.{utf8_lossy}
 use Rattle.shell_lang.specs.Help.{help_text}
 use Rattle.serde_json.specs.Data.{string}
 use Rattle.serde_json.specs.Written.{compact_text}
@@ -10,13 +11,17 @@ use Rattle.shell_lang.specs.RowTexts.{bundle_event_text, bundle_text, component_
 use Rattle.shell_lang.specs.TurnTexts.{finished_text, trace_text, turn_text}
 use Rattle.shell_lang.specs.WiringTexts.{need_text, wiring_text}
 use Rattle.shell_lang.specs.declared.shell_reply.ShellReply.{ShellReply}
-use Rattle.shell_lang.specs.declared.shell_reply.ShellReply.TheVariants.{Done, Help, Bundle, Service, Uses, Listener, Bundles, Services, Components, Report, Held, Found, Events, BundleEvents, Trace, Wiring, BundleWiring, Routes, Turns, Begun, Idle, Finished, Text, Refused}
+use Rattle.shell_lang.specs.declared.shell_reply.ShellReply.TheVariants.{Done, Help, Bundle, Service, Uses, Listener, Bundles, Services, Components, Report, Held, Found, Events, BundleEvents, Trace, Wiring, BundleWiring, Routes, Turns, Begun, Idle, Finished, Text, Http, Refused}
 
 -- a text in quotes, as JSON has it
 abbrev pub quoted_text : List ℕ → List ℕ
 quoted_text text = compact_text (string text)
 
--- the text of a reply
+-- a status, a service and a text as it is shown
+abbrev pub status_text : ℕ → ℕ → List ℕ → List ℕ
+status_text status service shown = codes "ok " ++ decimal status ++ codes " " ++ decimal service ++ codes " " ++ shown ++ codes "\n"
+
+-- the text of a reply; in what a request is answered U+FFFD stands for what is no UTF-8
 abbrev pub reply_text : ShellReply → List ℕ
 reply_text Done = codes "ok\n"
 reply_text (Help rows) = rows_text help_text rows
@@ -41,4 +46,5 @@ reply_text (Begun line) = codes "ok turn " ++ turn_text line ++ codes "\n"
 reply_text Idle = codes "ok idle\n"
 reply_text (Finished outcome) = finished_text outcome
 reply_text (Text text) = codes "ok " ++ quoted_text text ++ codes "\n"
+reply_text (Http status service body) = status_text status service (quoted_text (utf8_lossy body))
 reply_text (Refused refusal) = codes "refused " ++ refusal_text refusal ++ codes "\n"

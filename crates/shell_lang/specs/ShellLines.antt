@@ -1,18 +1,18 @@
 -- What a line asks. Our own form.
 use Rattle.std.specs.Prelude.{ℕ, ◌==◌, List, [], ◌∷◌, codes, Bool, true, false, Option, Some, None, Result, Ok, Err, if◌then◌else◌}
-use Rattle.std.specs.List.{list_any}
 use Rattle.std.specs.Str.{bytes_eq, is_utf8}
 use Rattle.prop_map.specs.Words.{after}
 use Rattle.scr_world.specs.declared.command.Command.{Command}
 use Rattle.scr_world.specs.declared.command.Command.TheVariants.{Install, Update, Start, Stop, Uninstall, Enable, Disable, Register, Unregister, SetProperties, Get, Unget, Listen, Unlisten, Configure, ConfigureFactory, Unconfigure}
 use Rattle.shell_lang.specs.declared.line_fault.LineFault.{LineFault}
-use Rattle.shell_lang.specs.declared.line_fault.LineFault.TheVariants.{NotBuilt, UnknownCommand}
+use Rattle.shell_lang.specs.declared.line_fault.LineFault.TheVariants.{UnknownCommand}
 use Rattle.shell_lang.specs.declared.shell_line.ShellLine.{ShellLine}
 use Rattle.shell_lang.specs.declared.shell_line.ShellLine.TheVariants.{Silent, Quit, Command as Commanded, Bundles, Services, Components, Report, Held, Find, Events, BundleEvents, Trace, Wiring, BundleWiring, Routes, Settle, Begin, Finish, Call}
 use Rattle.shell_lang.specs.Arguments.{document_argument, filter_argument, properties_argument}
 use Rattle.shell_lang.specs.Help.{helping}
 use Rattle.shell_lang.specs.Interfaces.{interfaces_at}
 use Rattle.shell_lang.specs.LineFaults.{Reads, fitting}
+use Rattle.shell_lang.specs.Requesting.{requesting}
 use Rattle.shell_lang.specs.Words.{behind_word, first_word, nothing_at, number_and_text, number_and_word, number_at, only_number, only_word, text_at, two_numbers, two_numbers_and_text, two_words_and_text, word_and_text, word_at}
 
 -- what a line asks, or why it asks nothing that it can have
@@ -74,20 +74,12 @@ unconfiguring rest = fitting (only_word rest) (λ pid. Ok (Commanded (Unconfigur
 abbrev pub calling : Option (List ℕ) → Asked
 calling rest = fitting (two_numbers_and_text rest) (λ words. Ok (Call words.0 words.1 words.2))
 
--- the words with which lines of the milestones to come begin
-abbrev pub later_words : List (List ℕ)
-later_words = codes "http" ∷ []
-
--- why a line is refused that begins with no word of those that are built
-abbrev pub other_fault : List ℕ → LineFault
-other_fault word = if list_any (λ later. bytes_eq word later) later_words then NotBuilt else UnknownCommand
-
 -- what a line asks by its first word and what follows it, where the word is one of these: with a PID
 abbrev pub configuring_line : List ℕ → Option (List ℕ) → Asked
 configuring_line word rest =
     if bytes_eq word (codes "config") then configuring rest
     else (if bytes_eq word (codes "factory") then configuring_factory rest
-    else (if bytes_eq word (codes "unconfig") then unconfiguring rest else Err (other_fault word)))
+    else (if bytes_eq word (codes "unconfig") then unconfiguring rest else Err UnknownCommand))
 
 -- with a document, properties, a filter or a request
 abbrev pub carrying_line : List ℕ → Option (List ℕ) → Asked
@@ -98,7 +90,8 @@ carrying_line word rest =
     else (if bytes_eq word (codes "set") then setting rest
     else (if bytes_eq word (codes "listen") then listening rest
     else (if bytes_eq word (codes "find") then finding rest
-    else (if bytes_eq word (codes "call") then calling rest else configuring_line word rest))))))
+    else (if bytes_eq word (codes "call") then calling rest
+    else (if bytes_eq word (codes "http") then requesting rest else configuring_line word rest)))))))
 
 -- with a bundle and a name
 abbrev pub named_line : List ℕ → Option (List ℕ) → Asked

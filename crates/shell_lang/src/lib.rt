@@ -17,6 +17,7 @@ mod load_counts;
 mod load_text;
 mod refusal_text;
 mod reply_text;
+mod requesting;
 mod route_line;
 mod route_text;
 mod row_text;

@@ -12,9 +12,6 @@ use thiserror::Error;
 /// Why a line is refused before it comes to the core.
 #[derive(Debug, PartialEq, Eq, Drop, Error)]
 pub enum LineFault {
-    /// The first word is that of a line that isn't built yet.
-    #[error("the form isn't built yet")]
-    NotBuilt,
     /// The first word is no command, or the line is no text in UTF-8.
     #[error("there is no such command")]
     UnknownCommand,

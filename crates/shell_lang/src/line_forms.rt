@@ -1,11 +1,12 @@
 //! The forms of lines, by their first word.
 ghost use Rattle.std.specs.Prelude.{◌≡◌, option_map};
 ghost use Rattle.shell_lang.specs.LineFaults.{Reads};
-ghost use Rattle.shell_lang.specs.ShellLines.{alone, bundle_line, calling, carrying_line, configuring, configuring_factory, configuring_line, finding, installing, listening, named_line, other_fault, paired_line, reading_line, registering, setting, unconfiguring, updating, wiring, worded_line};
+ghost use Rattle.shell_lang.specs.ShellLines.{alone, bundle_line, calling, carrying_line, configuring, configuring_factory, configuring_line, finding, installing, listening, named_line, paired_line, reading_line, registering, setting, unconfiguring, updating, wiring, worded_line};
 
 use crate::arguments::{owned, read_document, read_filter, read_properties};
 use crate::interfaces::interfaces_at;
 use crate::line_help::helping;
+use crate::requesting::requesting;
 use crate::words::{
     nothing_at, number_and_text, number_and_word, number_at, only_number, only_word, text_at,
     two_numbers, two_numbers_and_text, two_words_and_text, word_and_text, word_at,
@@ -152,6 +153,7 @@ fn carrying_line(alloc: Global, word: &str, rest: Option<&str>) -> Result<ShellL
         "listen" => listening(alloc, rest),
         "find" => finding(alloc, rest),
         "call" => calling(alloc, rest),
+        "http" => requesting(alloc, rest),
         _ => configuring_line(alloc, word, rest),
     }
 }
@@ -163,7 +165,7 @@ fn configuring_line(alloc: Global, word: &str, rest: Option<&str>) -> Result<She
         "config" => configuring(alloc, rest),
         "factory" => configuring_factory(alloc, rest),
         "unconfig" => unconfiguring(alloc, rest),
-        _ => Err(other_fault(word)),
+        _ => Err(LineFault::UnknownCommand),
     }
 }
 
@@ -267,14 +269,4 @@ fn unconfiguring(alloc: Global, rest: Option<&str>) -> Result<ShellLine, LineFau
     let pid = only_word(rest)?;
     let pid = owned(alloc, pid)?;
     Ok(ShellLine::Command(Command::Unconfigure { pid }))
-}
-
-// Why a line is refused that begins with no word of those that are built.
-fn other_fault(word: &str) -> LineFault
-    ensures { result ≡ other_fault word.now }
-{
-    match word {
-        "http" => LineFault::NotBuilt,
-        _ => LineFault::UnknownCommand,
-    }
 }

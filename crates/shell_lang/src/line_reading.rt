@@ -13,11 +13,10 @@ use std::str;
 /// What a line asks.
 ///
 /// # Errors
-/// The first of these. `UnknownCommand` exactly where the line isn't silent and is no text in UTF-8, or its first word is no command;
-/// `NotBuilt` exactly where its first word is that of a milestone to come; `BadWords` where a word doesn't fit or is missing, with the
-/// number of the first such; `NoFile` exactly where the words fit and the document's text begins with `@`; `Document`, `NotJson`,
-/// `Properties` and `FilterText`, what is wrong first with the document, the properties or the filter that it has. Otherwise only
-/// want of memory.
+/// The first of these. `UnknownCommand` exactly where the line isn't silent and is no text in UTF-8, or its first word is
+/// no command; `BadWords` where a word doesn't fit or is missing, with the number of the first such; `NoFile` exactly where
+/// the words fit and the document's text begins with `@`; `Document`, `NotJson`, `Properties` and `FilterText`, what is
+/// wrong first with the document, the properties or the filter that it has. Otherwise only want of memory.
 pub fn read_line(alloc: Global, line: &[u8]) -> Result<ShellLine, LineFault>
     ensures { ReadsLine line.now result }
 {

@@ -78,6 +78,10 @@ pub const LINES: &[(&str, &str)] = &[
         "calls a service for a bundle, and tells its answer",
     ),
     (
+        "http METHOD TARGET BODY",
+        "answers a request by HTTP: status, service, text",
+    ),
+    (
         "settle",
         "runs turns until none is due, and tells how many ran",
     ),

@@ -17,6 +17,7 @@ pub(crate) fn refusal_text(alloc: Global, refusal: &Refusal) -> Result<String, O
         Refusal::Line { fault } => line_fault_text(alloc, fault),
         Refusal::Core { fault } => core_fault_text(alloc, fault),
         Refusal::NotManual => String::from_str(alloc, "NotManual"),
+        Refusal::NotBuilt => String::from_str(alloc, "NotBuilt"),
         Refusal::NoTurn { turn } => format!(in alloc; "NoTurn {turn}"),
         Refusal::Call { fault } => String::from_str(alloc, call_refusal_text(*fault)),
     }
@@ -26,7 +27,6 @@ fn line_fault_text(alloc: Global, fault: &LineFault) -> Result<String, OutOfMemo
     ensures { IfOk result (λ text. string_bytes text ≡ line_fault_text fault.now) }
 {
     match fault {
-        LineFault::NotBuilt => String::from_str(alloc, "NotBuilt"),
         LineFault::UnknownCommand => String::from_str(alloc, "UnknownCommand"),
         LineFault::BadWords { at } => format!(in alloc; "BadWords {at}"),
         LineFault::Document { fault } => document_fault_text(alloc, fault),

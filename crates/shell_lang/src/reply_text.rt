@@ -1,6 +1,6 @@
 //! The text of a reply.
 ghost use Rattle.std.specs.Prelude.{◌≡◌, IfOk, codes, string_bytes};
-ghost use Rattle.shell_lang.specs.ReplyTexts.{quoted_text, reply_text};
+ghost use Rattle.shell_lang.specs.ReplyTexts.{quoted_text, reply_text, status_text};
 ghost use Rattle.shell_lang.specs.TurnTexts.{finished_text};
 
 use crate::ShellReply;
@@ -53,6 +53,11 @@ fn reply_text(alloc: Global, reply: &ShellReply) -> Result<String, OutOfMemory>
         ShellReply::Idle => String::from_str(alloc, "ok idle\n"),
         ShellReply::Finished(outcome) => String::from_str(alloc, finished_text(*outcome)),
         ShellReply::Text(text) => answered_text(alloc, text.as_str()),
+        ShellReply::Http {
+            status,
+            service,
+            body,
+        } => http_text(alloc, *status, *service, body.as_slice()),
         ShellReply::Refused(refusal) => {
             let refusal = refusal_text(alloc, refusal)?;
             format!(in alloc; "refused {}\n", refusal.as_str())
@@ -72,6 +77,21 @@ fn answered_text(alloc: Global, text: &str) -> Result<String, OutOfMemory>
 {
     let quoted = quoted_text(alloc, text)?;
     format!(in alloc; "ok {}\n", quoted.as_str())
+}
+
+fn http_text(alloc: Global, status: u16, service: u64, body: &[u8]) -> Result<String, OutOfMemory>
+    ensures { IfOk result (λ line. string_bytes line ≡ reply_text (ShellReply.Http status service body.now)) }
+{
+    let text = String::from_utf8_lossy(alloc, body)?;
+    let quoted = quoted_text(alloc, text.as_str())?;
+    status_text(alloc, status, service, quoted.as_str())
+}
+
+// A status, a service and a text as it is shown.
+fn status_text(alloc: Global, status: u16, service: u64, shown: &str) -> Result<String, OutOfMemory>
+    ensures { IfOk result (λ line. string_bytes line ≡ status_text status service shown.now) }
+{
+    format!(in alloc; "ok {status} {service} {shown}\n")
 }
 
 // A text in quotes, as JSON has it.

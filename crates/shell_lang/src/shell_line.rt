@@ -1,5 +1,6 @@
 //! What a line asks.
 use crate::LineHelp;
+use http::Method;
 use ldap_filter::Filter;
 use prop_map::{List, Str};
 use scr_world::Command;
@@ -79,5 +80,14 @@ pub enum ShellLine {
         service: u64,
         /// The request.
         request: Str,
+    },
+    /// To ask by HTTP.
+    Http {
+        /// The method.
+        method: Method,
+        /// The target as it was given.
+        target: Str,
+        /// The body.
+        body: List<u8>,
     },
 }

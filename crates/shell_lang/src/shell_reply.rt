@@ -24,6 +24,8 @@ pub enum Refusal {
     },
     /// It is a line of `script --manual` alone.
     NotManual,
+    /// Its form isn't built in a session yet. No line of a script is refused so.
+    NotBuilt,
     /// No turn of this number is under way.
     NoTurn {
         /// The number.
@@ -95,6 +97,15 @@ pub enum ShellReply {
     Finished(Outcome),
     /// The text that a call is answered.
     Text(Str),
+    /// What is answered to a request.
+    Http {
+        /// The number of the status, as 200.
+        status: u16,
+        /// The number of the service whose text is the body, else 0.
+        service: u64,
+        /// The body as it is told: nothing to HEAD.
+        body: List<u8>,
+    },
     /// It is refused.
     Refused(Refusal),
 }

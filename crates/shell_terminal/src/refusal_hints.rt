@@ -33,8 +33,11 @@ pub(crate) fn tell_of_refusal(
     };
     match refusal {
         Refusal::Line { fault } => tell_of_argument(hints, at, text, fault)?,
-        Refusal::Core { .. } | Refusal::Call { .. } | Refusal::NotManual | Refusal::NoTurn { .. } =>
-            {}
+        Refusal::Core { .. }
+        | Refusal::Call { .. }
+        | Refusal::NotManual
+        | Refusal::NotBuilt
+        | Refusal::NoTurn { .. } => {}
     }
     tell_like_fields(hints, line)
 }

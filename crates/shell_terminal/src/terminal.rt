@@ -82,6 +82,11 @@ impl<'t, R: Eprint> Terminal<'t, R> {
                     "line {line}: {name}: the line is one of `script --manual` alone"
                 )
             }
+            Refusal::NotBuilt => {
+                eprintln!(self.runtime;
+                    "line {line}: {name}: the form isn't built in a session yet"
+                )
+            }
             Refusal::NoTurn { turn } => {
                 eprintln!(self.runtime; "line {line}: {name}: no turn {turn} is under way")
             }

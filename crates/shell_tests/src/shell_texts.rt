@@ -45,7 +45,13 @@ fn a_reply_is_written(rt: HostRuntime) {
 
 #[test]
 fn a_fault_is_printed(rt: HostRuntime) {
-    assert!(rt; is_printed(rt.alloc(), &LineFault::NotBuilt, "the form isn't built yet"));
+    assert!(rt;
+        is_printed(
+            rt.alloc(),
+            &LineFault::UnknownCommand,
+            "there is no such command"
+        )
+    );
 }
 
 fn are_printed(alloc: Global, rows: &[(CallRefusal, &str)]) -> bool {

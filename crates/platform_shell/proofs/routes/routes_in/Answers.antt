@@ -7,6 +7,6 @@ use Rattle.wb_routes.specs.Listing.{routing_of}
 use Rattle.platform_shell.proofs.routes.routes_in.Goals as goal
 
 pub returns : goal.returns
-returns g c =
-    let w = world c.args.platform.now in
+returns c =
+    let w = world c.args.core.now in
     subst (λ (xs : List ServiceRow). IfOk c.routes_over.result (λ routes. routes ≡ routing_of (held_rows w (codes "contexts") w.whiteboard) xs)) (c.as_slice.ensures ∙ c.in_ok-servlets.ensures) c.routes_over.ensures

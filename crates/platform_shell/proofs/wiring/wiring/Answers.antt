@@ -1,18 +1,16 @@
-use Rattle.std.proofs.Common.{◌∙◌, ap, refl, subst, sym, List}
+use Rattle.std.proofs.Common.{refl, subst, sym, List}
 use Rattle.kept_wirings.specs.KeptRows.{AreKept}
-use Rattle.platform_hall.specs.Cores.{CoreView}
-use Rattle.scr_world.specs.Calls.{world_at}
 use Rattle.scr_world.specs.declared.contents.Contents.{Contents}
 use Rattle.wiring_reader.specs.Telling.{TellsWiring}
 use Rattle.platform_shell.proofs.wiring.wiring.Goals as goal
 
 pub kept_wiring_lines-requires : goal.kept_wiring_lines-requires
-kept_wiring_lines-requires g c = subst (λ (cs : List Contents). AreKept cs c.wirings.result.now) (sym c.documents.ensures) c.wirings.ensures
+kept_wiring_lines-requires c = subst (λ (cs : List Contents). AreKept cs c.wirings.result.now) (sym c.documents.ensures) c.wirings.ensures
 
 pub returns : goal.returns
-returns g c = (
+returns c = (
   c.in_ok-lines.lines,
-  subst (λ (cs : List Contents). TellsWiring cs c.in_ok-lines.lines) (c.documents.ensures ∙ ap (λ (p : CoreView). (world_at p.journal).documents) c.core-core.ensures.core) c.in_ok-lines.ensures,
+  subst (λ (cs : List Contents). TellsWiring cs c.in_ok-lines.lines) c.documents.ensures c.in_ok-lines.ensures,
   refl,
   refl,
 )

@@ -1,4 +1,4 @@
-use Rattle.std.specs.Prelude.{[]}
+use Rattle.std.specs.Prelude.{◌≡◌, []}
 use Rattle.hall_goings.specs.Went.{Went}
 use Rattle.platform_sessions.specs.Halls.{IsOf, KeepsPass}
 use Rattle.platform_sessions.specs.Works.{IsRunFor}
@@ -12,3 +12,4 @@ invariant-loop g l =
     × IsOf l.fn.self l.pass
     × KeepsPass l.fn.pass.front l.pass.front
     × IsRunFor g.K.Kinds.refuses l.fn.self.limits l.pass.front l.fn.turn l.ran
+    × (l.pass.closed ≡ l.fn.pass.closed)

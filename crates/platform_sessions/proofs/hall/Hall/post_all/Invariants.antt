@@ -1,3 +1,4 @@
+use Rattle.std.specs.Prelude.{◌≡◌}
 use Rattle.platform_sessions.specs.Commands.{Posts}
 use Rattle.platform_sessions.specs.Halls.{IsOf, KeepsPass}
 use Rattle.platform_sessions.proofs.hall.Hall.post_all.Given as goal
@@ -9,3 +10,4 @@ invariant-loop g l =
     × Posts l.fn.pass.front l.pass.front
     × IsOf l.fn.self l.pass
     × KeepsPass l.fn.pass.front l.pass.front
+    × (l.pass.closed ≡ l.fn.pass.closed)

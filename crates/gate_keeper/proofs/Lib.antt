@@ -1,0 +1,4 @@
+mod Shelves
+mod Levels
+mod Keeping
+mod Known

@@ -1,0 +1,6 @@
+pub mod Lines
+pub mod Serving
+pub mod Progress
+pub mod Reached
+pub mod Endings
+pub mod Goings

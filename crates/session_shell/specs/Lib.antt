@@ -1,0 +1,5 @@
+pub mod Halls
+pub mod Items
+pub mod Fronts
+pub mod Sessions
+pub mod Answers
