@@ -24,11 +24,10 @@ use Rattle.scr_world.specs.declared.command.Limits.{Limits}
 use Rattle.scr_world.specs.declared.step.Step.{Step}
 use Rattle.scr_world.specs.declared.step.Step.TheVariants.{Command as Commanded, Begin, End, Drained as DrainedStep, Got, Released}
 use Rattle.scr_world.specs.declared.world.World.{World}
-use Rattle.turn_runner.specs.Turns.{IsSettled}
-use Rattle.platform_hall.specs.Platforms.{Begins, Ends, Posts, SettlesAs, TakesUp, has_drain, has_due, has_room, world}
+use Rattle.platform_hall.specs.Platforms.{SettlesAs, has_due, world}
 use Rattle.platform_hall.specs.SettleBounds.{AnswersWithin, IsBounded, KeepsWithin, NothingFails, SettlesWithin, fails_nothing}
 use Rattle.platform_hall.proofs.Settlings.{HasLegal}
-use Rattle.platform_hall.proofs.Spans.{AreTurning, Spans, is_turning, posts_spans, settles_cut_spans, settles_spans, taken_spans}
+use Rattle.platform_hall.proofs.Spans.{AreTurning, Spans, is_turning, posts_spans, settles_cut_spans, settles_spans}
 
 -- a step of a settling, where no creation or activation fails by it
 turning_settles : (step : Step) (w : World) → is_turning step ≡ true → fails_nothing step w ≡ true → is_settling step w ≡ true
@@ -98,26 +97,19 @@ module _ (before after : CoreView) (legal : HasLegal before) (names : HaveOwnNam
       subst Q same (keeps calm (subst P (sym same) fine) answer answers)
 
 -- a settling, however it ends
-module _ (refuses : List ℕ → List Property → Told → Bool) (before start after : CoreView) (legal : HasLegal before) (names : HaveOwnNames (world before)) (takes : TakesUp refuses before start) where
-  abbrev by : (count : ℕ) → Spans start after count → Spans before after count
-  by count spans = taken_spans refuses before start after count takes spans
-
-  ran_bounded : (answer : Result ℕ SettleFault) → IsSettled has_due has_room has_drain Begins Begins Ends Posts refuses before.limits.turns start answer after → IsBounded before answer after
-  ran_bounded (Ok count) (low, settles, due, drain) =
-      bounded_by before after legal names count (by count (settles_spans refuses count start after settles)) (Ok count) (λ most fewer. most)
-  ran_bounded (Err Unsettled) (settles, due, drain) =
-      bounded_by before after legal names before.limits.turns (by before.limits.turns (settles_spans refuses before.limits.turns start after settles)) (Err Unsettled) (λ most fewer. fewer due)
-  ran_bounded (Err JournalFull) (count, below, settles, due, room, drain) =
-      bounded_by before after legal names count (by count (settles_spans refuses count start after settles)) (Err JournalFull) (λ most fewer. tt)
-  ran_bounded (Err OutOfMemory) (inl posts) =
-      bounded_by before after legal names 0 (by 0 (posts_spans start after posts)) (Err OutOfMemory) (λ most fewer. tt)
-  ran_bounded (Err OutOfMemory) (inr (inl (count, low, settles))) =
-      bounded_by before after legal names count (by count (settles_spans refuses count start after settles)) (Err OutOfMemory) (λ most fewer. tt)
-  ran_bounded (Err OutOfMemory) (inr (inr (count, between, below, settles, cut))) =
-      bounded_by before after legal names (count + 1) (by (count + 1) (settles_cut_spans refuses count start between after settles cut)) (Err OutOfMemory) (λ most fewer. tt)
-
 pub settled_bounded : (refuses : List ℕ → List Property → Told → Bool) (before after : CoreView) (answer : Result ℕ SettleFault) → HasLegal before → HaveOwnNames (world before) → SettlesAs refuses before.limits.turns before answer after → IsBounded before answer after
-settled_bounded refuses before after answer legal names (start, takes, ran) = ran_bounded refuses before start after legal names takes answer ran
+settled_bounded refuses before after (Ok count) legal names (low, settles, due, drain) =
+    bounded_by before after legal names count (settles_spans refuses count before after settles) (Ok count) (λ most fewer. most)
+settled_bounded refuses before after (Err Unsettled) legal names (settles, due, drain) =
+    bounded_by before after legal names before.limits.turns (settles_spans refuses before.limits.turns before after settles) (Err Unsettled) (λ most fewer. fewer due)
+settled_bounded refuses before after (Err JournalFull) legal names (count, below, settles, due, room, drain) =
+    bounded_by before after legal names count (settles_spans refuses count before after settles) (Err JournalFull) (λ most fewer. tt)
+settled_bounded refuses before after (Err OutOfMemory) legal names (inl posts) =
+    bounded_by before after legal names 0 (posts_spans before after posts) (Err OutOfMemory) (λ most fewer. tt)
+settled_bounded refuses before after (Err OutOfMemory) legal names (inr (inl (count, low, settles))) =
+    bounded_by before after legal names count (settles_spans refuses count before after settles) (Err OutOfMemory) (λ most fewer. tt)
+settled_bounded refuses before after (Err OutOfMemory) legal names (inr (inr (count, between, below, settles, cut))) =
+    bounded_by before after legal names (count + 1) (settles_cut_spans refuses count before between after settles cut) (Err OutOfMemory) (λ most fewer. tt)
 
 -- so what a settling up to the platform's limit answers and does is within its bound
 pub settles_within : (refuses : List ℕ → List Property → Told → Bool) (turns : ℕ) (before after : CoreView) (answer : Result ℕ SettleFault) → HasLegal before → turns ≡ before.limits.turns → SettlesAs refuses turns before answer after

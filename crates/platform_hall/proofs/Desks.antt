@@ -125,7 +125,7 @@ module _ (before after : CoreView) (turn : ℕ) (outcome : Outcome) (work : Turn
       stops_it (world before) (world after) (turns_legal before.limits.journal (history_of before.journal) legal) turn outcome
       (grown_after before.limits.journal before.journal after.journal (End turn outcome) ends.1) work (runs_as (world before) turn work is)
 
-  ended_others : (n : ℕ) → (turn ≡ n → ⊥) → is_under_way (world after) n ≡ is_under_way (world before) n
+  pub ended_others : (n : ℕ) → (turn ≡ n → ⊥) → is_under_way (world after) n ≡ is_under_way (world before) n
   ended_others =
       stops_others (world before) (world after) (turns_legal before.limits.journal (history_of before.journal) legal) turn outcome
       (grown_after before.limits.journal before.journal after.journal (End turn outcome) ends.1) work (runs_as (world before) turn work is)

@@ -13,11 +13,11 @@ use Rattle.scr_requests.specs.Requests.{AreServletsOf}
 use Rattle.scr_requests.specs.declared.servlets.Servlets.{Servlets}
 use Rattle.scr_world.specs.Calls.{Grown}
 use Rattle.scr_world.specs.declared.step.Step.{Step}
-use Rattle.turn_runner.specs.Turns.{Ends as EndsTurn, IsCutOff, IsSettled, Settles, Turns}
+use Rattle.turn_runner.specs.Turns.{Ends as EndsTurn, IsCutOff, Settles, Turns}
 use Rattle.turn_runner.specs.declared.settle_fault.SettleFault.{SettleFault}
 use Rattle.turn_runner.specs.declared.settle_fault.SettleFault.TheVariants.{Unsettled, JournalFull as NoRoom, OutOfMemory as NoMemory}
 use Rattle.turn_work.specs.declared.work.TurnWork.{TurnWork}
-use Rattle.platform_hall.specs.Platforms.{Begins, Drained, Ends, Posts, SettlesAs, TakesUp, has_drain, has_due, has_room}
+use Rattle.platform_hall.specs.Platforms.{Begins, Drained, Ends, Posts, SettlesAs, has_drain}
 use Rattle.platform_hall.specs.Requests.{WereServletsOf}
 
 -- ---- a journal that has grown at its end, or stayed as it was
@@ -69,23 +69,14 @@ module _ (refuses : List ℕ → List Property → Told → Bool) where
   cut_grows before after (inl (work, begins)) = begins_grows before after work begins
   cut_grows before after (inr (work, outcome, is, ends)) = turn_grows before after work outcome ends
 
-  takes_grows : (before start : CoreView) → TakesUp refuses before start → Grows before.journal start.journal
-  takes_grows before start (inl same) = grows_none before.journal start.journal (ap (λ (p : CoreView). p.journal) same)
-  takes_grows before start (inr (turn, outcome, (work, ended, runs, is, ends, posts))) =
-      grows_then before.journal ended.journal start.journal (ends_grows before ended turn outcome ends) (posts_grows ended start posts)
-
-  ran_grows : (turns : ℕ) (before : CoreView) (answer : Result ℕ SettleFault) (after : CoreView) → IsSettled has_due has_room has_drain Begins Begins Ends Posts refuses turns before answer after → Grows before.journal after.journal
-  ran_grows turns before (Ok count) after (most, ran, idle, clear) = settles_grows count before after ran
-  ran_grows turns before (Err Unsettled) after (ran, due, clear) = settles_grows turns before after ran
-  ran_grows turns before (Err NoRoom) after (count, fewer, ran, due, full, clear) = settles_grows count before after ran
-  ran_grows turns before (Err NoMemory) after (inl posts) = posts_grows before after posts
-  ran_grows turns before (Err NoMemory) after (inr (inl (count, most, ran))) = settles_grows count before after ran
-  ran_grows turns before (Err NoMemory) after (inr (inr (count, between, fewer, ran, cut))) =
-      grows_then before.journal between.journal after.journal (settles_grows count before between ran) (cut_grows between after cut)
-
   pub settled_grows : (turns : ℕ) (before : CoreView) (answer : Result ℕ SettleFault) (after : CoreView) → SettlesAs refuses turns before answer after → Grows before.journal after.journal
-  settled_grows turns before answer after (start, takes, ran) =
-      grows_then before.journal start.journal after.journal (takes_grows before start takes) (ran_grows turns start answer after ran)
+  settled_grows turns before (Ok count) after (most, ran, idle, clear) = settles_grows count before after ran
+  settled_grows turns before (Err Unsettled) after (ran, due, clear) = settles_grows turns before after ran
+  settled_grows turns before (Err NoRoom) after (count, fewer, ran, due, full, clear) = settles_grows count before after ran
+  settled_grows turns before (Err NoMemory) after (inl posts) = posts_grows before after posts
+  settled_grows turns before (Err NoMemory) after (inr (inl (count, most, ran))) = settles_grows count before after ran
+  settled_grows turns before (Err NoMemory) after (inr (inr (count, between, fewer, ran, cut))) =
+      grows_then before.journal between.journal after.journal (settles_grows count before between ran) (cut_grows between after cut)
 
 -- ---- the servlets that are kept
 

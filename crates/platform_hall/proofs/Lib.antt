@@ -12,9 +12,10 @@ pub mod Taking
 pub mod Holders
 pub mod Alone
 pub mod Owners
+pub mod WorkStays
 pub mod Kept
 pub mod Seen
-pub mod Righting
+pub mod Answered
 pub mod Finishing
 pub mod Draining
 pub mod Results

@@ -25,9 +25,9 @@ use Rattle.scr_world.specs.Steps.{history_of}
 use Rattle.scr_world.specs.declared.world.World.{World}
 use Rattle.component_state.proofs.Apart.{any_from}
 use Rattle.scr_world.specs.Worlds.{all_instances}
-use Rattle.platform_hall.specs.Platforms.{Begins, Drained, Ends, Posts, SettlesAs, TakesUp, has_drain, none_under_way, world}
+use Rattle.platform_hall.specs.Platforms.{Begins, Drained, Ends, Posts, SettlesAs, has_drain, none_under_way, world}
 use Rattle.platform_hall.proofs.Lists.{any_none}
-use Rattle.platform_hall.proofs.Starts.{IsBegun, runs_as, runs_under_way, takes_begun, takes_legal}
+use Rattle.platform_hall.proofs.Starts.{IsBegun, runs_as, takes_begun, takes_legal}
 use Rattle.platform_hall.proofs.Steps.{grown_after, grown_legal}
 use Rattle.platform_hall.proofs.Stops.{IsAlike, alike_itself, alike_then, drained_alike, stops_it, stops_others}
 use Rattle.platform_hall.proofs.Turns.{turns_legal}
@@ -112,28 +112,18 @@ module _ (refuses : List ℕ → List Property → Told → Bool) where
   turns_keep zero before after kept same = subst (λ (p : CoreView). HasLegal p × NoTurns (world p)) same kept
   turns_keep (suc count) before after kept (between, rest, turn) = turn_keeps between after (turns_keep count before between kept rest) turn
 
-  -- where no turn is under way, none is taken up
-  nothing_taken : (before start : CoreView) → HasLegal before → NoTurns (world before) → TakesUp refuses before start → start ≡ before
-  nothing_taken before start legal none (inl same) = same
-  nothing_taken before start legal none (inr (turn, outcome, (work, ended, runs, is, ends, posts))) =
-      let are = turns_legal before.limits.journal (history_of before.journal) legal in
-      absurd (both_ways (list_any (has_turn turn) (all_instances (world before))) (none turn) (runs_under_way (world before) are turn work (runs_as (world before) turn work runs)))
-
   settled_keeps : (turns count : ℕ) (before after : CoreView) → HasLegal before → none_under_way before ≡ true → SettlesAs refuses turns before (Ok count) after → HasLegal after × NoTurns (world after)
-  settled_keeps turns count before after legal none (begun, takes, (low, (start, posts, clear, ran), due, drain)) =
-      let same = nothing_taken before begun legal (none_to before none) takes in
-      let legal_then = subst (λ (p : CoreView). HasLegal p) (sym same) legal in
-      let none_then = subst (λ (p : CoreView). NoTurns (world p)) (sym same) (none_to before none) in
-      turns_keep count start after (posts_legal begun start legal_then posts, posts_none begun start none_then posts) ran
+  settled_keeps turns count before after legal none (low, (start, posts, clear, ran), due, drain) =
+      turns_keep count start after (posts_legal before start legal posts, posts_none before start (none_to before none) posts) ran
 
   pub settled_ends : (turns count : ℕ) (before after : CoreView) → HasLegal before → none_under_way before ≡ true → SettlesAs refuses turns before (Ok count) after → none_under_way after ≡ true
   settled_ends turns count before after legal none settles = none_from after (settled_keeps turns count before after legal none settles).1
 
   pub settled_quiet : (turns count : ℕ) (before after : CoreView) → HasLegal before → none_under_way before ≡ true → SettlesAs refuses turns before (Ok count) after → IsQuiet (world after)
   settled_quiet turns count before after legal none settles = record {
-    nothing_due = none_due (due_in (world after)) settles.4;
+    nothing_due = none_due (due_in (world after)) settles.2;
     ended = not-true (list_any (λ (i : Instance). is_outstanding i.callbacks) (all_instances (world after))) (settled_ends turns count before after legal none settles);
-    drained = settles.5;
+    drained = settles.3;
   }
     where
       none_due : {X : Type 0} (o : Option X) → is_some o ≡ false → o ≡ None

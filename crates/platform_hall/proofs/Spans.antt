@@ -16,7 +16,7 @@ use Rattle.scr_world.specs.declared.step.Step.TheVariants.{Command as Commanded,
 use Rattle.scr_world.specs.Calls.{Grown}
 use Rattle.scr_world.specs.Stepping.{begins_by}
 use Rattle.scr_world.specs.Steps.{History, history_of}
-use Rattle.platform_hall.specs.Platforms.{Begins, Drained, Ends, Posts, TakesUp, has_drain, world}
+use Rattle.platform_hall.specs.Platforms.{Begins, Drained, Ends, Posts, has_drain, world}
 use Rattle.platform_hall.proofs.Settlings.{HasLegal, begins_legal, ends_legal}
 use Rattle.platform_hall.proofs.Steps.{grown_legal, history_append}
 use Rattle.platform_hall.proofs.Turns.{begins_next, is_begin}
@@ -152,13 +152,3 @@ module _ (refuses : List ℕ → List Property → Told → Bool) where
   -- a settling that is cut off within a turn
   pub settles_cut_spans : (count : ℕ) (before between after : CoreView) → Settles has_drain Begins Ends Posts refuses count before between → IsCutOff Begins Begins Ends Posts refuses between after → Spans before after (count + 1)
   settles_cut_spans count before between after settles cut = spans_then before between after count 1 (count + 1) refl (settles_spans count before between settles) (cut_spans between after cut)
-
-  -- what is taken up begins no turn
-  takes_spans : (before start : CoreView) → TakesUp refuses before start → Spans before start 0
-  takes_spans before start (inl same) = spans_none before start same
-  takes_spans before start (inr (turn, outcome, (work, ended, runs, is, ends, posts))) =
-      spans_then before ended start 0 0 0 refl (ends_spans before ended turn outcome ends) (posts_spans ended start posts)
-
-  -- so it adds to no count
-  pub taken_spans : (before start after : CoreView) (count : ℕ) → TakesUp refuses before start → Spans start after count → Spans before after count
-  taken_spans before start after count takes spans = spans_then before start after 0 count count (omega arith) (takes_spans before start takes) spans

@@ -96,6 +96,10 @@ TakesCommand before command (Ok reply) after = Accepts before command reply afte
 TakesCommand before command (Err OutOfMemory) after = (after ≡ before) ⊎ ((reply : Reply) × Accepts before command reply after)
 TakesCommand before command (Err fault) after = CoreTakes before command (Err fault) after
 
+-- what a settling of so many turns at most answers and does, where component code refuses so
+abbrev pub SettlesAs : (List ℕ → List Property → Told → Bool) → ℕ → CoreView → Result ℕ SettleFault → CoreView → Type 0
+SettlesAs refuses turns before answer after = IsSettled has_due has_room has_drain Begins Begins Ends Posts refuses turns before answer after
+
 -- what the beginning of the first due turn answers and does: its number, under which it is under way, or nothing exactly where none is due
 abbrev pub BeginsTurn : CoreView → Result (Option ℕ) CoreFault → CoreView → Type 0
 BeginsTurn before (Ok None) after = (has_due before ≡ false) × (after ≡ before)
@@ -108,14 +112,6 @@ BeginsTurn before (Err fault) after = ⊥
 abbrev pub Finishes : (List ℕ → List Property → Told → Bool) → CoreView → ℕ → Outcome → CoreView → Type 0
 Finishes refuses before turn outcome after =
     (work : TurnWork) × (ended : CoreView) × (running before turn ≡ Some work) × IsOutcome (is_refused refuses work) outcome × Ends before turn outcome ended × Posts ended after
-
--- what an earlier settling left under way is taken up, if there is such a turn: it ends, and drains are posted
-abbrev pub TakesUp : (List ℕ → List Property → Told → Bool) → CoreView → CoreView → Type 0
-TakesUp refuses before after = (after ≡ before) ⊎ ((turn : ℕ) × (outcome : Outcome) × Finishes refuses before turn outcome after)
-
--- what a settling of so many turns at most answers and does, where component code refuses so; a turn that is taken up doesn't count
-abbrev pub SettlesAs : (List ℕ → List Property → Told → Bool) → ℕ → CoreView → Result ℕ SettleFault → CoreView → Type 0
-SettlesAs refuses turns before answer after = (start : CoreView) × TakesUp refuses before start × IsSettled has_due has_room has_drain Begins Begins Ends Posts refuses turns start answer after
 
 -- what finishing a turn answers and does: no turn of this number is under way exactly where it is told so. Want of memory leaves all as it
 -- was, or the turn has ended and some of the drains are posted

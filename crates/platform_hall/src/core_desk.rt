@@ -1,21 +1,20 @@
 //! The desk of a platform: turns come from its core and go back to it.
-ghost use Rattle.platform_hall.specs.Desks.{DeskBegins, DeskEnds, DeskKeeps, DeskPosts, GivesOut, HandsOut, IsKept, Owns, left};
+ghost use Rattle.platform_hall.specs.Desks.{DeskBegins, DeskEnds, DeskKeeps, DeskPosts, HandsOut, Owns, kept_of};
 ghost use Rattle.platform_hall.specs.Platforms.{CoreTakes, has_drain, has_due, has_object, has_room, running, world};
 ghost use Rattle.scr_world.specs.declared.reply.CoreFault.TheVariants.{OutOfMemory as NoMemory};
 ghost use Rattle.scr_requests.specs.Cores.{AreWithinGreatest};
 ghost use Rattle.scr_world.specs.Legal.{IsLegal};
 ghost use Rattle.scr_world.specs.Steps.{history_of};
 ghost use Rattle.std.specs.Arc.{arc_value};
-ghost use Rattle.std.specs.Prelude.{◌≡◌, ◌⊎◌, ℕ, [], Some, None, false, true, is_some, IfOk, IfErr, MatchOption, OnErr, OnOk};
+ghost use Rattle.std.specs.Prelude.{◌≡◌, ◌⊎◌, ℕ, [], Some, None, false, true, is_some, IfOk, IfErr, OnErr, OnOk};
 ghost use Rattle.turn_runner.specs.declared.came.Came.{Came};
 ghost use Rattle.turn_runner.specs.Outcomes.{IsMadeFor, has_object_after, is_destroy_of, makes_object, needs_object};
-ghost use Rattle.turn_runner.specs.Turns.{IsTaken, IsUntold, KeptEnds};
 
 use crate::drains::post_drains;
-use crate::endings::{own_but, try_end};
+use crate::endings::try_end;
 use crate::heard::note_heard;
 use crate::held::Held;
-use crate::kept::found_kept;
+use crate::kept::{forget, found_kept};
 use crate::tokens::{keep, shared_object};
 use callback_orders::Outcome;
 use prop_map::OutOfMemory;
@@ -26,15 +25,14 @@ use std::marker::Model;
 use std::sync::Arc;
 use turn_runner::{Came, Desk, DeskFault, Ran, TurnWork};
 
-/// A desk over the core. Contracts see what they see of the core, the objects, the turns of which these heard, the turn of a
-/// settling that is under way, what turns came to that couldn't be put back, and whether there is room for one more.
+/// A desk over the core. Contracts see what they see of the core, the objects, the turns of which these heard, what turns came to
+/// that couldn't be put back, and whether there is room for one more.
 #[derive(Drop)]
 pub(crate) struct CoreDesk<O> {
     pub(crate) core: Core,
     pub(crate) turns: Vec<Turn>,
     pub(crate) held: Vec<Held<O>>,
     pub(crate) told: Vec<u64>,
-    pub(crate) own: Option<u64>,
     pub(crate) kept: Vec<Came<O>>,
 }
 
@@ -48,17 +46,17 @@ impl<O> Model for CoreDesk<O> {
 
     ghost coded = { Prim.hlevel (codes, tree_code) };
 
-    ghost view = { λ d. record { core = d.core; held = d.held.items; told = d.told.items; own = d.own; kept = d.kept.items; ready = nat_lt (vec_len d.kept) (vec_capacity d.kept) } };
+    ghost view = { λ d. record { core = d.core; held = d.held.items; told = d.told.items; kept = d.kept.items; ready = nat_lt (vec_len d.kept) (vec_capacity d.kept) } };
 
-    ghost invariant = { λ d. IsDesk d.core d.turns.items d.held.items × AreFit d.kept.items };
+    ghost invariant = { λ d. IsDesk d.core d.turns.items d.held.items × AreFit d.core d.kept.items };
 }
 
 impl<O: Drop> CoreDesk<O> {
     pub(crate) fn new(alloc: Global, limits: Limits) -> Result<CoreDesk<O>, CoreFault>
         requires within { AreWithinGreatest limits }
         ensures core { IfOk result (λ desk. desk.core ≡ record { limits = limits; journal = [] }) }
+        ensures empty { IfOk result (λ desk. (desk.held ≡ []) × (desk.told ≡ [])) }
         ensures kept { IfOk result (λ desk. desk.kept ≡ []) }
-        ensures empty { IfOk result (λ desk. (desk.held ≡ []) × (desk.told ≡ []) × (desk.own ≡ None)) }
         ensures err { IfErr result (λ fault. fault ≡ NoMemory) }
     {
         Ok(CoreDesk {
@@ -66,7 +64,6 @@ impl<O: Drop> CoreDesk<O> {
             turns: Vec::new(alloc),
             held: Vec::new(alloc),
             told: Vec::new(alloc),
-            own: None,
             kept: Vec::new(alloc),
         })
     }
@@ -85,28 +82,10 @@ impl<O: Drop> CoreDesk<O> {
         ensures takes { CoreTakes self.old.core command result self.new.core }
         ensures kept { self.new.kept ≡ self.old.kept }
     {
-        self.core.command(alloc, command)
-    }
-
-    // Begins the first due turn, for whoever asks.
-    pub(crate) fn begin(&mut self, alloc: Global) -> Result<Option<TurnWork>, DeskFault>
-        ensures step { IsTaken (λ d. has_due d.core) (λ d. has_room d.core) GivesOut self.old result self.new }
-        ensures running { IfOk result (λ taken. MatchOption taken (Unit {0}) (λ work. running self.new.core work.number ≡ Some work)) }
-        ensures fits { IfOk result (λ taken. MatchOption taken (Unit {0}) (λ work. has_object self.new.core work.instance ≡ needs_object work)) }
-        ensures objects { (instance : ℕ) → has_object self.new.core instance ≡ has_object self.old.core instance }
-    {
-        self.turns.reserve(1)?;
         self.core.note_legal();
-        match self.core.take_turn(alloc) {
-            Ok(Taken::Turn(token, work)) => {
-                self.turns.push_reserved(token);
-                Ok(Some(work))
-            }
-            Ok(Taken::Idle) => Ok(None),
-            Err(CoreFault::JournalFull) => Err(DeskFault::JournalFull),
-            Err(CoreFault::OutOfMemory) => Err(DeskFault::OutOfMemory),
-            Err(_) => unreachable!(),
-        }
+        let answer = self.core.command(alloc, command);
+        self.core.note_legal();
+        answer
     }
 
     // The work of a turn that is under way, for whose instance an object is there where the turn needs one.
@@ -133,9 +112,7 @@ impl<O: Drop> Desk<O> for CoreDesk<O> {
 
     ghost owns = { Owns };
 
-    ghost left = { left };
-
-    ghost kept = { IsKept };
+    ghost kept = { λ desk. kept_of desk.kept };
 
     ghost ready = { λ desk. desk.ready };
 
@@ -150,21 +127,17 @@ impl<O: Drop> Desk<O> for CoreDesk<O> {
     ghost posts = { DeskPosts };
 
     fn take(&mut self, alloc: Global) -> Result<Option<TurnWork>, DeskFault> {
-        match self.begin(alloc) {
-            Ok(Some(work)) => {
-                self.own = Some(work.number);
+        self.turns.reserve(1)?;
+        self.core.note_legal();
+        match self.core.take_turn(alloc) {
+            Ok(Taken::Turn(token, work)) => {
+                self.turns.push_reserved(token);
                 Ok(Some(work))
             }
-            Ok(None) => Ok(None),
-            Err(fault) => Err(fault),
-        }
-    }
-
-    fn left(&self, alloc: Global) -> Result<Option<TurnWork>, OutOfMemory> {
-        self.core.note_legal();
-        match self.own {
-            Some(number) => self.core.turn_work(alloc, number),
-            None => Ok(None),
+            Ok(Taken::Idle) => Ok(None),
+            Err(CoreFault::JournalFull) => Err(DeskFault::JournalFull),
+            Err(CoreFault::OutOfMemory) => Err(DeskFault::OutOfMemory),
+            Err(_) => unreachable!(),
         }
     }
 
@@ -185,7 +158,7 @@ impl<O: Drop> Desk<O> for CoreDesk<O> {
         requires made { is_some ran.made ≡ makes_object work ran.outcome }
         requires ready { self.old.ready ≡ true }
         ensures ok { OnOk result (DeskEnds self.old work.number ran.outcome self.new) }
-        ensures left { OnOk result (left self.old ≡ Some work → left self.new ≡ None) }
+        ensures ended { OnOk result (running self.new.core work.number ≡ None) }
         ensures objects { OnOk result ((instance : ℕ) → is_destroy_of (Some work) instance ≡ false → has_object self.new.core instance ≡ has_object_after (Some work) (is_some ran.made) (has_object self.old.core) instance) }
         ensures own { OnOk result ((instance : ℕ) (object : O) → Owns self.new instance object → Owns self.old instance object ⊎ IsMadeFor arc_value (Some work) ran.made instance object) }
         ensures err { OnErr result (DeskKeeps self.old (record { work = work; ran = ran }) self.new) }
@@ -196,16 +169,16 @@ impl<O: Drop> Desk<O> for CoreDesk<O> {
             &mut self.core,
             &mut self.turns,
             &mut self.held,
-            &work,
+            work.number,
             ran.outcome,
         );
         if ended.is_err() {
             self.kept.push_reserved(Came { work, ran });
             return Err(AllocError);
         }
+        forget(&mut self.kept, work.number);
         let is_destroyed = work.callback.is_destroy();
         keep(&mut self.held, work.instance, ran.made, is_destroyed);
-        self.own = own_but(self.own, work.number);
         Ok(())
     }
 
@@ -215,25 +188,26 @@ impl<O: Drop> Desk<O> for CoreDesk<O> {
         work: &TurnWork,
     ) -> Result<Option<Outcome>, OutOfMemory> {
         self.core.note_legal();
-        let Some(found) = found_kept(self.kept.as_slice(), work) else {
+        let Some(ran) = found_kept(self.kept.as_slice(), work.number)? else {
             return Ok(None);
         };
+        let outcome = ran.outcome;
         try_end(
             alloc,
             &mut self.core,
             &mut self.turns,
             &mut self.held,
-            work,
-            found.outcome,
+            work.number,
+            outcome,
         )?;
-        let came = self.kept.remove(found.place);
+        forget(&mut self.kept, work.number);
         let is_destroyed = work.callback.is_destroy();
-        keep(&mut self.held, work.instance, came.ran.made, is_destroyed);
-        self.own = own_but(self.own, work.number);
-        Ok(Some(found.outcome))
+        keep(&mut self.held, work.instance, ran.made, is_destroyed);
+        Ok(Some(outcome))
     }
 
     fn post(&mut self, alloc: Global) -> Result<(), OutOfMemory> {
+        self.core.note_legal();
         post_drains(alloc, &mut self.core)
     }
 }

@@ -1,5 +1,5 @@
 //! How the core ends a turn whose token a desk keeps.
-ghost use Rattle.platform_hall.specs.Desks.{own_but, tokens_of};
+ghost use Rattle.platform_hall.specs.Desks.{tokens_of};
 ghost use Rattle.platform_hall.specs.Platforms.{Ends, running, world};
 ghost use Rattle.prop_map.specs.Words.{one_if};
 ghost use Rattle.scr_world.specs.Legal.{IsLegal, is_under_way};
@@ -11,17 +11,6 @@ use callback_orders::Outcome;
 use prop_map::OutOfMemory;
 use scr_requests::{Core, Turn};
 use std::alloc::Global;
-use turn_runner::TurnWork;
-
-// Which turn of a settling is still under way once this one has ended.
-pub(crate) fn own_but(own: Option<u64>, number: u64) -> Option<u64>
-    ensures { result ≡ own_but number own }
-{
-    match own {
-        Some(turn) if turn == number => None,
-        other => other,
-    }
-}
 
 // Ends a turn by its token. Where memory is wanting, the token is there again.
 fn end_by_token(
@@ -54,18 +43,18 @@ pub(crate) fn try_end<O>(
     core: &mut Core,
     turns: &mut Vec<Turn>,
     held: &mut Vec<Held<O>>,
-    work: &TurnWork,
+    number: u64,
     outcome: Outcome,
 ) -> Result<(), OutOfMemory>
-    requires under_way { is_under_way (world core.old) work.now.number ≡ true }
-    requires token { 0 < tokens_of turns.old.items work.now.number }
-    ensures ok { OnOk result (Ends core.old work.now.number outcome core.new) }
-    ensures less { OnOk result ((n : ℕ) → tokens_of turns.old.items n ≡ tokens_of turns.new.items n + one_if (work.now.number == n)) }
+    requires under_way { is_under_way (world core.old) number ≡ true }
+    requires token { 0 < tokens_of turns.old.items number }
+    ensures ok { OnOk result (Ends core.old number outcome core.new) }
+    ensures less { OnOk result ((n : ℕ) → tokens_of turns.old.items n ≡ tokens_of turns.new.items n + one_if (number == n)) }
     ensures same { OnErr result ((n : ℕ) → tokens_of turns.new.items n ≡ tokens_of turns.old.items n) }
     ensures err { OnErr result (core.new ≡ core.old) }
     ensures held { held.new.items ≡ held.old.items }
     ensures room { OnOk result (vec_len held.new < vec_capacity held.new) }
 {
     held.reserve(1)?;
-    end_by_token(alloc, core, turns, work.number, outcome)
+    end_by_token(alloc, core, turns, number, outcome)
 }

@@ -1,10 +1,10 @@
 //! The platform.
-ghost use Rattle.std.specs.Prelude.{◌≡◌, [], None, IfOk, IfErr, OnOk};
+ghost use Rattle.std.specs.Prelude.{◌≡◌, [], IfOk, IfErr};
 ghost use Rattle.scr_world.specs.declared.reply.CoreFault.TheVariants.{OutOfMemory};
 ghost use Rattle.scr_requests.specs.Cores.{AreWithinGreatest};
 ghost use Rattle.scr_world.specs.Legal.{IsLegal};
 ghost use Rattle.scr_world.specs.Steps.{history_of};
-ghost use Rattle.platform_hall.specs.Desks.{AreRight, DeskSettles, FinishesHeard, SettlesHeard, left};
+ghost use Rattle.platform_hall.specs.Desks.{AreAnswered, DeskSettles, FinishesHeard, SettlesHeard};
 ghost use Rattle.platform_hall.specs.Platforms.{BeginsTurn, FinishesTurn, SettlesAs, TakesCommand};
 ghost use Rattle.platform_hall.specs.SettleBounds.{SettlesWithin};
 
@@ -31,7 +31,7 @@ pub struct Platform<K: Kinds> {
 
 impl<K: Kinds> Model for Platform<K> {
     ghost use Rattle.scr_requests.specs.Cores.{CoreView};
-    ghost use Rattle.platform_hall.specs.Desks.{AreRight};
+    ghost use Rattle.platform_hall.specs.Desks.{AreAnswered};
     ghost use Rattle.platform_hall.specs.Requests.{WereServletsOf};
     ghost use Rattle.std.specs.Prelude.{MatchOption};
     ghost use Rattle.std.specs.Coded.{codes};
@@ -43,7 +43,7 @@ impl<K: Kinds> Model for Platform<K> {
 
     ghost view = { λ p. p.desk.core };
 
-    ghost invariant = { λ p. MatchOption p.servlets (Unit {0}) (WereServletsOf p.desk.core.journal) × AreRight K.refuses p.desk.kept };
+    ghost invariant = { λ p. MatchOption p.servlets (Unit {0}) (WereServletsOf p.desk.core.journal) × AreAnswered K.made K.hears K.refuses p.desk.kept };
 }
 
 // Runs the turns that are due over the desk, and sees of it what contracts see of its core.
@@ -53,10 +53,9 @@ fn settle_desk<K: Kinds>(
     kinds: &K,
     turns: u64,
 ) -> Result<u64, SettleFault>
-    ensures settles { AreRight K.refuses desk.old.kept → SettlesAs K.refuses turns desk.old.core result desk.new.core }
-    ensures right { AreRight K.refuses desk.old.kept → AreRight K.refuses desk.new.kept }
+    ensures settles { SettlesAs K.refuses turns desk.old.core result desk.new.core }
     ensures heard { DeskSettles K.made K.hears K.refuses turns desk.old result desk.new }
-    ensures left { OnOk result (left desk.new ≡ None) }
+    ensures answered { AreAnswered K.made K.hears K.refuses desk.old.kept → AreAnswered K.made K.hears K.refuses desk.new.kept }
 {
     settle(alloc, desk, kinds, turns)
 }
@@ -93,10 +92,8 @@ impl<K: Kinds + Drop> Platform<K> {
         Ok(accepted.reply)
     }
 
-    /// Ends the turn that an earlier settling left under way for want of memory, if there is one, and then runs the turns that are
-    /// due, one after the other, until none is due, and answers how many of these ran. A turn that was told before it was left
-    /// ends with what it came to then, and nobody is told again. The drains that are due behind a turn are posted before the next
-    /// one begins. Where it is over it leaves no turn of its own under way. Each turn but a Create and a Destroy is heard of once, by the object that
+    /// Runs the turns that are due, one after the other, until none is due, and answers how many ran. The drains that are due
+    /// behind a turn are posted before the next one begins. Each turn but a Create and a Destroy is heard of once, by the object that
     /// is kept for its instance, and that object was made for the class and the properties of its Create. Where the platform is calm and no creation or activation ends other than
     /// Done, no component configuration closes, and at most as many turns run as the settle bound says.
     ///
@@ -121,7 +118,7 @@ impl<K: Kinds + Drop> Platform<K> {
         ensures { BeginsTurn self.old result self.new }
     {
         self.servlets = None;
-        match self.desk.begin(alloc) {
+        match self.desk.take(alloc) {
             Ok(Some(work)) => Ok(Some(work.number)),
             Ok(None) => Ok(None),
             Err(DeskFault::JournalFull) => Err(CoreFault::JournalFull),
@@ -130,8 +127,8 @@ impl<K: Kinds + Drop> Platform<K> {
     }
 
     /// Runs a turn that has begun, ends it, posts the drains that are due then, and answers the outcome. Unless it is a Create or a
-    /// Destroy, the object that is kept for its instance hears of it once. A turn that was told before, and couldn't be ended then
-    /// for want of memory, ends with what it came to then, and nobody is told again.
+    /// Destroy, the object that is kept for its instance hears of it once. A turn that was told before, by a settling or by this call,
+    /// and couldn't be ended then for want of memory, ends with what it came to then, and nobody is told again.
     ///
     /// # Errors
     /// `NoTurn` exactly where no turn of this number is under way. Otherwise only want of memory, which may leave the turn under

@@ -27,8 +27,8 @@ use Rattle.scr_world.specs.declared.world.World.{World}
 use Rattle.turn_runner.specs.declared.settle_fault.SettleFault.{SettleFault}
 use Rattle.turn_runner.specs.declared.settle_fault.SettleFault.TheVariants.{Unsettled, JournalFull, OutOfMemory}
 use Rattle.turn_work.specs.declared.work.TurnWork.{TurnWork}
-use Rattle.turn_runner.specs.Turns.{Ends as EndsTurn, IsCutOff, IsSettled, Settles, Turns}
-use Rattle.platform_hall.specs.Platforms.{Accepts, Begins, Drained, Ends, Posts, SettlesAs, TakesCommand, TakesUp, has_drain, has_due, has_room, world}
+use Rattle.turn_runner.specs.Turns.{Ends as EndsTurn, IsCutOff, Settles, Turns}
+use Rattle.platform_hall.specs.Platforms.{Accepts, Begins, Drained, Ends, Posts, SettlesAs, TakesCommand, has_drain, world}
 use Rattle.platform_hall.proofs.Turns.{begins_next, is_begin}
 use Rattle.platform_shell.specs.Asks.{changed}
 use Rattle.platform_shell.specs.Runs.{Grew, command_in, commands_in}
@@ -165,20 +165,12 @@ grew_cut_off : (refuses : List ℕ → List Property → Told → Bool) (before 
 grew_cut_off refuses before after (inl (work, begins)) = grew_begins before after work begins
 grew_cut_off refuses before after (inr (work, outcome, is, ends)) = grew_turn before after work outcome ends
 
--- what an earlier settling left is taken up
-grew_takes_up : (refuses : List ℕ → List Property → Told → Bool) (before start : CoreView) → TakesUp refuses before start → Grew before start []
-grew_takes_up refuses before start (inl same) = grew_not before start same
-grew_takes_up refuses before start (inr (turn, outcome, (work, ended, runs, is, ends, posts))) = grew_behind before ended start [] (grew_ends before ended turn outcome ends) (grew_posts ended start posts)
-
-grew_ran : (refuses : List ℕ → List Property → Told → Bool) (turns : ℕ) (before after : CoreView) (said : Result ℕ SettleFault) → IsSettled has_due has_room has_drain Begins Begins Ends Posts refuses turns before said after → Grew before after []
-grew_ran refuses turns before after (Ok count) (within, settles, due, drain) = grew_settles refuses count before after settles
-grew_ran refuses turns before after (Err Unsettled) (settles, due, drain) = grew_settles refuses turns before after settles
-grew_ran refuses turns before after (Err JournalFull) (count, below, settles, due, room, drain) = grew_settles refuses count before after settles
-grew_ran refuses turns before after (Err OutOfMemory) (inl posts) = grew_posts before after posts
-grew_ran refuses turns before after (Err OutOfMemory) (inr (inl (count, within, settles))) = grew_settles refuses count before after settles
-grew_ran refuses turns before after (Err OutOfMemory) (inr (inr (count, between, below, settles, cut))) =
-    grew_behind before between after [] (grew_settles refuses count before between settles) (grew_cut_off refuses between after cut)
-
 -- a settling, however it ends
 pub grew_settled : (refuses : List ℕ → List Property → Told → Bool) (turns : ℕ) (before after : CoreView) (said : Result ℕ SettleFault) → SettlesAs refuses turns before said after → Grew before after []
-grew_settled refuses turns before after said (start, takes, ran) = grew_behind before start after [] (grew_takes_up refuses before start takes) (grew_ran refuses turns start after said ran)
+grew_settled refuses turns before after (Ok count) (within, settles, due, drain) = grew_settles refuses count before after settles
+grew_settled refuses turns before after (Err Unsettled) (settles, due, drain) = grew_settles refuses turns before after settles
+grew_settled refuses turns before after (Err JournalFull) (count, below, settles, due, room, drain) = grew_settles refuses count before after settles
+grew_settled refuses turns before after (Err OutOfMemory) (inl posts) = grew_posts before after posts
+grew_settled refuses turns before after (Err OutOfMemory) (inr (inl (count, within, settles))) = grew_settles refuses count before after settles
+grew_settled refuses turns before after (Err OutOfMemory) (inr (inr (count, between, below, settles, cut))) =
+    grew_behind before between after [] (grew_settles refuses count before between settles) (grew_cut_off refuses between after cut)

@@ -1,5 +1,5 @@
 -- A platform at which nothing is due: a settling of it has no turns, a line that appends nothing leaves it so, and each settling does.
-use Rattle.std.proofs.Common.{◌≡◌, ℕ, List, [], ◌∷◌, ◌++◌, length, length-append, append-nil, Bool, true, false, not, ◌&&◌, ap, sym, ◌∙◌, refl, subst, arith, Ok, inl}
+use Rattle.std.proofs.Common.{◌≡◌, ℕ, List, [], ◌∷◌, ◌++◌, length, length-append, append-nil, Bool, true, false, not, ◌&&◌, ap, sym, ◌∙◌, refl, subst, arith, Ok}
 use Rattle.std.specs.Prelude.{◌==◌}
 use Rattle.std.specs.declared.option.Option.{Option}
 use Rattle.std.proofs.lemmas.Bool.{and_parts, eqb-true}
@@ -38,11 +38,11 @@ still_nothing_due s asked before after told rested asks known still =
 
 -- a settling has no turns there
 pub settles_none : (refuses : List ℕ → List Property → Told → Bool) (turns : ℕ) (p : CoreView) → HasNothingDue p → SettlesAs refuses turns p (Ok 0) p
-settles_none refuses turns p (due, drain) = (p, inl refl, (omega arith, (p, (refl, 0, refl), drain, refl), due, drain))
+settles_none refuses turns p (due, drain) = (omega arith, (p, (refl, 0, refl), drain, refl), due, drain)
 
 rested_by : (manual : Bool) (s : Setting) (between after : CoreView) → RestsBy manual s between after → not manual ≡ true → HasNothingDue after
 rested_by true s between after rests auto = absurd cc
-rested_by false s between after (count, settles) auto = (settles.0.4, settles.0.5)
+rested_by false s between after (count, settles) auto = (settles.0.2, settles.0.3)
 
 -- nothing is due behind a settling
 pub nothing_due_behind : (s : Setting) (between after : CoreView) → Rests s between after → not s.is_manual ≡ true → HasNothingDue after

@@ -4,18 +4,18 @@ use Rattle.std.specs.Prelude.{ℕ, ◌==◌, ◌-◌, List, [], ◌∷◌, ◌++
 use Rattle.std.specs.List.{find, list_any}
 use Rattle.callback_orders.specs.declared.callback.Outcome.{Outcome}
 use Rattle.turn_runner.specs.declared.came.Came.{Came}
+use Rattle.turn_runner.specs.declared.turn.Ran.{Ran}
 use Rattle.turn_work.specs.declared.work.TurnWork.{TurnWork}
 use Rattle.rule_tests.specs.declared.memory_desk.Ended.{Ended}
 use Rattle.rule_tests.specs.declared.memory_desk.Held.{Held}
 use Rattle.turn_runner.specs.Outcomes.{needs_object}
 
--- the turns to come, how many more may begin, the turn under way, what is kept of it, the objects of the instances, the turns that ended, and whether a drain
--- is due
+-- the turns to come, how many more may begin, the turn under way, what is kept of it, the objects of the instances, the turns that ended, and whether a drain is due
 pub record Desktop (O : Type 0) : Type 0 where
   pub turns_to_come : List TurnWork
   pub room : ℕ
   pub under_way : Option TurnWork
-  pub kept : Option (Came O)
+  pub kept : Option (Ran O)
   pub held : List (Held O)
   pub ended : List Ended
   pub drain : Bool
@@ -35,11 +35,6 @@ abbrev pub first_fits : {O : Type 0} → List (Held O) → List TurnWork → Boo
 first_fits held [] = false
 first_fits held (work ∷ later) = fits held work
 
--- the instance of the turn under way has an object exactly where the turn needs one
-abbrev pub FitsUnderWay : {O : Type 0} → Option TurnWork → List (Held O) → Type 0
-FitsUnderWay None held = Unit {0}
-FitsUnderWay (Some work) held = is_holder held work.instance ≡ needs_object work
-
 -- the first turn to come is due where no turn is under way and it fits
 abbrev pub is_due : {O : Type 0} → Desktop O → Bool
 is_due desk = is_none desk.under_way && first_fits desk.held desk.turns_to_come
@@ -48,17 +43,26 @@ abbrev pub with_number : ℕ → Option TurnWork → Option TurnWork
 with_number number None = None
 with_number number (Some work) = if work.number == number then Some work else None
 
+-- what is kept of the turn under way, with its work
+abbrev pub came_of : {O : Type 0} → Option TurnWork → Option (Ran O) → Option (Came O)
+came_of None kept = None
+came_of (Some work) None = None
+came_of (Some work) (Some ran) = Some (record { work = work; ran = ran })
+
+abbrev pub kept_of : {O : Type 0} → Desktop O → ℕ → Option (Came O)
+kept_of desk number = came_of (with_number number desk.under_way) desk.kept
+
 -- the first turn to come begins
 abbrev pub Begins : {O : Type 0} → Desktop O → TurnWork → Desktop O → Type 0
-Begins before work after = (before.turns_to_come ≡ work ∷ after.turns_to_come) × (after ≡ record before { turns_to_come = after.turns_to_come; room = before.room - 1; under_way = Some work })
+Begins before work after = (before.turns_to_come ≡ work ∷ after.turns_to_come) × (after ≡ record before { turns_to_come = after.turns_to_come; room = before.room - 1; under_way = Some work; kept = None })
 
--- what the turn came to is kept
+-- what the turn under way came to is kept
 abbrev pub Keeps : {O : Type 0} → Desktop O → Came O → Desktop O → Type 0
-Keeps before came after = after ≡ record before { kept = Some came }
+Keeps before came after = after ≡ record before { kept = Some came.ran }
 
 -- the turn under way ends, and a drain is due
 abbrev pub EndsAs : {O : Type 0} → Desktop O → ℕ → Outcome → Desktop O → Type 0
-EndsAs before number outcome after = after ≡ record before { under_way = None; kept = after.kept; held = after.held; ended = before.ended ++ record { number = number; outcome = outcome } ∷ []; drain = true }
+EndsAs before number outcome after = after ≡ record before { under_way = None; kept = None; held = after.held; ended = before.ended ++ record { number = number; outcome = outcome } ∷ []; drain = true }
 
 abbrev pub Posts : {O : Type 0} → Desktop O → Desktop O → Type 0
 Posts before after = after ≡ record before { drain = false }

@@ -1,10 +1,9 @@
 //! A desk in memory, for tests.
 ghost use Rattle.std.specs.Prelude.{◌≡◌, ◌⊎◌, ◌==◌, ◌<◌, ◌&&◌, ◌||◌, ℕ, [], Some, None, not, false, true, is_some, option_map, vec_len, vec_capacity, IfOk, MatchOption, OnOk, OnErr, IfErr};
-ghost use Rattle.rule_tests.specs.Desktops.{Begins, EndsAs, Keeps, Posts, is_due, is_holder, fits, object_of, with_number};
+ghost use Rattle.rule_tests.specs.Desktops.{Begins, EndsAs, Keeps, Posts, is_due, is_holder, fits, kept_of, object_of, with_number};
 ghost use Rattle.std.specs.Arc.{arc_value};
 ghost use Rattle.std.specs.List.{find};
 ghost use Rattle.std.specs.Option.{option_copied};
-ghost use Rattle.turn_runner.specs.declared.came.Came.{Came};
 ghost use Rattle.turn_runner.specs.Outcomes.{IsMadeFor, has_object_after, is_destroy_of, makes_object};
 
 use callback_orders::Outcome;
@@ -13,7 +12,7 @@ use std::alloc::{AllocError, Global};
 use std::collections::VecDeque;
 use std::marker::Model;
 use std::sync::Arc;
-use turn_runner::{Came, Desk, DeskFault, Ran, TurnWork};
+use turn_runner::{Desk, DeskFault, Ran, TurnWork};
 
 /// How a turn of a desk in memory ended.
 #[derive(Clone, Copy, Debug, PartialEq, Eq, Drop)]
@@ -40,20 +39,18 @@ pub struct MemoryDesk<O> {
     turns_to_come: VecDeque<TurnWork>,
     room: u64,
     under_way: Option<TurnWork>,
-    kept: Option<Came<O>>,
+    kept: Option<Ran<O>>,
     held: Vec<Held<O>>,
     ended: Vec<Ended>,
     drain: bool,
 }
 
 impl<O> Model for MemoryDesk<O> {
-    ghost use Rattle.rule_tests.specs.Desktops.{Desktop, FitsUnderWay};
+    ghost use Rattle.rule_tests.specs.Desktops.{Desktop};
 
     ghost Value = { Desktop O };
 
     ghost view = { λ d. record { turns_to_come = d.turns_to_come.items; room = d.room; under_way = d.under_way; kept = d.kept; held = d.held.items; ended = d.ended.items; drain = d.drain } };
-
-    ghost invariant = { λ d. FitsUnderWay d.under_way d.held.items };
 }
 
 fn is_holder<O>(held: &[Held<O>], instance: u64) -> bool
@@ -150,23 +147,21 @@ impl<O: Drop> Desk<O> for MemoryDesk<O> {
 
     ghost running = { λ d number. with_number number d.under_way };
 
-    ghost left = { λ d. d.under_way };
-
-    ghost kept = { λ d number came. (with_number number d.under_way ≡ Some came.work) × (d.kept ≡ Some came) };
-
-    ghost ready = { λ _. true };
-
-    ghost keeps = { Keeps };
-
     ghost has_object = { λ d instance. is_holder d.held instance };
 
     ghost owns = { λ d instance object. object_of d.held instance ≡ Some object };
+
+    ghost kept = { kept_of };
+
+    ghost ready = { λ _. true };
 
     ghost begins = { Begins };
 
     ghost hands = { λ before _ after. after ≡ before };
 
     ghost ends = { EndsAs };
+
+    ghost keeps = { Keeps };
 
     ghost posts = { Posts };
 
@@ -183,15 +178,9 @@ impl<O: Drop> Desk<O> for MemoryDesk<O> {
         };
         let taken = self.turns_to_come.pop_front();
         self.under_way = Some(kept);
+        self.kept = None;
         self.room -= 1;
         Ok(taken)
-    }
-
-    fn left(&self, alloc: Global) -> Result<Option<TurnWork>, OutOfMemory> {
-        match &self.under_way {
-            Some(work) => Ok(Some(work.copy(alloc)?)),
-            None => Ok(None),
-        }
     }
 
     fn due(&self, _alloc: Global) -> Result<bool, OutOfMemory> {
@@ -207,13 +196,13 @@ impl<O: Drop> Desk<O> for MemoryDesk<O> {
         requires made { is_some ran.made ≡ makes_object work ran.outcome }
         requires ready { true ≡ true }
         ensures ok { OnOk result (EndsAs self.old work.number ran.outcome self.new) }
-        ensures left { OnOk result (self.old.under_way ≡ Some work → self.new.under_way ≡ None) }
+        ensures ended { OnOk result (with_number work.number self.new.under_way ≡ None) }
         ensures objects { OnOk result ((instance : ℕ) → is_destroy_of (Some work) instance ≡ false → is_holder self.new.held instance ≡ has_object_after (Some work) (is_some ran.made) (λ other. is_holder self.old.held other) instance) }
         ensures own { OnOk result ((instance : ℕ) (object : O) → object_of self.new.held instance ≡ Some object → (object_of self.old.held instance ≡ Some object) ⊎ IsMadeFor arc_value (Some work) ran.made instance object) }
         ensures err { OnErr result (Keeps self.old (record { work = work; ran = ran }) self.new) }
     {
         if self.held.reserve(1).is_err() || self.ended.reserve(1).is_err() {
-            self.kept = Some(Came { work, ran });
+            self.kept = Some(ran);
             return Err(AllocError);
         }
         let Ran { outcome, made } = ran;
@@ -223,6 +212,7 @@ impl<O: Drop> Desk<O> for MemoryDesk<O> {
             outcome,
         });
         self.under_way = None;
+        self.kept = None;
         self.drain = true;
         Ok(())
     }
@@ -232,19 +222,14 @@ impl<O: Drop> Desk<O> for MemoryDesk<O> {
         _alloc: Global,
         work: &TurnWork,
     ) -> Result<Option<Outcome>, OutOfMemory> {
-        let is_kept = match &self.kept {
-            Some(came) => came.work == *work,
-            None => false,
-        };
-        if !is_kept {
+        if self.kept.is_none() {
             return Ok(None);
         }
         self.held.reserve(1)?;
         self.ended.reserve(1)?;
-        let Some(came) = self.kept.take() else {
-            unreachable!()
+        let Some(Ran { outcome, made }) = self.kept.take() else {
+            unreachable!();
         };
-        let Ran { outcome, made } = came.ran;
         keep(&mut self.held, work.instance, made);
         self.ended.push_reserved(Ended {
             number: work.number,

@@ -80,28 +80,6 @@ pub(crate) fn settles<K: Kinds + Drop>(
     starts_both(alloc, platform) && runs_turns(alloc, platform, turns)
 }
 
-// Whether turns run until none is due, where memory may be wanting once on the way.
-fn settles_at_last<K: Kinds + Drop>(alloc: Global, platform: &mut Platform<K>) -> bool {
-    platform.settle(alloc).is_ok() || platform.settle(alloc).is_ok()
-}
-
-// Whether none of the first turns is under way.
-fn has_ended_turns<K: Kinds + Drop>(alloc: Global, platform: &mut Platform<K>) -> bool {
-    for turn in 1..8 {
-        match platform.finish(alloc, turn) {
-            Err(FinishFault::NoTurn) => {}
-            _ => return false,
-        }
-    }
-    true
-}
-
-// Whether what was started, if it was, is settled at last, and no turn is left under way.
-pub(crate) fn leaves_no_turn<K: Kinds + Drop>(alloc: Global, platform: &mut Platform<K>) -> bool {
-    !starts_both(alloc, platform)
-        || (settles_at_last(alloc, platform) && has_ended_turns(alloc, platform))
-}
-
 #[test]
 fn a_turn_runs_by_hand(rt: HostRuntime) {
     assert!(rt; holds(rt.alloc(), Demonstration, LIMITS, &Deed::Turn));

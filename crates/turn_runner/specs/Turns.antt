@@ -12,7 +12,7 @@ use Rattle.turn_runner.specs.declared.desk_fault.DeskFault.{DeskFault}
 use Rattle.turn_runner.specs.declared.desk_fault.DeskFault.TheVariants.{JournalFull as NoRoom, OutOfMemory as NoMemoryLeft}
 use Rattle.turn_runner.specs.declared.settle_fault.SettleFault.{SettleFault}
 use Rattle.turn_runner.specs.declared.settle_fault.SettleFault.TheVariants.{Unsettled, JournalFull, OutOfMemory}
-use Rattle.turn_runner.specs.Outcomes.{is_refused, IsHeard, IsMadeFor, IsMadeFrom, IsOutcome, IsOwnFrom, is_no_memory, outcome_where}
+use Rattle.turn_runner.specs.Outcomes.{is_refused, IsHeard, IsMadeFor, IsMadeFrom, IsOutcome, IsOwnFrom, outcome_where}
 
 -- the first due turn was taken, exactly where one is due and there is room for it
 abbrev pub IsTaken : {S : Type 0} → (S → Bool) → (S → Bool) → (S → TurnWork → S → Type 0) → S → Result (Option TurnWork) DeskFault → S → Type 0
@@ -38,20 +38,20 @@ abbrev pub Stays : {S O : Type 0} → (S → ℕ → O → Type 0) → (O → Si
 Stays {S} {O} owns made hears refuses hands keeps before work after =
     (after ≡ before) ⊎ ((handed : S) × (came : Came O) × (came.work ≡ work) × hands before work.number handed × keeps handed came after × IsAnswered owns made hears refuses before came)
 
--- nothing is kept of a turn: it wasn't told
-abbrev pub IsUntold : {S O : Type 0} → (S → ℕ → Came O → Type 0) → S → ℕ → Type 0
-IsUntold {S} {O} kept desk number = (came : Came O) → kept desk number came → ⊥
+-- a turn that wasn't told is told and ends with this outcome, which is Refused exactly where component code refuses it
+abbrev pub EndsUntold : {S : Type 0} → (S → ℕ → Outcome → S → Type 0) → (List ℕ → List Property → Told → Bool) → S → TurnWork → Outcome → S → Type 0
+EndsUntold heard_ends refuses before work outcome after = IsOutcome (is_refused refuses work) outcome × heard_ends before work.number outcome after
 
 -- a turn that was told before ends with what is kept of it, and nobody hears of it. An own object afterwards was so before, or is the one that is kept
-abbrev pub KeptEnds : {S O : Type 0} → (S → ℕ → Came O → Type 0) → (S → ℕ → O → Type 0) → (S → ℕ → Outcome → S → Type 0) → S → TurnWork → Outcome → S → Type 0
+abbrev pub KeptEnds : {S O : Type 0} → (S → ℕ → Option (Came O)) → (S → ℕ → O → Type 0) → (S → ℕ → Outcome → S → Type 0) → S → TurnWork → Outcome → S → Type 0
 KeptEnds {S} {O} kept owns ends before work outcome after =
-    (came : Came O) × kept before work.number came × (came.work ≡ work) × (outcome ≡ came.ran.outcome) × ends before work.number outcome after
+    (came : Came O) × (kept before work.number ≡ Some came) × (came.work ≡ work) × (outcome ≡ came.ran.outcome) × ends before work.number outcome after
     × ((instance : ℕ) (object : O) → owns after instance object → owns before instance object ⊎ IsMadeFor arc_value (Some work) came.ran.made instance object)
 
--- a turn that wasn't told is run, and ends; one that was told ends with what is kept of it
-abbrev pub EndsOnce : {S O : Type 0} → (S → ℕ → Came O → Type 0) → (S → ℕ → O → Type 0) → (S → ℕ → Outcome → S → Type 0) → (S → ℕ → Outcome → S → Type 0) → (List ℕ → List Property → Told → Bool) → S → TurnWork → Outcome → S → Type 0
+-- a turn is told once: one of which nothing is kept is told and ends, and one that was told ends with what is kept of it
+abbrev pub EndsOnce : {S O : Type 0} → (S → ℕ → Option (Came O)) → (S → ℕ → O → Type 0) → (S → ℕ → Outcome → S → Type 0) → (S → ℕ → Outcome → S → Type 0) → (List ℕ → List Property → Told → Bool) → S → TurnWork → Outcome → S → Type 0
 EndsOnce kept owns heard_ends ends refuses before work outcome after =
-    (IsUntold kept before work.number × IsOutcome (is_refused refuses work) outcome × heard_ends before work.number outcome after) ⊎ KeptEnds kept owns ends before work outcome after
+    ((kept before work.number ≡ None) × EndsUntold heard_ends refuses before work outcome after) ⊎ KeptEnds kept owns ends before work outcome after
 
 -- a turn begins and then goes on
 abbrev pub Starts : {S : Type 0} → (S → TurnWork → S → Type 0) → (S → TurnWork → S → Type 0) → S → TurnWork → S → Type 0
@@ -78,13 +78,8 @@ Settles {S} has_drain begins ends posts refuses count before after = (start : S)
 abbrev pub IsCutOff : {S : Type 0} → (S → TurnWork → S → Type 0) → (S → TurnWork → S → Type 0) → (S → ℕ → Outcome → S → Type 0) → (S → S → Type 0) → (List ℕ → List Property → Told → Bool) → S → S → Type 0
 IsCutOff begins starts ends posts refuses before after = ((work : TurnWork) × starts before work after) ⊎ ((work : TurnWork) × (outcome : Outcome) × IsOutcome (is_refused refuses work) outcome × Ends begins ends posts work outcome before after)
 
--- a turn that has begun and wasn't told ends with this outcome, and the drains that are due then are posted; want of memory leaves it going on, or it has
--- ended and some of the drains are posted
-abbrev pub IsRun : {S E : Type 0} → (S → Bool) → (S → TurnWork → S → Type 0) → (S → ℕ → Outcome → S → Type 0) → (S → S → Type 0) → Bool → TurnWork → S → Result Outcome E → S → Type 0
-IsRun {S} has_drain stays ends posts refused work begun (Ok outcome) after = (ended : S) × IsOutcome refused outcome × ends begun work.number outcome ended × posts ended after × (has_drain after ≡ false)
-IsRun {S} has_drain stays ends posts refused work begun (Err _) after = stays begun work after ⊎ ((outcome : Outcome) × (ended : S) × IsOutcome refused outcome × ends begun work.number outcome ended × posts ended after)
-
--- the same of a turn that was told or wasn't
+-- a turn that has begun ends with this outcome, and the drains that are due then are posted; want of memory leaves it going on, or it has ended and
+-- some of the drains are posted
 abbrev pub IsFinished : {S E : Type 0} → (S → Bool) → (S → TurnWork → S → Type 0) → (S → TurnWork → Outcome → S → Type 0) → (S → S → Type 0) → TurnWork → S → Result Outcome E → S → Type 0
 IsFinished {S} has_drain stays ends posts work begun (Ok outcome) after = (ended : S) × ends begun work outcome ended × posts ended after × (has_drain after ≡ false)
 IsFinished {S} has_drain stays ends posts work begun (Err _) after = stays begun work after ⊎ ((outcome : Outcome) × (ended : S) × ends begun work outcome ended × posts ended after)
@@ -93,22 +88,6 @@ IsFinished {S} has_drain stays ends posts work begun (Err _) after = stays begun
 abbrev pub IsEndRun : {S T E : Type 0} → (S → Bool) → (S → TurnWork → S → Type 0) → (S → ℕ → Outcome → S → Type 0) → (S → S → Type 0) → Bool → TurnWork → S → Result T E → S → Type 0
 IsEndRun {S} has_drain stays ends posts refused work begun (Ok _) after = (ended : S) × ends begun work.number (outcome_where refused) ended × posts ended after × (has_drain after ≡ false)
 IsEndRun {S} has_drain stays ends posts refused work begun (Err _) after = stays begun work after ⊎ ((outcome : Outcome) × (ended : S) × IsOutcome refused outcome × ends begun work.number outcome ended × posts ended after)
-
--- the turn that an earlier settling left under way, if there is one, ends other than with NoMemory, and drains are posted
-abbrev pub TakesUp : {S : Type 0} → (S → Option TurnWork) → (S → TurnWork → Outcome → S → Type 0) → (S → S → Type 0) → S → S → Type 0
-TakesUp {S} left ends posts before after =
-    ((left before ≡ None) × (after ≡ before))
-    ⊎ ((work : TurnWork) × (outcome : Outcome) × (ended : S) × (left before ≡ Some work) × (is_no_memory outcome ≡ false) × ends before work outcome ended × posts ended after)
-
--- want of memory while it is taken up: nothing happened, the turn goes on, or it has ended and some of the drains are posted
-abbrev pub TakesUpInPart : {S : Type 0} → (S → Option TurnWork) → (S → TurnWork → S → Type 0) → (S → TurnWork → Outcome → S → Type 0) → (S → S → Type 0) → S → S → Type 0
-TakesUpInPart {S} left stays ends posts before after =
-    (after ≡ before) ⊎ ((work : TurnWork) × (left before ≡ Some work) × (stays before work after ⊎ ((outcome : Outcome) × (ended : S) × ends before work outcome ended × posts ended after)))
-
--- a turn that was left is taken up, or memory is wanting for it
-abbrev pub IsTakenUp : {S E : Type 0} → (S → Option TurnWork) → (S → TurnWork → S → Type 0) → (S → TurnWork → Outcome → S → Type 0) → (S → S → Type 0) → S → Result (Unit {0}) E → S → Type 0
-IsTakenUp left stays ends posts before (Ok _) after = TakesUp left ends posts before after
-IsTakenUp left stays ends posts before (Err _) after = TakesUpInPart left stays ends posts before after
 
 -- one due turn, if there is any
 abbrev pub IsDueRun : {S : Type 0} → (S → Bool) → (S → Bool) → (S → Bool) → (S → TurnWork → S → Type 0) → (S → TurnWork → S → Type 0) → (S → ℕ → Outcome → S → Type 0) → (S → S → Type 0) → (List ℕ → List Property → Told → Bool) → S → Result Bool DeskFault → S → Type 0
@@ -126,8 +105,3 @@ IsSettled {S} has_due has_room has_drain begins starts ends posts refuses budget
     posts before after
     ⊎ (((count : ℕ) × (count ≤ budget) × Settles has_drain begins ends posts refuses count before after)
     ⊎ ((count : ℕ) × (between : S) × (count < budget) × Settles has_drain begins ends posts refuses count before between × IsCutOff begins starts ends posts refuses between after))
-
--- what an earlier settling left is taken up, and then turns run as above; want of memory may come while it is taken up
-abbrev pub Resumes : {S : Type 0} → (S → S → Type 0) → (S → S → Type 0) → (S → Result ℕ SettleFault → S → Type 0) → S → Result ℕ SettleFault → S → Type 0
-Resumes {S} takes_up takes_up_in_part settles before answer after =
-    ((start : S) × takes_up before start × settles start answer after) ⊎ ((answer ≡ Err OutOfMemory) × takes_up_in_part before after)

@@ -4,7 +4,7 @@ ghost use Rattle.std.specs.Arc.{arc_value};
 ghost use Rattle.std.specs.Prelude.{◌≡◌, ◌⊎◌, ℕ, Bool, false, true, Option, Some, None, IfOk, IfErr, OnOk, OnErr, MatchOption, is_some};
 ghost use Rattle.turn_runner.specs.declared.came.Came.{Came};
 ghost use Rattle.turn_runner.specs.Outcomes.{IsMadeFor, has_object_after, is_destroy_of, makes_object, needs_object};
-ghost use Rattle.turn_runner.specs.Turns.{IsTaken, IsUntold, KeptEnds};
+ghost use Rattle.turn_runner.specs.Turns.{IsTaken, KeptEnds};
 ghost use Rattle.turn_work.specs.declared.work.TurnWork.{TurnWork};
 
 use crate::{Came, DeskFault, Ran, TurnWork};
@@ -16,9 +16,10 @@ use std::sync::Arc;
 /// Where turns come from and go back to, and where the objects of the instances are kept.
 ///
 /// Its meaning says at each moment whether a turn is due, whether the journal has room for it, whether a drain is due, which turn
-/// of a number has begun and not ended, which instances have an object, and which objects are an instance's own. Four relations
-/// between the desk before and after say what it means that a turn begins, that the object of its instance is handed out to be
-/// told of it, that it ends with an outcome, and that drains are posted.
+/// of a number has begun and not ended, which instances have an object, which objects are an instance's own, and what is kept of
+/// turns that were told and couldn't end. Five relations between the desk before and after say what it means that a turn begins,
+/// that the object of its instance is handed out to be told of it, that it ends with an outcome, that what it came to is kept, and
+/// that drains are posted.
 pub trait Desk<O> {
     /// Whether a turn is due.
     ghost has_due: { Self → Bool };
@@ -38,11 +39,8 @@ pub trait Desk<O> {
     /// What it is that an object is an instance's own: only one that a turn of the instance made becomes so.
     ghost owns: { Self → ℕ → O → Type 0 };
 
-    /// The turn that a settling began and that has not ended.
-    ghost left: { Self → Option TurnWork };
-
     /// What is kept of the turn of a number: what it came to, where that couldn't be put back.
-    ghost kept: { Self → ℕ → Came O → Type 0 };
+    ghost kept: { Self → ℕ → Option (Came O) };
 
     /// Whether there is room for what a turn comes to.
     ghost ready: { Self → Bool };
@@ -62,28 +60,17 @@ pub trait Desk<O> {
     /// Drains that are due are posted.
     ghost posts: { Self → Self → Type 0 };
 
-    /// Begins the first due turn for a settling, where none is left of an earlier one: `None` exactly where nothing is due. The desk has an object for its instance exactly where the
+    /// Begins the first due turn: `None` exactly where nothing is due. The desk has an object for its instance exactly where the
     /// instance isn't 0 and the callback is no Create.
     ///
     /// # Errors
     /// JournalFull exactly where a turn is due and the journal has no room for it; OutOfMemory. Nothing has begun then.
     fn take(&mut self, alloc: Global) -> Result<Option<TurnWork>, DeskFault>
-        requires { left self.old ≡ None }
         ensures step { IsTaken has_due has_room begins self.old result self.new }
         ensures running { IfOk result (λ taken. MatchOption taken (Unit {0}) (λ work. running self.new work.number ≡ Some work)) }
-        ensures left { IfOk result (λ taken. left self.new ≡ taken) }
         ensures fits { IfOk result (λ taken. MatchOption taken (Unit {0}) (λ work. has_object self.new work.instance ≡ needs_object work)) }
         ensures objects { (instance : ℕ) → has_object self.new instance ≡ has_object self.old instance }
         ensures own { (instance : ℕ) (object : O) → owns self.new instance object → owns self.old instance object };
-
-    /// The turn that an earlier settling left under way, which has an object of its instance exactly where it needs one.
-    ///
-    /// # Errors
-    /// Only want of memory.
-    fn left(&self, alloc: Global) -> Result<Option<TurnWork>, OutOfMemory>
-        ensures left { IfOk result (λ found. found ≡ left self.now) }
-        ensures running { (work : TurnWork) → left self.now ≡ Some work → running self.now work.number ≡ Some work }
-        ensures fits { (work : TurnWork) → left self.now ≡ Some work → has_object self.now work.instance ≡ needs_object work };
 
     /// Whether a turn is due.
     ///
@@ -101,7 +88,6 @@ pub trait Desk<O> {
         requires { running self.old work.now.number ≡ Some work.now }
         ensures step { OnOk result (hands self.old work.now.number self.new) }
         ensures running { OnOk result (running self.new work.now.number ≡ Some work.now) }
-        ensures left { left self.new ≡ left self.old }
         ensures ready { OnOk result (ready self.new ≡ true) }
         ensures has { IfOk result (λ object. is_some object ≡ has_object self.old work.now.instance) }
         ensures own { IfOk result (λ object. MatchOption object (Unit {0}) (λ o. owns self.old work.now.instance (arc_value o))) }
@@ -117,7 +103,7 @@ pub trait Desk<O> {
         requires made { is_some ran.made ≡ makes_object work ran.outcome }
         requires ready { ready self.old ≡ true }
         ensures ok { OnOk result (ends self.old work.number ran.outcome self.new) }
-        ensures left { OnOk result (left self.old ≡ Some work → left self.new ≡ None) }
+        ensures ended { OnOk result (running self.new work.number ≡ None) }
         ensures objects { OnOk result ((instance : ℕ) → is_destroy_of (Some work) instance ≡ false → has_object self.new instance ≡ has_object_after (Some work) (is_some ran.made) (has_object self.old) instance) }
         ensures own { OnOk result ((instance : ℕ) (object : O) → owns self.new instance object → owns self.old instance object ⊎ IsMadeFor arc_value (Some work) ran.made instance object) }
         ensures err { OnErr result (keeps self.old (record { work = work; ran = ran }) self.new) };
@@ -133,9 +119,9 @@ pub trait Desk<O> {
         work: &TurnWork,
     ) -> Result<Option<Outcome>, OutOfMemory>
         requires { running self.old work.now.number ≡ Some work.now }
-        ensures none { IfOk result (λ outcome. outcome ≡ None → IsUntold kept self.old work.now.number × (self.new ≡ self.old)) }
+        ensures none { IfOk result (λ outcome. outcome ≡ None → (kept self.old work.now.number ≡ None) × (self.new ≡ self.old)) }
         ensures ok { IfOk result (λ outcome. MatchOption outcome (Unit {0}) (λ o. KeptEnds kept owns ends self.old work.now o self.new)) }
-        ensures left { IfOk result (λ outcome. MatchOption outcome (Unit {0}) (λ o. left self.old ≡ Some work.now → left self.new ≡ None)) }
+        ensures ended { IfOk result (λ outcome. MatchOption outcome (Unit {0}) (λ _. running self.new work.now.number ≡ None)) }
         ensures err { OnErr result (self.new ≡ self.old) };
 
     /// Posts the drains that are due.
@@ -145,7 +131,6 @@ pub trait Desk<O> {
     fn post(&mut self, alloc: Global) -> Result<(), OutOfMemory>
         ensures step { posts self.old self.new }
         ensures ok { OnOk result (has_drain self.new ≡ false) }
-        ensures left { left self.new ≡ left self.old }
         ensures objects { (instance : ℕ) → has_object self.new instance ≡ has_object self.old instance }
         ensures own { (instance : ℕ) (object : O) → owns self.new instance object → owns self.old instance object };
 }

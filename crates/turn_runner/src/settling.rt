@@ -1,7 +1,7 @@
 //! How a turn that has begun is finished, and how all turns that are due are run.
-ghost use Rattle.std.specs.Prelude.{◌≡◌, Some, None, OnOk};
+ghost use Rattle.std.specs.Prelude.{◌≡◌, Some};
 ghost use Rattle.turn_runner.specs.Outcomes.{needs_object, is_refused};
-ghost use Rattle.turn_runner.specs.Turns.{EndsOnce, HeardEnds, IsDueRun, IsEndRun, IsFinished, IsRun, IsSettled, IsTakenUp, IsUntold, Resumes, Starts, Stays, TakesUp, TakesUpInPart};
+ghost use Rattle.turn_runner.specs.Turns.{EndsOnce, EndsUntold, HeardEnds, IsDueRun, IsEndRun, IsFinished, IsSettled, Starts, Stays};
 
 use crate::{Desk, DeskFault, SettleFault, TurnWork, run_shared};
 use callback_orders::Outcome;
@@ -18,8 +18,7 @@ fn run_untold<K: Kinds, D: Desk<K::Object>>(
 ) -> Result<Outcome, OutOfMemory>
     requires running { D.running desk.old work.number ≡ Some work }
     requires fits { D.has_object desk.old work.instance ≡ needs_object work }
-    ensures runs { IsRun D.has_drain (Stays D.owns K.made K.hears K.refuses D.hands D.keeps) (HeardEnds D.running D.owns K.made K.hears D.hands D.ends) D.posts (is_refused K.refuses work) work desk.old result desk.new }
-    ensures left { OnOk result (D.left desk.old ≡ Some work → D.left desk.new ≡ None) }
+    ensures { IsFinished D.has_drain (Stays D.owns K.made K.hears K.refuses D.hands D.keeps) (EndsUntold (HeardEnds D.running D.owns K.made K.hears D.hands D.ends) K.refuses) D.posts work desk.old result desk.new }
 {
     let object = desk.hand_out(alloc, &work)?;
     let ran = run_shared(alloc, kinds, object, &work);
@@ -37,8 +36,8 @@ fn run_untold<K: Kinds, D: Desk<K::Object>>(
 /// A turn of which it is kept what it came to ends with that, and nobody is told again.
 ///
 /// # Errors
-/// Only want of memory, which leaves all as it was, or what the turn came to kept, or the turn ended and some of the drains
-/// posted.
+/// Only want of memory. The turn then goes on as it was, or it goes on and what it came to is kept, or it has ended and some of
+/// the drains are posted.
 pub fn finish<K: Kinds, D: Desk<K::Object>>(
     alloc: Global,
     desk: &mut D,
@@ -47,8 +46,7 @@ pub fn finish<K: Kinds, D: Desk<K::Object>>(
 ) -> Result<Outcome, OutOfMemory>
     requires running { D.running desk.old work.number ≡ Some work }
     requires fits { D.has_object desk.old work.instance ≡ needs_object work }
-    ensures finishes { IsFinished D.has_drain (Stays D.owns K.made K.hears K.refuses D.hands D.keeps) (EndsOnce D.kept D.owns (HeardEnds D.running D.owns K.made K.hears D.hands D.ends) D.ends K.refuses) D.posts work desk.old result desk.new }
-    ensures left { OnOk result (D.left desk.old ≡ Some work → D.left desk.new ≡ None) }
+    ensures { IsFinished D.has_drain (Stays D.owns K.made K.hears K.refuses D.hands D.keeps) (EndsOnce D.kept D.owns (HeardEnds D.running D.owns K.made K.hears D.hands D.ends) D.ends K.refuses) D.posts work desk.old result desk.new }
 {
     match desk.put_back_kept(alloc, &work)? {
         Some(outcome) => match desk.post(alloc) {
@@ -56,24 +54,6 @@ pub fn finish<K: Kinds, D: Desk<K::Object>>(
             Err(fault) => Err(fault),
         },
         None => run_untold(alloc, desk, kinds, work),
-    }
-}
-
-// Ends the turn that an earlier settling left under way, if there is one.
-fn take_up<K: Kinds, D: Desk<K::Object>>(
-    alloc: Global,
-    desk: &mut D,
-    kinds: &K,
-) -> Result<(), OutOfMemory>
-    ensures taken { IsTakenUp D.left (Stays D.owns K.made K.hears K.refuses D.hands D.keeps) (EndsOnce D.kept D.owns (HeardEnds D.running D.owns K.made K.hears D.hands D.ends) D.ends K.refuses) D.posts desk.old result desk.new }
-    ensures left { OnOk result (D.left desk.new ≡ None) }
-{
-    let Some(work) = desk.left(alloc)? else {
-        return Ok(());
-    };
-    match finish(alloc, desk, kinds, work)? {
-        Outcome::Done | Outcome::Refused => Ok(()),
-        Outcome::NoMemory => Err(AllocError),
     }
 }
 
@@ -86,8 +66,7 @@ fn run_begun<K: Kinds, D: Desk<K::Object>>(
 ) -> Result<(), OutOfMemory>
     requires running { D.running desk.old work.number ≡ Some work }
     requires fits { D.has_object desk.old work.instance ≡ needs_object work }
-    ensures runs { IsEndRun D.has_drain (Stays D.owns K.made K.hears K.refuses D.hands D.keeps) (HeardEnds D.running D.owns K.made K.hears D.hands D.ends) D.posts (is_refused K.refuses work) work desk.old result desk.new }
-    ensures left { OnOk result (D.left desk.old ≡ Some work → D.left desk.new ≡ None) }
+    ensures { IsEndRun D.has_drain (Stays D.owns K.made K.hears K.refuses D.hands D.keeps) (HeardEnds D.running D.owns K.made K.hears D.hands D.ends) D.posts (is_refused K.refuses work) work desk.old result desk.new }
 {
     match run_untold(alloc, desk, kinds, work)? {
         Outcome::Done | Outcome::Refused => Ok(()),
@@ -101,9 +80,7 @@ fn run_due<K: Kinds, D: Desk<K::Object>>(
     desk: &mut D,
     kinds: &K,
 ) -> Result<bool, DeskFault>
-    requires { D.left desk.old ≡ None }
-    ensures runs { IsDueRun D.has_due D.has_room D.has_drain D.begins (Starts D.begins (Stays D.owns K.made K.hears K.refuses D.hands D.keeps)) (HeardEnds D.running D.owns K.made K.hears D.hands D.ends) D.posts K.refuses desk.old result desk.new }
-    ensures left { OnOk result (D.left desk.new ≡ None) }
+    ensures { IsDueRun D.has_due D.has_room D.has_drain D.begins (Starts D.begins (Stays D.owns K.made K.hears K.refuses D.hands D.keeps)) (HeardEnds D.running D.owns K.made K.hears D.hands D.ends) D.posts K.refuses desk.old result desk.new }
 {
     let Some(work) = desk.take(alloc)? else {
         return Ok(false);
@@ -112,16 +89,21 @@ fn run_due<K: Kinds, D: Desk<K::Object>>(
     Ok(true)
 }
 
-// Posts the drains that are due, and runs the turns that are due.
-fn settle_due<K: Kinds, D: Desk<K::Object>>(
+/// Posts the drains that are due, and then runs the turns that are due, one after the other, until nothing is due. It answers
+/// how many ran. Behind each turn the drains that are due then are posted before the next one begins. Each turn is run as
+/// [`finish`] runs one that nobody was told of.
+///
+/// # Errors
+/// Unsettled exactly where `budget` turns ran and one is still due. JournalFull exactly where fewer ran, one is due and the journal
+/// has no room for it. OutOfMemory comes also where a turn's outcome is NoMemory. The turns that ran stand. A turn that was told
+/// and couldn't be ended goes on, and what it came to is kept.
+pub fn settle<K: Kinds, D: Desk<K::Object>>(
     alloc: Global,
     desk: &mut D,
     kinds: &K,
     budget: u64,
 ) -> Result<u64, SettleFault>
-    requires { D.left desk.old ≡ None }
-    ensures settles { IsSettled D.has_due D.has_room D.has_drain D.begins (Starts D.begins (Stays D.owns K.made K.hears K.refuses D.hands D.keeps)) (HeardEnds D.running D.owns K.made K.hears D.hands D.ends) D.posts K.refuses budget desk.old result desk.new }
-    ensures left { OnOk result (D.left desk.new ≡ None) }
+    ensures { IsSettled D.has_due D.has_room D.has_drain D.begins (Starts D.begins (Stays D.owns K.made K.hears K.refuses D.hands D.keeps)) (HeardEnds D.running D.owns K.made K.hears D.hands D.ends) D.posts K.refuses budget desk.old result desk.new }
 {
     desk.post(alloc)?;
     for ran in 0..budget {
@@ -134,25 +116,4 @@ fn settle_due<K: Kinds, D: Desk<K::Object>>(
     } else {
         Ok(budget)
     }
-}
-
-/// Takes up the turn that an earlier settling left under way for want of memory, if there is one: it ends as [`finish`] ends it,
-/// and doesn't count. Then it posts the drains that are due, and runs the turns that are due, one after the other, until nothing
-/// is due. It answers how many ran. Behind each turn the drains that are due then are posted before the next one begins. Each is
-/// told once. A settling that is over leaves none of its turns under way.
-///
-/// # Errors
-/// Unsettled exactly where `budget` turns ran and one is still due. JournalFull exactly where fewer ran, one is due and the journal
-/// has no room for it. OutOfMemory comes also where a turn's outcome is NoMemory. The turns that ran stand.
-pub fn settle<K: Kinds, D: Desk<K::Object>>(
-    alloc: Global,
-    desk: &mut D,
-    kinds: &K,
-    budget: u64,
-) -> Result<u64, SettleFault>
-    ensures settles { Resumes (TakesUp D.left (EndsOnce D.kept D.owns (HeardEnds D.running D.owns K.made K.hears D.hands D.ends) D.ends K.refuses) D.posts) (TakesUpInPart D.left (Stays D.owns K.made K.hears K.refuses D.hands D.keeps) (EndsOnce D.kept D.owns (HeardEnds D.running D.owns K.made K.hears D.hands D.ends) D.ends K.refuses) D.posts) (IsSettled D.has_due D.has_room D.has_drain D.begins (Starts D.begins (Stays D.owns K.made K.hears K.refuses D.hands D.keeps)) (HeardEnds D.running D.owns K.made K.hears D.hands D.ends) D.posts K.refuses budget) desk.old result desk.new }
-    ensures left { OnOk result (D.left desk.new ≡ None) }
-{
-    take_up(alloc, desk, kinds)?;
-    settle_due(alloc, desk, kinds, budget)
 }
