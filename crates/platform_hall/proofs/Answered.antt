@@ -14,7 +14,7 @@ use Rattle.turn_work.specs.declared.site.Site.{Site}
 use Rattle.turn_work.specs.declared.work.TurnWork.{TurnWork}
 use Rattle.platform_hall.specs.Desks.{AreAnswered, DeskBegins, DeskFinishes, DeskHears, DeskPosts, DeskSettles, DeskStays, DeskView, Owns, kept_but}
 use Rattle.platform_hall.specs.Platforms.{has_drain}
-use Rattle.platform_hall.proofs.Kept.{kept_before, kept_or_new}
+use Rattle.platform_hall.proofs.Keeping.{kept_before, kept_or_new}
 use Rattle.platform_hall.proofs.Seen.{kept_same}
 
 module _ {O : Type 0} (made : O → Site → Type 0) (hears : O → Site → Told → Result (Unit {0}) KindFault → Type 0) (refuses : List ℕ → List Property → Told → Bool) where

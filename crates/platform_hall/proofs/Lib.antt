@@ -13,7 +13,7 @@ pub mod Holders
 pub mod Alone
 pub mod Owners
 pub mod WorkStays
-pub mod Kept
+pub mod Keeping
 pub mod Seen
 pub mod Answered
 pub mod Finishing

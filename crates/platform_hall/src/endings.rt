@@ -29,7 +29,7 @@ fn end_by_token(
 {
     let turn = take_out(turns, number);
     match core.done(alloc, turn, outcome) {
-        Ok(_) => Ok(()),
+        Ok(_ended) => Ok(()),
         Err((turn, error)) => {
             turns.push_reserved(turn);
             Err(error)

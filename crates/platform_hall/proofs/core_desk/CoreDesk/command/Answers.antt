@@ -1,6 +1,6 @@
 use Rattle.platform_hall.proofs.Commanding.{commands_alike, commands_grow}
 use Rattle.platform_hall.proofs.Desks.{desk_alike}
-use Rattle.platform_hall.proofs.Kept.{fit_alike}
+use Rattle.platform_hall.proofs.Keeping.{fit_alike}
 use Rattle.platform_hall.proofs.Seen.{kept_same}
 use Rattle.platform_hall.proofs.core_desk.CoreDesk.command.Goals as goal
 

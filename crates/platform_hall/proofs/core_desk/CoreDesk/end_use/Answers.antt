@@ -1,5 +1,5 @@
 use Rattle.platform_hall.proofs.Desks.{desk_alike}
-use Rattle.platform_hall.proofs.Kept.{fit_alike}
+use Rattle.platform_hall.proofs.Keeping.{fit_alike}
 use Rattle.platform_hall.proofs.Seen.{kept_same}
 use Rattle.platform_hall.proofs.Using.{released_grows, released_or_not}
 use Rattle.platform_hall.proofs.core_desk.CoreDesk.end_use.Goals as goal

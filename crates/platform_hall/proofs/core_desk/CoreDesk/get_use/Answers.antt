@@ -1,5 +1,5 @@
 use Rattle.platform_hall.proofs.Desks.{desk_alike}
-use Rattle.platform_hall.proofs.Kept.{fit_alike}
+use Rattle.platform_hall.proofs.Keeping.{fit_alike}
 use Rattle.platform_hall.proofs.Seen.{kept_same}
 use Rattle.platform_hall.proofs.Using.{gets_alike, gets_grow}
 use Rattle.platform_hall.proofs.core_desk.CoreDesk.get_use.Goals as goal

@@ -1,7 +1,7 @@
 use Rattle.std.proofs.Common.{ap}
 use Rattle.scr_requests.specs.Cores.{CoreView}
 use Rattle.platform_hall.proofs.Desks.{empty_desk}
-use Rattle.platform_hall.proofs.Kept.{fit_none}
+use Rattle.platform_hall.proofs.Keeping.{fit_none}
 use Rattle.platform_hall.proofs.core_desk.CoreDesk.new.Goals as goal
 
 pub invariant_of-result : goal.invariant_of-result

@@ -4,7 +4,7 @@ use Rattle.platform_hall.specs.Desks.{DeskView}
 use Rattle.platform_hall.specs.Platforms.{Posts, has_object}
 use Rattle.platform_hall.proofs.Desks.{desk_alike}
 use Rattle.platform_hall.proofs.Growing.{posts_grows}
-use Rattle.platform_hall.proofs.Kept.{fit_alike}
+use Rattle.platform_hall.proofs.Keeping.{fit_alike}
 use Rattle.platform_hall.proofs.Settlings.{posts_alike, posts_legal}
 use Rattle.platform_hall.proofs.Seen.{core_same}
 use Rattle.platform_hall.proofs.core_desk.CoreDeskDesk.post.Goals as goal

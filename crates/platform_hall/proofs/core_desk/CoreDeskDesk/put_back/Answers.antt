@@ -7,7 +7,7 @@ use Rattle.platform_hall.specs.Desks.{DeskView, holders_of, is_holder, kept_but,
 use Rattle.prop_map.specs.Words.{one_if}
 use Rattle.platform_hall.specs.Platforms.{Ends, has_object, running}
 use Rattle.platform_hall.proofs.Desks.{desk_same, ended_desk, ended_has, ended_runs_no_more, has_token, running_under_way}
-use Rattle.platform_hall.proofs.Kept.{fit_ended, fit_more, fit_same}
+use Rattle.platform_hall.proofs.Keeping.{fit_ended, fit_more, fit_same}
 use Rattle.platform_hall.proofs.Owners.{made_own}
 use Rattle.platform_hall.proofs.Results.{when_err, when_ok}
 use Rattle.platform_hall.proofs.Seen.{core_same}

@@ -6,7 +6,7 @@ use Rattle.platform_hall.specs.Desks.{DeskView, holders_of, is_holder, kept_but,
 use Rattle.prop_map.specs.Words.{one_if}
 use Rattle.platform_hall.specs.Platforms.{Ends, running}
 use Rattle.platform_hall.proofs.Desks.{desk_same, ended_desk, ended_runs_no_more, has_token, running_under_way}
-use Rattle.platform_hall.proofs.Kept.{fit_ended, fit_same, found_makes, found_work, is_found, is_not_found}
+use Rattle.platform_hall.proofs.Keeping.{fit_ended, fit_same, found_makes, found_work, is_found, is_not_found}
 use Rattle.platform_hall.proofs.Owners.{made_own}
 use Rattle.platform_hall.proofs.Seen.{desk_of}
 use Rattle.platform_hall.proofs.core_desk.CoreDeskDesk.put_back_kept.Goals as goal

@@ -4,7 +4,7 @@ use Rattle.scr_requests.specs.Cores.{CoreView}
 use Rattle.platform_hall.specs.Desks.{DeskView, IsDesk}
 use Rattle.platform_hall.specs.Platforms.{Begins, has_due, has_object, has_room}
 use Rattle.platform_hall.proofs.Desks.{desk_begun, running_fits}
-use Rattle.platform_hall.proofs.Kept.{fit_begun}
+use Rattle.platform_hall.proofs.Keeping.{fit_begun}
 use Rattle.platform_hall.proofs.Settlings.{begins_as, begins_legal}
 use Rattle.platform_hall.proofs.Taking.{full_step, idle_step, taken_step}
 use Rattle.platform_hall.proofs.Seen.{core_same, desk_of}
