@@ -4,3 +4,4 @@ pub mod Progress
 pub mod Reached
 pub mod Endings
 pub mod Goings
+pub mod Sends

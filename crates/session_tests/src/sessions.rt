@@ -1,6 +1,5 @@
 //! One session on a platform.
-ghost use Rattle.session_shell.specs.Halls.{IsOf};
-ghost use Rattle.session_shell.specs.Halls.{AreWithinGreatest};
+ghost use Rattle.session_shell.specs.Halls.{AreWithinGreatest, IsOf, KeepsPass};
 
 use crate::samples::{DemoHall, IMMEDIATE, LIMITS, PROVIDER, new_hall, sink, source};
 use fault_count::{MemorySink, MemorySource};
@@ -11,20 +10,26 @@ use std::sync::Wait;
 
 // How a session ends, how many items it notes, and what it writes.
 #[derive(Drop)]
-struct Ended {
+pub(crate) struct Ended {
     end: SessionEnd,
     items: usize,
     output: MemorySink,
 }
 
 impl Ended {
+    // Whether it ended so, with so many items.
+    pub(crate) fn is_at(&self, end: SessionEnd, items: usize) -> bool {
+        self.end == end && self.items == items
+    }
+
     // Whether it ended so, with so many items, and wrote this.
     fn is(&self, end: SessionEnd, items: usize, text: &[u8]) -> bool {
-        self.end == end && self.items == items && self.output.written() == text
+        self.is_at(end, items) && self.output.written() == text
     }
 }
 
-fn serve<R: Wait>(
+// Serves a session.
+pub(crate) fn serve<R: Wait>(
     rt: &R,
     alloc: Global,
     hall: &DemoHall,
@@ -33,6 +38,8 @@ fn serve<R: Wait>(
     output: MemorySink,
 ) -> Ended
     requires { IsOf hall.now pass.old }
+    ensures of { IsOf hall.now pass.new }
+    ensures keeps { KeepsPass pass.old.front pass.new.front }
 {
     let mut notes = SessionNotes::new(alloc);
     let mut input = input;

@@ -1,52 +1,20 @@
 //! Two sessions on one platform, each in a thread of its own.
 ghost use Rattle.session_shell.specs.Halls.{IsOf};
-ghost use Rattle.std.specs.Prelude.{◌≡◌, ◌+◌, IfSome};
-ghost use Rattle.std.specs.Thread.{IsSync};
+ghost use Rattle.std.specs.Prelude.{◌≡◌, ◌+◌};
 
 use crate::samples::{DemoHall, EMPTY, LIMITS, PROVIDER, new_hall, sink, source};
+use crate::sessions::serve;
 use fault_count::{MemorySink, MemorySource};
 use journal_core::Journal;
 use scr_world::{Command, Step};
-use session_shell::{HallPass, SessionEnd, SessionKind, SessionNotes, serve_session};
+use session_shell::{HallPass, SessionEnd};
 use std::alloc::{AllocError, Global};
 use std::sync::Wait;
 use std::thread::{Threads, join};
 
-// The pass of a session that has ended, how it ended, and how many items it noted.
-#[derive(Drop)]
-struct Ended {
-    pass: HallPass,
-    end: SessionEnd,
-    items: usize,
-}
+const FIRST: &[&str] = &[PROVIDER, "start 1", "settle", "components"];
 
-fn serve<R: Wait>(
-    rt: &R,
-    alloc: Global,
-    hall: &DemoHall,
-    pass: HallPass,
-    ends: (MemorySource, MemorySink),
-) -> Ended
-    requires { IsOf hall.now pass }
-    ensures of { IsOf hall.now result.pass }
-    ensures spare { result.pass.front.spare ≡ pass.front.spare }
-{
-    let (mut input, mut output) = ends;
-    let mut pass = pass;
-    let mut notes = SessionNotes::new(alloc);
-    let end = serve_session(
-        rt,
-        alloc,
-        hall,
-        &mut pass,
-        SessionKind::Shell,
-        &mut notes,
-        &mut input,
-        &mut output,
-    );
-    let items = notes.items.as_slice().len();
-    Ended { pass, end, items }
-}
+const SECOND: &[&str] = &[EMPTY, "settle", "bundles"];
 
 // A source of these lines, and a sink.
 fn ends_of(alloc: Global, lines: &[&str]) -> Option<(MemorySource, MemorySink)> {
@@ -55,75 +23,52 @@ fn ends_of(alloc: Global, lines: &[&str]) -> Option<(MemorySource, MemorySink)> 
     Some((input, output))
 }
 
-// Two sessions, each in a thread of its own.
+// Serves a session of these lines, gives its pass back, and answers whether each line was answered.
+fn serve_whole<R: Wait>(
+    rt: &R,
+    alloc: Global,
+    hall: &DemoHall,
+    pass: HallPass,
+    lines: &[&str],
+) -> (HallPass, bool)
+    requires { IsOf hall.now pass }
+    ensures of { IsOf hall.now result.0 }
+    ensures spare { result.0.front.spare ≡ pass.front.spare }
+{
+    let mut pass = pass;
+    match ends_of(alloc, lines) {
+        Some((input, output)) => {
+            let ended = serve(rt, alloc, hall, &mut pass, input, output);
+            (pass, ended.is_at(SessionEnd::EndOfInput, lines.len()))
+        }
+        None => (pass, false),
+    }
+}
+
+// Both sessions, each in a thread of its own.
 fn serve_both<R: Threads + Wait + Sync>(
     rt: &R,
     alloc: Global,
     hall: &DemoHall,
-    passes: (HallPass, HallPass),
-    first_ends: (MemorySource, MemorySink),
-    second_ends: (MemorySource, MemorySink),
-) -> (Ended, Ended)
-    requires { IsOf hall.now passes.0 × IsOf hall.now passes.1 }
-    ensures of { IsOf hall.now result.0.pass × IsOf hall.now result.1.pass }
-    ensures first { result.0.pass.front.spare ≡ passes.0.front.spare }
-    ensures second { result.1.pass.front.spare ≡ passes.1.front.spare }
+    first: HallPass,
+    second: HallPass,
+) -> ((HallPass, bool), (HallPass, bool))
+    requires { IsOf hall.now first × IsOf hall.now second }
+    ensures of { IsOf hall.now result.0.0 × IsOf hall.now result.1.0 }
+    ensures first { result.0.0.front.spare ≡ first.front.spare }
+    ensures second { result.1.0.front.spare ≡ second.front.spare }
 {
-    let (first, second) = passes;
     join(
         rt,
-        move || -> Ended
+        move || -> (HallPass, bool)
             requires { IsOf hall.now first }
-            ensures { IsOf hall.now result.pass × (result.pass.front.spare ≡ first.front.spare) }
-        { serve(rt, alloc, hall, first, first_ends) },
-        move || -> Ended
+            ensures { IsOf hall.now result.0 × (result.0.front.spare ≡ first.front.spare) }
+        { serve_whole(rt, alloc, hall, first, FIRST) },
+        move || -> (HallPass, bool)
             requires { IsOf hall.now second }
-            ensures { IsOf hall.now result.pass × (result.pass.front.spare ≡ second.front.spare) }
-        { serve(rt, alloc, hall, second, second_ends) },
+            ensures { IsOf hall.now result.0 × (result.0.front.spare ≡ second.front.spare) }
+        { serve_whole(rt, alloc, hall, second, SECOND) },
     )
-}
-
-// How both sessions ended and how many items each noted, with the journal, the owner of each entry, and the number of the
-// second session.
-#[derive(Drop)]
-struct Shared {
-    ends: ((SessionEnd, usize), (SessionEnd, usize)),
-    journal: Journal<Step>,
-    owners: Vec<u64>,
-    second: u64,
-}
-
-fn share<R: Threads + Wait + Sync>(
-    rt: &R,
-    alloc: Global,
-    hall: DemoHall,
-    passes: (HallPass, HallPass),
-) -> Option<Shared>
-    requires of { IsOf hall passes.0 × IsOf hall passes.1 }
-    requires all { passes.0.front.spare + passes.1.front.spare + 1 ≡ 63 }
-{
-    let first_ends = ends_of(alloc, &[PROVIDER, "start 1", "settle", "components"])?;
-    let second_ends = ends_of(alloc, &[EMPTY, "settle", "bundles"])?;
-    let (first, second) = serve_both(rt, alloc, &hall, passes, first_ends, second_ends);
-    let number = second.pass.number();
-    let ends = ((first.end, first.items), (second.end, second.items));
-    let pass = hall.join(rt, first.pass, second.pass);
-    let (journal, owners) = hall.into_journal(pass);
-    Some(Shared {
-        ends,
-        journal,
-        owners,
-        second: number,
-    })
-}
-
-// Two sessions on a new hall.
-fn shared<R: Threads + Wait + Sync>(rt: &R, alloc: Global) -> Option<Shared> {
-    let (hall, pass) = new_hall(alloc, LIMITS)?;
-    match hall.split(rt, pass) {
-        Ok(passes) => share(rt, alloc, hall, passes),
-        Err(_) => None,
-    }
 }
 
 // What an entry is, without numbers.
@@ -139,8 +84,13 @@ fn push_entry(text: &mut String, step: &Step) -> Result<(), AllocError> {
 }
 
 // The entries of one owner.
-fn push_entries(text: &mut String, shared: &Shared, owner: u64) -> Result<(), AllocError> {
-    for (entry, of) in shared.journal.entries().iter().zip(shared.owners.iter()) {
+fn push_entries(
+    text: &mut String,
+    journal: &Journal<Step>,
+    owners: &[u64],
+    owner: u64,
+) -> Result<(), AllocError> {
+    for (entry, of) in journal.entries().iter().zip(owners.iter()) {
         if *of == owner {
             push_entry(text, &entry.step)?;
         }
@@ -149,27 +99,60 @@ fn push_entries(text: &mut String, shared: &Shared, owner: u64) -> Result<(), Al
 }
 
 // All entries, sorted by owner.
-fn entries_text(alloc: Global, shared: &Shared) -> Result<String, AllocError> {
+fn entries_text(
+    alloc: Global,
+    journal: &Journal<Step>,
+    owners: &[u64],
+    second: u64,
+) -> Result<String, AllocError> {
     let mut text = String::new(alloc);
     text.push_str("first:")?;
-    push_entries(&mut text, shared, 0)?;
-    text.push_str("; second:")?;
-    push_entries(&mut text, shared, shared.second)?;
+    push_entries(&mut text, journal, owners, 0)?;
+    text.push_str(" second:")?;
+    push_entries(&mut text, journal, owners, second)?;
     Ok(text)
 }
 
-#[test]
-fn each_command_stands_once_under_its_sessions_number(rt: HostRuntime) {
-    match shared(&rt, rt.alloc()) {
-        Some(shared) => {
-            let ends = ((SessionEnd::EndOfInput, 4), (SessionEnd::EndOfInput, 3));
-            assert!(rt; shared.ends == ends);
-            assert_eq!(rt; shared.owners.len(), 3);
-            let text = entries_text(rt.alloc(), &shared);
-            assert!(rt;
-                text.is_ok_and(|text| text.as_str() == "first: install p start; second: install d")
-            );
+// Whether the entries are those of the commands of both sessions, each under its session's number.
+fn are_theirs(alloc: Global, journal: &Journal<Step>, owners: &[u64], second: u64) -> bool {
+    match entries_text(alloc, journal, owners, second) {
+        Ok(text) => {
+            owners.len() == 3 && text.as_str() == "first: install p start second: install d"
         }
-        None => assert!(rt; false),
+        Err(_) => false,
     }
+}
+
+// Whether both sessions are served whole, and the journal has their commands.
+fn share<R: Threads + Wait + Sync>(
+    rt: &R,
+    alloc: Global,
+    hall: DemoHall,
+    first: HallPass,
+    second: HallPass,
+) -> bool
+    requires of { IsOf hall first × IsOf hall second }
+    requires all { first.front.spare + second.front.spare + 1 ≡ 63 }
+{
+    let number = second.number();
+    let ((first, first_is_whole), (second, second_is_whole)) =
+        serve_both(rt, alloc, &hall, first, second);
+    let pass = hall.join(rt, first, second);
+    let (journal, owners) = hall.into_journal(pass);
+    first_is_whole && second_is_whole && are_theirs(alloc, &journal, owners.as_slice(), number)
+}
+
+fn shared<R: Threads + Wait + Sync>(rt: &R, alloc: Global) -> bool {
+    match new_hall(alloc, LIMITS) {
+        Some((hall, pass)) => match hall.split(rt, pass) {
+            Ok((first, second)) => share(rt, alloc, hall, first, second),
+            Err(_) => false,
+        },
+        None => false,
+    }
+}
+
+#[test]
+fn two_sessions_in_threads_share_one_journal(rt: HostRuntime) {
+    assert!(rt; shared(&rt, rt.alloc()));
 }
