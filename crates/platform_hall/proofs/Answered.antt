@@ -41,7 +41,7 @@ module _ {O : Type 0} (made : O → Site → Type 0) (hears : O → Site → Tol
   hears_answered before number outcome after ((handed, hands, ends), heard, own) known = answered_less handed.kept after.kept number ends.2 (answered_same before.kept handed.kept hands.3 known)
 
   finishes_answered : (before : DeskView O) (work : TurnWork) (outcome : Outcome) (after : DeskView O) → DeskFinishes made hears refuses before work outcome after → Known before.kept → Known after.kept
-  finishes_answered before work outcome after (inl (untold, told)) known = hears_answered before work.number outcome after told.1 known
+  finishes_answered before work outcome after (inl (untold, is, heard)) known = hears_answered before work.number outcome after heard known
   finishes_answered before work outcome after (inr (came, kept, its, same, ends, own)) known = answered_less before.kept after.kept work.number ends.2 known
 
   stays_answered : (before : DeskView O) (work : TurnWork) (after : DeskView O) → DeskStays made hears refuses before work after → Known before.kept → Known after.kept

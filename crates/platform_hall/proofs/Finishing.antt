@@ -22,7 +22,7 @@ module _ {O : Type 0} (made : O → Site → Type 0) (hears : O → Site → Tol
 
   -- the outcome is right, and the turn has ended in the core
   finishes_ends : (outcome : Outcome) (ended : DeskView O) → DeskFinishes made hears refuses before work outcome ended → IsOutcome (is_refused refuses work) outcome × Ends before.core work.number outcome ended.core
-  finishes_ends outcome ended (inl (untold, told)) = (told.0, hears_ends made hears before work.number outcome ended told.1)
+  finishes_ends outcome ended (inl (untold, is, heard)) = (is, hears_ends made hears before work.number outcome ended heard)
   finishes_ends outcome ended (inr (came, kept, its, same, ends, own)) =
       (subst (λ (o : Outcome). IsOutcome (is_refused refuses work) o) (sym same)
       (subst (λ (w : TurnWork). IsOutcome (is_refused refuses w) came.ran.outcome) its (known came (found_was (λ (k : Came O). k.work.number == work.number) before.kept came kept).0).1.0), ends.0)

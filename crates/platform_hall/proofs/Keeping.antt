@@ -21,10 +21,6 @@ use Rattle.platform_hall.proofs.Settlings.{HasLegal, begins_as, begins_legal, en
 use Rattle.platform_hall.proofs.Stops.{IsAlike}
 use Rattle.platform_hall.proofs.WorkStays.{running_stays}
 
-is_mapped : {A B : Type 0} (f : A → B) (o : Option A) → is_some o ≡ is_some (option_map f o)
-is_mapped f None = refl
-is_mapped f (Some x) = refl
-
 module _ {O : Type 0} where
   -- what is kept was kept before, or it is the one that is kept more
   pub kept_or_new : (old new : List (Came O)) (one : Came O) → new ≡ old ++ one ∷ [] → (came : Came O) → Contains new came → Contains old came ⊎ (one ≡ came)
@@ -92,10 +88,14 @@ module _ {O : Type 0} where
   pub found_makes : (p : CoreView) (kept : List (Came O)) (turn : ℕ) (came : Came O) (ran : Ran O) (work : TurnWork) → AreFit p kept → running p turn ≡ Some work → kept_of kept turn ≡ Some came → IsLike ran came.ran → is_some ran.made ≡ makes_object work ran.outcome
   found_makes p kept turn came ran work fit is found like =
       let there = found_was (λ (k : Came O). k.work.number == turn) kept came found in
-      is_mapped arc_value ran.made ∙ ap is_some like.1 ∙ sym (is_mapped arc_value came.ran.made)
+      is_mapped ran.made ∙ ap is_some like.1 ∙ sym (is_mapped came.ran.made)
       ∙ (fit came there.0).1
       ∙ ap (λ (w : TurnWork). makes_object w came.ran.outcome) (found_work p kept turn came work fit is found)
       ∙ ap (makes_object work) (sym like.0)
+    where
+      is_mapped : (made : Option _) → is_some made ≡ is_some (option_map arc_value made)
+      is_mapped None = refl
+      is_mapped (Some one) = refl
 
 -- something is found
 pub is_found : {X : Type 0} (o : Option X) (b : Bool) → b ≡ is_some o → b ≡ true → (x : X) × (o ≡ Some x)
