@@ -1,3 +1,4 @@
+pub mod WorkStays
 pub mod Things
 pub mod Mine
 pub mod Stretches
