@@ -135,8 +135,9 @@ fn share<R: Threads + Wait + Sync>(
     requires all { first.front.spare + second.front.spare + 1 ≡ 63 }
 {
     let number = second.number();
-    let ((first, first_is_whole), (second, second_is_whole)) =
-        serve_both(rt, alloc, &hall, first, second);
+    let ((first, first_is_whole), (second, second_is_whole)) = serve_both(
+        rt, alloc, &hall, first, second,
+    );
     let pass = hall.join(rt, first, second);
     let (journal, owners) = hall.into_journal(pass);
     first_is_whole && second_is_whole && are_theirs(alloc, &journal, owners.as_slice(), number)
