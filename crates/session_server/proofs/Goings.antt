@@ -88,7 +88,7 @@ stops_goes s Quit others before after last front stops = stays before after stop
 stops_goes s ReadFault others before after last front stops = stays before after stops.0
 stops_goes s (LineTooLong line) others before after last front stops = stays before after stops.0
 stops_goes s WriteFault [] before after last front stops = absurd stops
-stops_goes s WriteFault (line ∷ lines) before after last front (item, (count, (serves, rest))) = (line_comes s (shell_line line) before after (Some item) serves).0
+stops_goes s WriteFault (line ∷ lines) before after last front (item, count, serves, more, fewer, is) = (line_comes s (shell_line line) before after (Some item) serves).0
 stops_goes s JournalFull [] before after last front stops = absurd stops.0
 stops_goes s JournalFull (line ∷ lines) before after last front stops = fills_goes s (shell_line line) before after stops.0
 stops_goes s NoMemory others before after last front (inl same, silent) = stays before after same
@@ -99,7 +99,7 @@ stops_goes s NoMemory (line ∷ lines) before after last front (inr wants, silen
 
 pub session_goes : (s : Setting) (left : Option (List ℕ)) (before after : View) (notes notes' : List SessionItem) (written written' : Option (List ℕ)) (end : SessionEnd)
     → HasServedOver s left before after notes notes' written written' end → Goes before after
-session_goes s left before after notes notes' written written' end (bytes, (tells, served)) =
+session_goes s left before after notes notes' written written' end (bytes, tells, served) =
     let first = (lines_come s served.lines before served.between served.items served.served).0 in
     let then = stops_goes s end served.others served.between after served.last served.front served.stops in
     (first.0 ++ then.0, went_on before served.between after first.0 then.0 first.1 then.1)
