@@ -62,11 +62,11 @@ fn serve_both<R: Threads + Wait + Sync>(
         rt,
         move || -> (HallPass, bool)
             requires { IsOf hall.now first }
-            ensures { IsOf hall.now result.0 × (result.0.front.spare ≡ first.front.spare) }
+            ensures { IsOf hall.entry.now result.0 × (result.0.front.spare ≡ first.front.spare) }
         { serve_whole(rt, alloc, hall, first, FIRST) },
         move || -> (HallPass, bool)
             requires { IsOf hall.now second }
-            ensures { IsOf hall.now result.0 × (result.0.front.spare ≡ second.front.spare) }
+            ensures { IsOf hall.entry.now result.0 × (result.0.front.spare ≡ second.front.spare) }
         { serve_whole(rt, alloc, hall, second, SECOND) },
     )
 }
