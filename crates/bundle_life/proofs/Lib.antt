@@ -1,3 +1,4 @@
 pub mod Installs
+pub mod Refused
 pub mod RowLaws
 pub mod Steps

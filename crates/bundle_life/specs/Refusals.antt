@@ -53,10 +53,10 @@ update_refusal number name version t = first_some (no_bundle number t ∷ still_
 abbrev pub uninstall_refusal : ℕ → BundleTable → Option LifeFault
 uninstall_refusal number t = first_some (no_bundle number t ∷ still_active number t ∷ still_stopping number t ∷ [])
 
--- a call succeeds only where nothing refuses it, and fails with that refusal or for want of memory
+-- a call succeeds only where nothing refuses it, and fails with that refusal; for want of memory only where there is none
 abbrev pub IsRefusedBy : {A : Type 0} → Option LifeFault → Result A LifeFault → Type 0
 IsRefusedBy refusal (Ok x) = refusal ≡ None
-IsRefusedBy refusal (Err OutOfMemory) = Unit {0}
+IsRefusedBy refusal (Err OutOfMemory) = refusal ≡ None
 IsRefusedBy refusal (Err fault) = refusal ≡ Some fault
 
 -- ---- what a call answers and leaves

@@ -6,9 +6,10 @@ ghost use Rattle.bundle_life.specs.Undoing.{CanPutBack, IsKeptOf, IsStepped, IsU
 ghost use Rattle.bundle_life.specs.declared.bundle.BundleEvent.{BundleEvent};
 ghost use Rattle.bundle_life.specs.declared.bundle.BundleLife.{BundleLife};
 ghost use Rattle.bundle_life.specs.declared.bundle.BundleState.TheVariants.{Active};
+ghost use Rattle.bundle_life.specs.declared.life_fault.LifeFault.TheVariants.{OutOfMemory};
 ghost use Rattle.std.specs.List.{count_by};
 ghost use Rattle.std.specs.Option.{option_copied};
-ghost use Rattle.std.specs.Prelude.{◌≡◌, ◌≤◌, ◌+◌, ◌++◌, [], ◌∷◌, ◌↔◌, ℕ, List, drop, length, map, option_map, IfOk, IfSome, IsFalse, IsTrue, None, OnErr, OnOk, Some};
+ghost use Rattle.std.specs.Prelude.{◌≡◌, ◌≢◌, ◌≤◌, ◌+◌, ◌++◌, [], ◌∷◌, ◌↔◌, ℕ, List, drop, length, map, option_map, IfErr, IfOk, IfSome, IsFalse, IsTrue, None, OnErr, OnOk, Some};
 ghost use Rattle.osgi_version.specs.declared.version.Version.{Version};
 
 use crate::events::BundleEvents;
@@ -403,6 +404,7 @@ impl Bundles {
     // Whether a bundle is neither ACTIVE nor STOPPING.
     fn check_idle(&self, bundle: u64) -> Result<(), LifeFault>
         ensures refused { IsRefusedBy (uninstall_refusal bundle self.now) result }
+        ensures plain { IfErr result (λ fault. fault ≢ OutOfMemory) }
         ensures rests { OnOk result (IsFalse (state_is is_stopping self.now.rows bundle)) }
     {
         match self.state_of(bundle) {

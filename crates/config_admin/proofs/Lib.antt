@@ -1,3 +1,4 @@
 pub mod Emptiness
+pub mod FactoryPids
 pub mod PidRows
 pub mod Undone

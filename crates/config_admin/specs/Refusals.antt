@@ -43,8 +43,8 @@ set_factory_refusal factory name cs = first_some (
 abbrev pub delete_refusal : List ℕ → List Configuration → Option ConfigFault
 delete_refusal pid cs = refuse_if (is_none (of_pid pid cs)) NoConfiguration
 
--- a call succeeds only where nothing refuses it, and fails with that refusal or for want of memory
+-- a call succeeds only where nothing refuses it, and fails with that refusal; for want of memory only where there is none
 abbrev pub IsRefusedBy : {A : Type 0} → Option ConfigFault → Result A ConfigFault → Type 0
 IsRefusedBy refusal (Ok x) = refusal ≡ None
-IsRefusedBy refusal (Err OutOfMemory) = Unit {0}
+IsRefusedBy refusal (Err OutOfMemory) = refusal ≡ None
 IsRefusedBy refusal (Err fault) = refusal ≡ Some fault

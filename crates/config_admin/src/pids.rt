@@ -2,7 +2,8 @@
 ghost use Rattle.config_admin.specs.Configurations.{factory_pid};
 ghost use Rattle.config_admin.specs.Refusals.{is_pid, is_pid_byte};
 ghost use Rattle.std.specs.List.{list_all};
-ghost use Rattle.std.specs.Prelude.{◌≡◌, IfOk};
+ghost use Rattle.std.specs.Prelude.{◌≡◌, ◌∷◌, IfOk};
+ghost use Rattle.std.specs.Str.{bytes_eq};
 
 use prop_map::{OutOfMemory, Str};
 use std::alloc::Global;
@@ -27,6 +28,26 @@ fn is_pid_byte(byte: u8) -> bool
     ensures { result ≡ is_pid_byte byte }
 {
     byte.is_ascii_alphanumeric() || byte == b'.' || byte == b'_' || byte == b'-'
+}
+
+/// Whether a text is the PID of a factory's configuration with a name. It takes no memory.
+pub(crate) fn is_factory_pid(text: &str, factory: &str, name: &str) -> bool
+    ensures { result ≡ bytes_eq text.now (factory_pid factory.now name.now) }
+{
+    match text.as_bytes().strip_prefix(factory.as_bytes()) {
+        Some(behind) => is_name(behind, name.as_bytes()),
+        None => false,
+    }
+}
+
+// Whether bytes are `~` and a name.
+fn is_name(bytes: &[u8], name: &[u8]) -> bool
+    ensures { result ≡ bytes_eq bytes.now (126 ∷ name.now) }
+{
+    match bytes.split_first() {
+        Some((first, rest)) => *first == b'~' && rest == name,
+        None => false,
+    }
 }
 
 /// The PID of a factory's configuration with a name.

@@ -5,7 +5,7 @@ ghost use Rattle.config_admin.specs.Refusals.{is_full, set_factory_refusal, set_
 ghost use Rattle.std.specs.Prelude.{◌≡◌};
 
 use crate::pids::is_pid;
-use crate::rows::{has_factory, of_pid};
+use crate::rows::{has_factory, has_named, of_pid};
 use crate::{ConfigFault, Configuration};
 
 /// The most configurations that there may be.
@@ -36,15 +36,13 @@ pub(crate) fn set_refusal(rows: &[Configuration], pid: &str) -> Option<ConfigFau
     None
 }
 
-/// Why a factory's configuration of a PID can't be set, if so.
+/// Why a factory's configuration with a name can't be set, if so. It takes no memory.
 pub(crate) fn set_factory_refusal(
     rows: &[Configuration],
     factory: &str,
     name: &str,
-    pid: &str,
 ) -> Option<ConfigFault>
-    requires order { AreByPid rows.now }
-    requires pid { pid.now ≡ factory_pid factory.now name.now }
+    requires { AreByPid rows.now }
     ensures { result ≡ set_factory_refusal factory.now name.now rows.now }
 {
     if !is_pid(factory) || !is_pid(name) {
@@ -53,8 +51,15 @@ pub(crate) fn set_factory_refusal(
     if of_pid(rows, factory).is_some() {
         return Some(ConfigFault::FactoryClash);
     }
-    if is_full(rows, pid) {
+    if is_full_of_others(rows, factory, name) {
         return Some(ConfigFault::ConfigurationsFull);
     }
     None
+}
+
+// Whether there is no room for a factory's configuration with a name.
+fn is_full_of_others(rows: &[Configuration], factory: &str, name: &str) -> bool
+    ensures { result ≡ is_full (factory_pid factory.now name.now) rows.now }
+{
+    !has_named(rows, factory, name) && rows.len() >= LIMIT
 }

@@ -1,5 +1,5 @@
 //! The rows of configurations, each found by its PID.
-ghost use Rattle.config_admin.specs.Configurations.{named_by, of_factory, of_pid, own_configuration};
+ghost use Rattle.config_admin.specs.Configurations.{factory_pid, named_by, of_factory, of_pid, own_configuration};
 ghost use Rattle.config_admin.specs.Orders.{AreByPid, pid_cmp};
 ghost use Rattle.config_admin.specs.declared.configuration.Configuration.{Configuration};
 ghost use Rattle.prop_map.specs.Words.{is_empty};
@@ -10,6 +10,7 @@ ghost use Rattle.std.specs.Prelude.{◌≡◌, ◌<◌, ◌≤◌, [], false, le
 ghost use Rattle.std.specs.Str.{bytes_eq};
 
 use crate::Configuration;
+use crate::pids::is_factory_pid;
 use prop_map::OutOfMemory;
 use std::alloc::Global;
 
@@ -53,6 +54,14 @@ fn any_of_factory(rows: &[Configuration], pid: &str) -> bool
     ensures { result ≡ list_any (λ (c : Configuration). option_map_or (bytes_eq pid.now) c.factory false) rows.now }
 {
     rows.iter().any(|row| is_of_factory(row, pid))
+}
+
+/// Whether a factory has a configuration with a name. It takes no memory.
+pub(crate) fn has_named(rows: &[Configuration], factory: &str, name: &str) -> bool
+    ensures { result ≡ list_any (λ (c : Configuration). bytes_eq c.pid (factory_pid factory.now name.now)) rows.now }
+{
+    rows.iter()
+        .any(|row| is_factory_pid(row.pid.as_str(), factory, name))
 }
 
 /// The configuration of a PID and those of a factory of this PID, in byte order.

@@ -75,6 +75,20 @@ impl Configurations {
         named_by(alloc, self.rows.as_slice(), pid)
     }
 
+    /// Why the configuration of a PID can't be set, if so. It takes no memory.
+    pub fn refusal_of_set(&self, pid: &str) -> Option<ConfigFault>
+        ensures { result ≡ set_refusal pid.now self.now }
+    {
+        set_refusal(self.rows.as_slice(), pid)
+    }
+
+    /// Why the configuration of a factory with a name can't be set, if so. It takes no memory.
+    pub fn refusal_of_set_factory(&self, factory: &str, name: &str) -> Option<ConfigFault>
+        ensures { result ≡ set_factory_refusal factory.now name.now self.now }
+    {
+        set_factory_refusal(self.rows.as_slice(), factory, name)
+    }
+
     /// Sets the configuration of a PID. It holds the properties that are given, and the PID itself at `service.pid`.
     ///
     /// # Errors
@@ -157,11 +171,10 @@ impl Configurations {
         ensures refused { IsRefusedBy (set_factory_refusal factory.now name.now self.old) result }
         ensures err { OnErr result (self.new ≡ self.old) }
     {
-        let configuration = factory_configuration(alloc, factory, name, properties)?;
-        let pid = configuration.pid.as_str();
-        match set_factory_refusal(self.rows.as_slice(), factory, name, pid) {
+        match set_factory_refusal(self.rows.as_slice(), factory, name) {
             Some(fault) => Err(fault),
             None => {
+                let configuration = factory_configuration(alloc, factory, name, properties)?;
                 let before = put(alloc, &mut self.rows, configuration)?;
                 Ok(before)
             }

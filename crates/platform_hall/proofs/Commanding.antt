@@ -44,4 +44,4 @@ module _ (limit : ℕ) (old new : List (Entry Step)) (command : Command) where
   commands_alike (Err (ActivationFailed i)) takes = same_alike takes.1
   commands_alike (Err (ActivationNoMemory i)) takes = same_alike takes.1
   commands_alike (Err JournalFull) takes = same_alike takes.1
-  commands_alike (Err OutOfMemory) takes = same_alike takes
+  commands_alike (Err OutOfMemory) takes = same_alike takes.1

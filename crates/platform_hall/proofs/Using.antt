@@ -57,7 +57,7 @@ module _ (limit : ℕ) (old new : List (Entry Step)) where
   gets_alike bundle service (Err (ActivationFailed i)) gets = same_alike gets.1
   gets_alike bundle service (Err (ActivationNoMemory i)) gets = same_alike gets.1
   gets_alike bundle service (Err JournalFull) gets = same_alike gets.2
-  gets_alike bundle service (Err OutOfMemory) gets = same_alike gets
+  gets_alike bundle service (Err OutOfMemory) gets = same_alike gets.2
 
   pub ends_use_alike : (note : Token) (stood : Bool) → EndsUse limit old note stood new → IsAlike (world_at old) (world_at new)
   ends_use_alike note true ends = released_alike (world_at old) (world_at new) note.place (grown_after limit old new (Released note.place) ends.1)

@@ -93,7 +93,7 @@ Accepts before command reply after =
 -- entry and some of the drains
 abbrev pub TakesCommand : CoreView → Command → Result Reply CoreFault → CoreView → Type 0
 TakesCommand before command (Ok reply) after = Accepts before command reply after × (has_drain after ≡ false)
-TakesCommand before command (Err OutOfMemory) after = (after ≡ before) ⊎ ((reply : Reply) × Accepts before command reply after)
+TakesCommand before command (Err OutOfMemory) after = CoreTakes before command (Err OutOfMemory) after ⊎ ((reply : Reply) × Accepts before command reply after)
 TakesCommand before command (Err fault) after = CoreTakes before command (Err fault) after
 
 -- what a settling of so many turns at most answers and does, where component code refuses so

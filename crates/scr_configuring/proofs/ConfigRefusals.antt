@@ -13,12 +13,14 @@ use Rattle.prop_map.specs.declared.properties.Property.{Property}
 use Rattle.scr_judgements.specs.Changing.{Changes}
 use Rattle.scr_configuring.specs.ConfigRefusals.{core_fault}
 use Rattle.scr_judgements.proofs.Drafted.{descriptions_stay, levels_stay}
-use Rattle.scr_judgements.proofs.Judged.{no_memory, refused}
+use Rattle.scr_judgements.proofs.Changed.{asks_takes}
+use Rattle.scr_judgements.proofs.Judged.{no_memory_judged, refused}
 use Rattle.scr_judgements.specs.Drafting.{no_tables}
 use Rattle.scr_judgements.specs.Judgements.{Judges}
 use Rattle.scr_state.specs.Keeps.{Keeps}
 use Rattle.scr_state.specs.declared.state.State.{State}
 use Rattle.scr_world.specs.Refusals.{components_full, refusal, refuse_if}
+use Rattle.scr_world.specs.Replies.{takes_memory_to_judge}
 use Rattle.scr_world.specs.declared.command.Command.{Command}
 use Rattle.scr_world.specs.declared.command.Command.TheVariants.{Configure, ConfigureFactory, Unconfigure}
 use Rattle.scr_world.specs.declared.reply.CoreFault.{CoreFault}
@@ -51,7 +53,8 @@ left ((true, f) ∷ tests) last free = absurd cc
 left ((false, f) ∷ tests) last free = left tests last free
 
 -- a command whose tests these are
-module _ (limit : ℕ) (s : State) (command : Command) (tests : List (Bool × ConfigFault)) (same : refusal s.world command ≡ of_core tests (components_full s.world command)) where
+module _ (limit : ℕ) (s : State) (command : Command) (tests : List (Bool × ConfigFault)) (same : refusal s.world command ≡ of_core tests (components_full s.world command))
+    (judges : takes_memory_to_judge command ≡ true) where
   by_table : (fault : ConfigFault) → of_table tests ≡ Some fault → refusal s.world command ≡ Some (core_fault fault)
   by_table fault is = same ∙ translated tests (components_full s.world command) fault is
 
@@ -60,7 +63,7 @@ module _ (limit : ℕ) (s : State) (command : Command) (tests : List (Bool × Co
   judged FactoryClash is = refused limit s command (core_fault FactoryClash) refl (by_table FactoryClash is)
   judged NoConfiguration is = refused limit s command (core_fault NoConfiguration) refl (by_table NoConfiguration is)
   judged ConfigurationsFull is = refused limit s command (core_fault ConfigurationsFull) refl (by_table ConfigurationsFull is)
-  judged OutOfMemory is = no_memory limit s command
+  judged OutOfMemory is = no_memory_judged limit s command judges (asks_takes s.world command (same ∙ left tests (components_full s.world command) is)) (core_fault OutOfMemory) refl
 
 abbrev own_tests : List ℕ → List Configuration → List (Bool × ConfigFault)
 own_tests pid cs = (not (is_pid pid), BadPid) ∷ (not (is_empty (of_factory pid cs)), FactoryClash) ∷ (is_full pid cs, ConfigurationsFull) ∷ []
@@ -80,15 +83,15 @@ delete_alone pid cs = alone (delete_refusal pid cs)
 
 module _ (limit : ℕ) (s : State) where
   pub own_refused : (pid : List ℕ) (properties : List Property) (fault : ConfigFault) → IsRefusedBy {A = List Configuration} (set_refusal pid s.world.configurations) (Err fault) → Judges limit s (Configure pid properties) (Err (core_fault fault))
-  own_refused pid properties fault is = judged limit s (Configure pid properties) (own_tests pid s.world.configurations) refl fault is
+  own_refused pid properties fault is = judged limit s (Configure pid properties) (own_tests pid s.world.configurations) refl refl fault is
 
   pub factory_refused : (factory name : List ℕ) (properties : List Property) (fault : ConfigFault) → IsRefusedBy {A = List Configuration} (set_factory_refusal factory name s.world.configurations) (Err fault)
       → Judges limit s (ConfigureFactory factory name properties) (Err (core_fault fault))
-  factory_refused factory name properties fault is = judged limit s (ConfigureFactory factory name properties) (factory_tests factory name s.world.configurations) refl fault is
+  factory_refused factory name properties fault is = judged limit s (ConfigureFactory factory name properties) (factory_tests factory name s.world.configurations) refl refl fault is
 
   pub delete_refused : (pid : List ℕ) (fault : ConfigFault) → IsRefusedBy {A = List Configuration} (delete_refusal pid s.world.configurations) (Err fault) → Judges limit s (Unconfigure pid) (Err (core_fault fault))
   delete_refused pid fault is =
-      judged limit s (Unconfigure pid) (delete_tests pid s.world.configurations) refl fault
+      judged limit s (Unconfigure pid) (delete_tests pid s.world.configurations) refl refl fault
       (subst (λ (o : Option ConfigFault). IsRefusedBy {A = List Configuration} o (Err fault)) (sym (delete_alone pid s.world.configurations)) is)
 
 -- ---- what isn't refused so changes the configurations alone

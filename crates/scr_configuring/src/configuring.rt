@@ -50,6 +50,9 @@ fn configured(
     ensures after { IfOk result (λ after. after ≡ with_configuration (own_configuration pid.now properties.now) configurations.now) }
     ensures refused { IsRefusedBy (set_refusal pid.now configurations.now) result }
 {
+    if let Some(fault) = configurations.refusal_of_set(pid.as_str()) {
+        return Err(fault);
+    }
     let mut after = configurations.copy(alloc)?;
     let properties = properties.copy(alloc)?;
     after.set(alloc, pid.as_str(), properties)?;

@@ -59,6 +59,9 @@ fn configured(
     ensures after { IfOk result (λ after. after ≡ with_configuration (factory_configuration factory.now name.now properties.now) configurations.now) }
     ensures refused { IsRefusedBy (set_factory_refusal factory.now name.now configurations.now) result }
 {
+    if let Some(fault) = configurations.refusal_of_set_factory(factory.as_str(), name.as_str()) {
+        return Err(fault);
+    }
     let mut after = configurations.copy(alloc)?;
     let properties = properties.copy(alloc)?;
     after.set_factory(alloc, factory.as_str(), name.as_str(), properties)?;

@@ -18,7 +18,7 @@ use Rattle.scr_world.specs.Calls.{Commands, Grown, GrownIf, world_at}
 use Rattle.scr_world.specs.Consequences.{begins_draining, gate_of, is_draining, shut_between}
 use Rattle.scr_world.specs.Legal.{MayCome}
 use Rattle.scr_world.specs.Refusals.{refusal}
-use Rattle.scr_world.specs.Replies.{Replies, changes, has_effect}
+use Rattle.scr_world.specs.Replies.{MayLackMemory, Replies, changes, has_effect}
 use Rattle.scr_world.specs.Room.{has_room, needed_by}
 use Rattle.scr_world.specs.declared.command.Command.{Command}
 use Rattle.scr_world.specs.declared.instance.Instance.{Instance}
@@ -59,7 +59,7 @@ module _ (j : JournalRows Step) (s : State) (keeps : Keeps j s) (command : Comma
 
   refused_as : (fault : CoreFault) → Judges j.limit s command (Err fault) → Commands j.limit j.entries command (Err fault) j.entries
   unfolding Judges
-  refused_as OutOfMemory it = refl
+  refused_as OutOfMemory it = (subst (λ (w : World). MayLackMemory j.limit w command) keeps.world it, refl)
   refused_as (NoBundle a) it = (replied (Err (NoBundle a)) it, refl)
   refused_as (NoComponent a) it = (replied (Err (NoComponent a)) it, refl)
   refused_as (WrongState a) it = (replied (Err (WrongState a)) it, refl)
@@ -112,6 +112,12 @@ module _ (j : JournalRows Step) (s : State) (keeps : Keeps j s) (command : Comma
   room_by is =
       (and_parts (has_effect s.world command) (has_room j.limit s.world 1) (and_parts (is_none (refusal s.world command)) (has_effect s.world command && has_room j.limit s.world 1) is).1).1
 
+  -- it may lack memory all the same
+  lacks_by : changes j.limit s.world command ≡ true → MayLackMemory j.limit (world_at j.entries) command
+  lacks_by is =
+      let may = may_by is in
+      subst (λ (w : World). MayLackMemory j.limit w command) keeps.world (rw (may.0, may.1, room_by is) tt)
+
   changed_as : (reply : Reply) (draft : Draft) (keys : List GateKey) (new : List (Entry Step)) → Judges j.limit s command (Ok (Changes reply draft)) → keys ≡ shut_between (world_at j.entries) (world_at new)
       → Grown j.limit j.entries (Commanded command) new → Commands j.limit j.entries command (Ok (record { reply = reply; shut = keys })) new
   changed_as reply draft keys new it shut grown =
@@ -136,6 +142,10 @@ module _ (j : JournalRows Step) (s : State) (keeps : Keeps j s) (step : Step) (c
 
     pub step_drafted : IsDraft s step draft
     step_drafted = subst (λ (x : Step). IsDraft s x draft) (sym is) (drafted j s keeps command reply draft judged)
+
+    -- want of memory comes all the same, and leaves all as it was
+    pub step_lacks : Commands j.limit j.entries command (Err OutOfMemory) j.entries
+    step_lacks = (lacks_by j s keeps command (changed j s keeps command reply draft judged), refl)
 
     pub step_changed : (keys : List GateKey) (new : List (Entry Step)) → keys ≡ shut_between (world_at j.entries) (world_at new) → Grown j.limit j.entries step new
         → Commands j.limit j.entries command (Ok (record { reply = reply; shut = keys })) new

@@ -25,6 +25,7 @@ use Rattle.scr_world.specs.declared.world.World.{World}
 
 abbrev is_room : CoreFault → Bool
 is_room JournalFull = true
+is_room OutOfMemory = true
 is_room _ = false
 
 abbrev NoRoom : Option CoreFault → Type 0
@@ -64,7 +65,7 @@ no_room_fault w bundle service =
 
 module _ (j : JournalRows Step) (s : State) (keeps : Keeps j s) (bundle service : ℕ) where
   refused_by : (fault : CoreFault) → is_room fault ≡ false → refusal (world_at j.entries) (Get bundle service) ≡ Some fault → Gets j.limit j.entries bundle service (Err fault) j.entries
-  refused_by OutOfMemory plain is = refl
+  refused_by OutOfMemory plain is = cc
   refused_by JournalFull plain is = cc
   refused_by (NoBundle a) plain is = (is, refl)
   refused_by (NoComponent a) plain is = (is, refl)
@@ -95,6 +96,9 @@ module _ (j : JournalRows Step) (s : State) (keeps : Keeps j s) (bundle service 
 
   pub get_full : None ≡ refusal s.world (Get bundle service) → has_room j.limit s.world 2 ≡ false → Gets j.limit j.entries bundle service (Err JournalFull) j.entries
   get_full free full = (sym (free ∙ refusal_at), subst (λ (w : World). has_room j.limit w 2 ≡ false) keeps.world full, refl)
+
+  pub get_lacks : None ≡ refusal s.world (Get bundle service) → has_room j.limit s.world 2 ≡ true → Gets j.limit j.entries bundle service (Err OutOfMemory) j.entries
+  get_lacks free room = (sym (free ∙ refusal_at), subst (λ (w : World). has_room j.limit w 2 ≡ true) keeps.world room, refl)
 
   pub get_may : None ≡ refusal s.world (Get bundle service) → (step : Step) → step ≡ Got bundle service → MayCome s.world step
   get_may free step is = subst (λ (x : Step). MayCome s.world x) (sym is) (sym free)

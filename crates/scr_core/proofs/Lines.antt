@@ -56,7 +56,7 @@ grown_if_lines true limit old new command grown = grown_lines limit old new (Com
 grown_if_lines false limit old new command same = same_lines old new same
 
 refused_lines : (limit : ℕ) (old new : List (Entry Step)) (command : Command) (fault : CoreFault) → Commands limit old command (Err fault) new → new ≡ old
-refused_lines limit old new command OutOfMemory is = is
+refused_lines limit old new command OutOfMemory is = is.1
 refused_lines limit old new command (NoBundle a) is = is.1
 refused_lines limit old new command (NoComponent a) is = is.1
 refused_lines limit old new command (WrongState a) is = is.1
@@ -84,7 +84,7 @@ command_lines limit old new command (Ok accepted) is = grown_if_lines (changes l
 command_lines limit old new command (Err fault) is = same_lines old new (refused_lines limit old new command fault is)
 
 pub ungot_lines : (limit : ℕ) (old new : List (Entry Step)) (bundle service : ℕ) (fault : CoreFault) → Gets limit old bundle service (Err fault) new → new ≡ old
-ungot_lines limit old new bundle service OutOfMemory is = is
+ungot_lines limit old new bundle service OutOfMemory is = is.2
 ungot_lines limit old new bundle service JournalFull is = is.2
 ungot_lines limit old new bundle service (NoBundle a) is = is.1
 ungot_lines limit old new bundle service (NoComponent a) is = is.1

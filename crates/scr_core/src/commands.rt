@@ -1,10 +1,12 @@
 //! Commands.
 ghost use Rattle.kept_wirings.specs.KeptRows.{AreKept};
+ghost use Rattle.scr_judgements.specs.Judgements.{JudgesStep};
+ghost use Rattle.scr_judgements.specs.declared.judgement.Judgement.TheVariants.{Changes};
 ghost use Rattle.scr_state.specs.Keeps.{Keeps};
 ghost use Rattle.scr_world.specs.Calls.{Commands};
 ghost use Rattle.scr_world.specs.declared.command.Command.{Command};
 ghost use Rattle.scr_world.specs.declared.step.Step.TheVariants.{Command as Commanded};
-ghost use Rattle.std.specs.Prelude.{◌≡◌};
+ghost use Rattle.std.specs.Prelude.{◌≡◌, Ok};
 
 use crate::generic::let_go;
 use crate::steps::boxed;
@@ -14,8 +16,8 @@ use kept_wirings::KeptWirings;
 use prop_map::List;
 use scr_commands::judge;
 use scr_judgements::Judgement;
-use scr_state::State;
-use scr_world::{Accepted, Command, CoreFault, Step};
+use scr_state::{Draft, State};
+use scr_world::{Accepted, Command, CoreFault, Reply, Step};
 use std::alloc::Global;
 
 /// Takes a command.
@@ -33,26 +35,7 @@ pub(crate) fn take_command(
     ensures limit { journal.new.limit ≡ journal.old.limit }
     ensures answer { Commands journal.old.limit journal.old.entries command result journal.new.entries }
 {
-    let step = boxed(alloc, Step::Command(command))?;
-    take_boxed(alloc, journal, state, wirings, step)
-}
-
-// Takes the command of a step.
-fn take_boxed(
-    alloc: Global,
-    journal: &mut Journal<Step>,
-    state: &mut State,
-    wirings: &mut KeptWirings,
-    step: Box<Step>,
-) -> Result<Accepted, CoreFault>
-    requires keeps { Keeps journal.old state.old }
-    requires wirings { AreKept state.old.world.documents wirings.old }
-    requires command { (c : Command) × (step.value ≡ Commanded c) }
-    ensures keeps { Keeps journal.new state.new }
-    ensures wirings { AreKept state.new.world.documents wirings.new }
-    ensures limit { journal.new.limit ≡ journal.old.limit }
-    ensures answer { (c : Command) → step.value ≡ Commanded c → Commands journal.old.limit journal.old.entries c result journal.new.entries }
-{
+    let step = Step::Command(command);
     match judge(alloc, journal, state, &step) {
         Err(fault) => {
             let_go(step);
@@ -66,8 +49,39 @@ fn take_boxed(
             })
         }
         Ok(Judgement::Changes { reply, draft }) => {
-            let shut = grow_wired(alloc, journal, state, wirings, step, draft)?;
-            Ok(Accepted { reply, shut })
+            append(alloc, journal, state, wirings, step, reply, draft)
         }
+    }
+}
+
+// Appends the entry of a command that was judged to change something.
+fn append(
+    alloc: Global,
+    journal: &mut Journal<Step>,
+    state: &mut State,
+    wirings: &mut KeptWirings,
+    step: Step,
+    reply: Reply,
+    draft: Draft,
+) -> Result<Accepted, CoreFault>
+    requires keeps { Keeps journal.old state.old }
+    requires wirings { AreKept state.old.world.documents wirings.old }
+    requires command { (c : Command) × (step ≡ Commanded c) }
+    requires judged { JudgesStep journal.old.limit state.old step (Ok (Changes reply draft)) }
+    ensures keeps { Keeps journal.new state.new }
+    ensures wirings { AreKept state.new.world.documents wirings.new }
+    ensures limit { journal.new.limit ≡ journal.old.limit }
+    ensures answer { (c : Command) → step ≡ Commanded c → Commands journal.old.limit journal.old.entries c result journal.new.entries }
+{
+    let step = match boxed(alloc, step) {
+        Ok(step) => step,
+        Err(_) => {
+            let_go(draft);
+            return Err(CoreFault::OutOfMemory);
+        }
+    };
+    match grow_wired(alloc, journal, state, wirings, step, draft) {
+        Ok(shut) => Ok(Accepted { reply, shut }),
+        Err(_) => Err(CoreFault::OutOfMemory),
     }
 }

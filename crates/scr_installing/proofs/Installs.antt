@@ -1,6 +1,7 @@
 -- When an install is refused, and what is said of it.
-use Rattle.std.proofs.Common.{◌≡◌, ◌∙◌, ◌+◌, ℕ, [], ◌∷◌, ◌++◌, ap, refl, subst, sym, true, false, Option, Some, None, Ok, Err, length}
-use Rattle.std.specs.Prelude.{is_none, nat_le, option_map}
+use Rattle.std.proofs.Common.{◌≡◌, ◌∙◌, ◌+◌, ℕ, [], ◌∷◌, ◌++◌, ap, refl, subst, sym, Bool, true, false, Option, Some, None, Ok, Err, length}
+use Rattle.std.specs.Prelude.{is_none, nat_le, not, option_map, IfSome}
+use Rattle.prop_map.specs.Words.{first_some}
 use Rattle.std.proofs.lemmas.List.{append-nil}
 use Rattle.std.proofs.lemmas.List.Concat.{flat_map-append}
 use Rattle.bundle_doc.specs.declared.document.BundleDoc.{BundleDoc}
@@ -15,8 +16,9 @@ use Rattle.scr_judgements.specs.declared.judgement.Judgement.TheVariants.{Unchan
 use Rattle.scr_state.specs.Keeps.{IsDraft}
 use Rattle.scr_state.specs.declared.draft.Draft.{Draft}
 use Rattle.scr_state.specs.declared.state.State.{State}
-use Rattle.scr_world.specs.Refusals.{refusal}
-use Rattle.scr_world.specs.Replies.{has_effect}
+use Rattle.scr_world.specs.Levels.{has_levels}
+use Rattle.scr_world.specs.Refusals.{refusal, refuse_if}
+use Rattle.scr_world.specs.Replies.{has_effect, takes_memory_to_refuse}
 use Rattle.scr_world.specs.Room.{has_room}
 use Rattle.scr_world.specs.Tables.{contents_with, descriptions_of}
 use Rattle.scr_world.specs.declared.command.Command.TheVariants.{Install}
@@ -54,10 +56,19 @@ module _ (w : World) (doc : BundleDoc) (unknown : bundle_at w.bundles.rows doc.l
     no_same : namesake doc.name doc.version 0 w.bundles.rows ≡ None
     no_same = named_none (λ (b : BundleLife). b.number) (namesake doc.name doc.version 0 w.bundles.rows) fresh
 
+    late : (levels many : Bool) → IfSome (first_some (refuse_if (not levels) (Cycle []) ∷ refuse_if many BundlesFull ∷ [])) (λ fault. takes_memory_to_refuse (Install doc) fault ≡ true)
+    late false many = refl
+    late true true = refl
+    late true false = tt
+
+    -- a cycle and too many bundles are all that may refuse it
+    pub install_takes : IfSome (refusal w (Install doc)) (λ fault. takes_memory_to_refuse (Install doc) fault ≡ true)
+    install_takes = rw (unknown, no_same) (late (has_levels (descriptions_of w.documents ++ doc.descriptions)) (nat_le 128 (length w.bundles.rows)))
+
     pub install_cyclic : (fault : CoreFault) → IsDescribed (descriptions_of w.documents ++ doc.descriptions) (Err fault) → IsAllowed w (Install doc) (Err fault)
     unfolding IsAllowed
     install_cyclic (Cycle path) is = (rw (unknown, no_same, is.0) refl, is.1)
-    install_cyclic OutOfMemory is = tt
+    install_cyclic OutOfMemory is = install_takes
     install_cyclic fault is = absurd is
 
     module _ (described : Described) (are : AreDescribed (descriptions_of w.documents ++ doc.descriptions) described) where

@@ -1,6 +1,6 @@
 -- When an update is refused, in the order of its tests.
-use Rattle.std.proofs.Common.{◌≡◌, ◌∙◌, ℕ, List, [], ◌∷◌, ◌++◌, ap, refl, sym, false, Option, Some, None, Result, Ok, Err}
-use Rattle.std.specs.Prelude.{option_map}
+use Rattle.std.proofs.Common.{◌≡◌, ◌∙◌, ℕ, List, [], ◌∷◌, ◌++◌, ap, refl, subst, sym, Bool, true, false, Option, Some, None, Result, Ok, Err}
+use Rattle.std.specs.Prelude.{not, option_map, IfSome}
 use Rattle.bundle_doc.specs.declared.document.BundleDoc.{BundleDoc}
 use Rattle.bundle_life.specs.declared.bundle.BundleLife.{BundleLife}
 use Rattle.bundle_life.specs.Lives.{namesake}
@@ -14,7 +14,9 @@ use Rattle.scr_installing.proofs.IdleBundles.{idle_plain}
 use Rattle.scr_judgements.proofs.Judged.{is_cycle, refused}
 use Rattle.scr_judgements.specs.Judgements.{Judges}
 use Rattle.scr_state.specs.declared.state.State.{State}
-use Rattle.scr_world.specs.Refusals.{cyclic, descriptions_with, no_bundle, refusal, same_name, still_active, still_stopping}
+use Rattle.scr_world.specs.Levels.{has_levels}
+use Rattle.scr_world.specs.Replies.{takes_memory_to_refuse}
+use Rattle.scr_world.specs.Refusals.{cyclic, descriptions_with, no_bundle, refusal, refuse_if, same_name, still_active, still_stopping}
 use Rattle.scr_world.specs.declared.command.Command.TheVariants.{Update}
 use Rattle.scr_world.specs.declared.reply.CoreFault.{CoreFault}
 use Rattle.scr_world.specs.declared.reply.CoreFault.TheVariants.{SameName, Cycle, OutOfMemory}
@@ -65,12 +67,20 @@ module _ (w : World) (bundle : ℕ) (doc : BundleDoc) where
   tests_of : update_refusal w bundle doc ≡ None → refusal w (Update bundle doc) ≡ cyclic (descriptions_with w doc bundle)
   tests_of free = first_rest (no_bundle w bundle ∷ still_active w bundle ∷ still_stopping w bundle ∷ same_name w doc bundle ∷ []) (cyclic (descriptions_with w doc bundle) ∷ []) free ∙ only (cyclic (descriptions_with w doc bundle))
 
+  late : (levels : Bool) → IfSome (refuse_if (not levels) (Cycle [])) (λ fault. takes_memory_to_refuse (Update bundle doc) fault ≡ true)
+  late false = refl
+  late true = tt
+
+  -- a cycle is all that may refuse it
+  pub update_takes : update_refusal w bundle doc ≡ None → IfSome (refusal w (Update bundle doc)) (λ fault. takes_memory_to_refuse (Update bundle doc) fault ≡ true)
+  update_takes free = subst (λ (due : Option CoreFault). IfSome due (λ fault. takes_memory_to_refuse (Update bundle doc) fault ≡ true)) (sym (tests_of free)) (late (has_levels (descriptions_with w doc bundle)))
+
   -- with the descriptions after it
   module _ (free : update_refusal w bundle doc ≡ None) where
     update_cyclic : (fault : CoreFault) → IsDescribed (descriptions_with w doc bundle) (Err fault) → IsAllowed w (Update bundle doc) (Err fault)
     unfolding IsAllowed
     update_cyclic (Cycle path) is = (tests_of free ∙ rw is.0 refl, is.1)
-    update_cyclic OutOfMemory is = tt
+    update_cyclic OutOfMemory is = update_takes free
     update_cyclic fault is = absurd is
 
     update_allowed : (described : Described) → AreDescribed (descriptions_with w doc bundle) described → IsAllowed w (Update bundle doc) (Ok described)

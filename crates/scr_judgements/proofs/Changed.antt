@@ -1,5 +1,6 @@
 -- The judgement of a command by its last refusals.
-use Rattle.std.proofs.Common.{◌≡◌, ◌∙◌, ℕ, ap, refl, subst, sym, Bool, true, false, Some, None, Result, Ok, Err}
+use Rattle.std.proofs.Common.{◌≡◌, ◌∙◌, ℕ, ap, refl, subst, sym, Bool, true, false, Option, Some, None, Result, Ok, Err}
+use Rattle.std.specs.Prelude.{IfSome}
 use Rattle.scr_judgements.specs.Asked.{IsAskedAfter, are_too_many}
 use Rattle.scr_judgements.specs.declared.asked.Asked.{Asked}
 use Rattle.scr_judgements.specs.Changing.{AreTablesBy, Changes, ChangesFreely, ChangesUnlessFull}
@@ -13,6 +14,7 @@ use Rattle.scr_judgements.specs.declared.judgement.Judgement.TheVariants.{Change
 use Rattle.scr_state.specs.declared.draft.Draft.{Draft}
 use Rattle.scr_state.specs.declared.state.State.{State}
 use Rattle.scr_world.specs.Refusals.{components_full, refusal, refuse_if}
+use Rattle.scr_world.specs.Replies.{takes_memory_to_refuse}
 use Rattle.scr_world.specs.Room.{has_room}
 use Rattle.scr_world.specs.declared.command.Command.{Command}
 use Rattle.scr_world.specs.declared.reply.CoreFault.{CoreFault}
@@ -33,7 +35,7 @@ tables_freely s (Got bundle service) reply tables changes = absurd changes
 tables_freely s (Released place) reply tables changes = absurd changes
 
 pub tables_unless_full : (s : State) (step : Step) (reply : Reply) (tables : TablesAfter) → ChangesUnlessFull s step reply tables → AreTablesBy s step tables
-tables_unless_full s (Commanded command) reply tables changes = changes.after
+tables_unless_full s (Commanded command) reply tables (changes, takes) = changes.after
 tables_unless_full s (Begin turn instance configuration consumer callback chosen) reply tables changes = absurd changes
 tables_unless_full s (End turn outcome) reply tables changes = absurd changes
 tables_unless_full s (Drained instance) reply tables changes = absurd changes
@@ -42,14 +44,34 @@ tables_unless_full s (Released place) reply tables changes = absurd changes
 
 -- ---- want of memory
 
-pub no_memory : (limit : ℕ) (s : State) (step : Step) (fault : CoreFault) → fault ≡ OutOfMemory → JudgesStep limit s step (Err fault)
+-- nothing but too many component configurations refuses the command
+pub asks_takes : (w : World) (command : Command) → refusal w command ≡ components_full w command → IfSome (refusal w command) (λ fault. takes_memory_to_refuse command fault ≡ true)
+asks_takes w command last =
+    subst (λ (due : Option CoreFault). IfSome due (λ fault. takes_memory_to_refuse command fault ≡ true)) (sym last) (by_many (are_too_many (Commanded command) w)) where
+  by_many : (many : Bool) → IfSome (refuse_if many ComponentsFull) (λ fault. takes_memory_to_refuse command fault ≡ true)
+  by_many true = refl
+  by_many false = tt
+
+pub no_memory_unless_full : (limit : ℕ) (s : State) (step : Step) (reply : Reply) (tables : TablesAfter) → ChangesUnlessFull s step reply tables
+    → (fault : CoreFault) → fault ≡ OutOfMemory → JudgesStep limit s step (Err fault)
 unfolding JudgesStep
-no_memory limit s (Commanded command) fault is = judged.no_memory_is limit s command fault is
-no_memory limit s (Begin turn instance configuration consumer callback chosen) fault is = ap (λ (f : CoreFault). Err f) is
-no_memory limit s (End turn outcome) fault is = ap (λ (f : CoreFault). Err f) is
-no_memory limit s (Drained instance) fault is = ap (λ (f : CoreFault). Err f) is
-no_memory limit s (Got bundle service) fault is = ap (λ (f : CoreFault). Err f) is
-no_memory limit s (Released place) fault is = ap (λ (f : CoreFault). Err f) is
+no_memory_unless_full limit s (Commanded command) reply tables (changes, takes) fault is =
+    judged.no_memory_judged limit s command takes (asks_takes s.world command changes.refusals) fault is
+no_memory_unless_full limit s (Begin turn instance configuration consumer callback chosen) reply tables changes fault is = absurd changes
+no_memory_unless_full limit s (End turn outcome) reply tables changes fault is = absurd changes
+no_memory_unless_full limit s (Drained instance) reply tables changes fault is = absurd changes
+no_memory_unless_full limit s (Got bundle service) reply tables changes fault is = absurd changes
+no_memory_unless_full limit s (Released place) reply tables changes fault is = absurd changes
+
+pub no_memory_freely : (limit : ℕ) (s : State) (step : Step) (reply : Reply) (tables : TablesAfter) → ChangesFreely s step reply tables → has_room limit s.world 1 ≡ true
+    → (fault : CoreFault) → fault ≡ OutOfMemory → JudgesStep limit s step (Err fault)
+unfolding JudgesStep
+no_memory_freely limit s (Commanded command) reply tables changes room fault is = judged.no_memory_freely limit s command changes.refusals room fault is
+no_memory_freely limit s (Begin turn instance configuration consumer callback chosen) reply tables changes room fault is = absurd changes
+no_memory_freely limit s (End turn outcome) reply tables changes room fault is = absurd changes
+no_memory_freely limit s (Drained instance) reply tables changes room fault is = absurd changes
+no_memory_freely limit s (Got bundle service) reply tables changes room fault is = absurd changes
+no_memory_freely limit s (Released place) reply tables changes room fault is = absurd changes
 
 -- ---- too many component configurations
 
@@ -68,7 +90,7 @@ module _ (w : World) (command : Command) (last : refusal w command ≡ component
 
 pub full : (limit : ℕ) (s : State) (step : Step) (reply : Reply) (tables : TablesAfter) → ChangesUnlessFull s step reply tables → are_too_many step s.world ≡ true → JudgesStep limit s step (Err ComponentsFull)
 unfolding JudgesStep
-full limit s (Commanded command) reply tables changes many =
+full limit s (Commanded command) reply tables (changes, takes) many =
     judged.refused limit s command ComponentsFull refl (refused_full s.world command changes.refusals many)
 full limit s (Begin turn instance configuration consumer callback chosen) reply tables changes many = absurd changes
 full limit s (End turn outcome) reply tables changes many = absurd changes
@@ -77,7 +99,7 @@ full limit s (Got bundle service) reply tables changes many = absurd changes
 full limit s (Released place) reply tables changes many = absurd changes
 
 pub freely : (s : State) (step : Step) (reply : Reply) (tables : TablesAfter) → ChangesUnlessFull s step reply tables → are_too_many step s.world ≡ false → ChangesFreely s step reply tables
-freely s (Commanded command) reply tables changes few = record {
+freely s (Commanded command) reply tables (changes, takes) few = record {
   refusals = not_refused s.world command changes.refusals few;
   effect = changes.effect;
   answers = changes.answers;

@@ -1,13 +1,15 @@
 -- What is right to say of any command, by its refusal, its effect and the room.
-use Rattle.std.proofs.Common.{◌≡◌, ℕ, List, [], ap, refl, subst, sym, Bool, true, false, Some, None, Result, Ok, Err}
+use Rattle.std.proofs.Common.{◌≡◌, ℕ, List, [], ap, refl, subst, sym, Bool, true, false, Option, Some, None, Result, Ok, Err}
+use Rattle.std.specs.Option.{option_map_or, option_or}
+use Rattle.std.specs.Prelude.{◌&&◌, not, IfErr, IfSome}
 use Rattle.scr_judgements.specs.Judgements.{Judges, JudgesStep}
 use Rattle.scr_judgements.specs.declared.judgement.Judgement.{Judgement}
 use Rattle.scr_judgements.specs.declared.judgement.Judgement.TheVariants.{Unchanged, Changes}
 use Rattle.scr_state.specs.Keeps.{IsDraft}
 use Rattle.scr_state.specs.declared.draft.Draft.{Draft}
 use Rattle.scr_state.specs.declared.state.State.{State}
-use Rattle.scr_world.specs.Refusals.{refusal}
-use Rattle.scr_world.specs.Replies.{TellsPath, answer, has_effect, reply}
+use Rattle.scr_world.specs.Refusals.{refusal, refuse_if}
+use Rattle.scr_world.specs.Replies.{TellsPath, answer, has_effect, lacks_room, reply, takes_memory_to_judge, takes_memory_to_refuse}
 use Rattle.scr_world.specs.Room.{has_room}
 use Rattle.scr_world.specs.declared.command.Command.{Command}
 use Rattle.scr_world.specs.declared.reply.CoreFault.{CoreFault}
@@ -28,13 +30,41 @@ judged_step limit s step command judged is judges = subst (λ (x : Step). Judges
 pub drafted_as : (s : State) (step : Step) (command : Command) (draft : Draft) → step ≡ Commanded command → IsDraft s step draft → IsDraft s (Commanded command) draft
 drafted_as s step command draft is drafted = subst (λ (x : Step). IsDraft s x draft) is drafted
 
-module _ (limit : ℕ) (s : State) (command : Command) where
-  pub no_memory : Judges limit s command (Err OutOfMemory)
-  unfolding Judges
-  no_memory = tt
+-- where there is room none lacks it
+none_lacks : (effect room : Bool) → room ≡ true → (effect && not room) ≡ true → ⊥
+none_lacks true true is lacks = cc
+none_lacks true false is lacks = cc
+none_lacks false room is lacks = cc
 
-  pub no_memory_is : (fault : CoreFault) → fault ≡ OutOfMemory → Judges limit s command (Err fault)
-  no_memory_is fault is = subst (λ (f : CoreFault). Judges limit s command (Err f)) (sym is) no_memory
+module _ (limit : ℕ) (s : State) (command : Command) where
+  -- ---- want of memory
+
+  lacks_by : (due : Option CoreFault) (full : Bool) (told : Reply) → IfSome due (λ fault. takes_memory_to_refuse command fault ≡ true) → (full ≡ true → takes_memory_to_judge command ≡ true)
+      → IfErr (option_map_or (λ fault. Err fault) (option_or due (refuse_if full JournalFull)) (Ok told)) (λ fault. takes_memory_to_refuse command fault ≡ true)
+  lacks_by (Some fault) full told takes late = takes
+  lacks_by None true told takes late = late refl
+  lacks_by None false told takes late = tt
+
+  -- what refuses it takes memory, and so does what stands before want of room
+  pub no_memory : IfSome (refusal s.world command) (λ fault. takes_memory_to_refuse command fault ≡ true) → (lacks_room limit s.world command ≡ true → takes_memory_to_judge command ≡ true)
+      → (fault : CoreFault) → fault ≡ OutOfMemory → Judges limit s command (Err fault)
+  unfolding Judges
+  no_memory takes late fault is =
+      subst (λ (f : CoreFault). Judges limit s command (Err f)) (sym is) (lacks_by (refusal s.world command) (lacks_room limit s.world command) (answer s.world command) takes late)
+
+  -- what refuses it takes memory
+  pub no_memory_refused : (due : CoreFault) → refusal s.world command ≡ Some due → takes_memory_to_refuse command due ≡ true → (fault : CoreFault) → fault ≡ OutOfMemory → Judges limit s command (Err fault)
+  unfolding Judges
+  no_memory_refused due refuses takes fault is = subst (λ (f : CoreFault). Judges limit s command (Err f)) (sym is) (rw refuses takes)
+
+  -- nothing refuses it, and there is room
+  pub no_memory_freely : refusal s.world command ≡ None → has_room limit s.world 1 ≡ true → (fault : CoreFault) → fault ≡ OutOfMemory → Judges limit s command (Err fault)
+  no_memory_freely free room = no_memory (rw free tt) (λ lacks. absurd (none_lacks (has_effect s.world command) (has_room limit s.world 1) room lacks))
+
+  -- it takes memory to judge, and so does what refuses it
+  pub no_memory_judged : takes_memory_to_judge command ≡ true → IfSome (refusal s.world command) (λ fault. takes_memory_to_refuse command fault ≡ true)
+      → (fault : CoreFault) → fault ≡ OutOfMemory → Judges limit s command (Err fault)
+  no_memory_judged judges takes = no_memory takes (λ lacks. judges)
 
   -- ---- refused
 
@@ -64,7 +94,7 @@ module _ (limit : ℕ) (s : State) (command : Command) where
   by_reply (ActivationFailed instance) plain is = is
   by_reply (ActivationNoMemory instance) plain is = is
   by_reply JournalFull plain is = is
-  by_reply OutOfMemory plain is = tt
+  by_reply OutOfMemory plain is = rw is refl
 
   pub refused : (fault : CoreFault) → is_cycle fault ≡ false → refusal s.world command ≡ Some fault → Judges limit s command (Err fault)
   refused fault plain is = by_reply fault plain (replied_with fault is)

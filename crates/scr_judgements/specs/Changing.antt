@@ -4,7 +4,7 @@ use Rattle.scr_judgements.specs.Drafting.{AreTablesAfter}
 use Rattle.scr_judgements.specs.declared.drafting.TablesAfter.{TablesAfter}
 use Rattle.scr_state.specs.declared.state.State.{State}
 use Rattle.scr_world.specs.Refusals.{components_full, refusal}
-use Rattle.scr_world.specs.Replies.{answer, has_effect}
+use Rattle.scr_world.specs.Replies.{answer, has_effect, takes_memory_to_judge}
 use Rattle.scr_world.specs.declared.command.Command.{Command}
 use Rattle.scr_world.specs.declared.reply.CoreFault.{CoreFault}
 use Rattle.scr_world.specs.declared.reply.Reply.{Reply}
@@ -23,9 +23,9 @@ abbrev pub ChangesFreely : State → Step → Reply → TablesAfter → Type 0
 ChangesFreely s (Commanded command) reply tables = Changes s command None reply tables
 ChangesFreely s _ reply tables = ⊥
 
--- nothing but too many component configurations refuses it
+-- nothing but too many component configurations refuses it, as may be of a command that takes memory to judge
 abbrev pub ChangesUnlessFull : State → Step → Reply → TablesAfter → Type 0
-ChangesUnlessFull s (Commanded command) reply tables = Changes s command (components_full s.world command) reply tables
+ChangesUnlessFull s (Commanded command) reply tables = Changes s command (components_full s.world command) reply tables × (takes_memory_to_judge command ≡ true)
 ChangesUnlessFull s _ reply tables = ⊥
 
 -- these are the tables after a step, which is a command

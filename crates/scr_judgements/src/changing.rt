@@ -40,7 +40,7 @@ pub fn change_asking(
 /// Judges a command that changes something and that nothing refuses but want of room, where these are its reply and its tables.
 ///
 /// # Errors
-/// `JournalFull` where its entry has no room, and want of memory.
+/// `JournalFull` where its entry has no room, and else just want of memory.
 pub fn change_freely(
     alloc: Global,
     journal: &Journal<Step>,
@@ -53,6 +53,9 @@ pub fn change_freely(
     requires changes { ChangesFreely state.now step.now reply tables }
     ensures { JudgesStep journal.now.limit state.now step.now result }
 {
+    if !has_room_for_command(journal, state) {
+        return Err(CoreFault::JournalFull);
+    }
     let asked = asked_with(alloc, state, step, &tables)?;
     change(journal, state, step, reply, asked, tables)
 }

@@ -8,7 +8,7 @@ use Rattle.scr_judgements.specs.Judgements.{Judges}
 use Rattle.scr_judgements.specs.declared.judgement.Judgement.{Judgement}
 use Rattle.scr_judgements.specs.declared.judgement.Judgement.TheVariants.{Changes}
 use Rattle.scr_judgements.proofs.Drafted.{descriptions_stay, levels_stay, tables_step}
-use Rattle.scr_judgements.proofs.Judged.{changed, drafted_as, no_memory_is, no_room}
+use Rattle.scr_judgements.proofs.Judged.{changed, drafted_as, no_memory_freely, no_room}
 use Rattle.scr_judgements.proofs.Plain.{brings_document, refused_plainly}
 use Rattle.scr_state.specs.Keeps.{IsDraft, Keeps}
 use Rattle.scr_state.specs.declared.draft.Draft.{Draft}
@@ -26,10 +26,6 @@ use Rattle.scr_world.specs.declared.step.Step.TheVariants.{Command as Commanded}
 use Rattle.service_registry.specs.Registries.{Registered}
 use Rattle.use_counts.specs.declared.uses.UseRow.{UseRow}
 
-pub none_left : (limit : ℕ) (s : State) (command : Command) (judged : Result Judgement CoreFault) → IsErrAnd judged (λ fault. fault ≡ OutOfMemory) → Judges limit s command judged
-none_left limit s command (Ok judgement) is = absurd is
-none_left limit s command (Err fault) is = no_memory_is limit s command fault is
-
 module _ (limit : ℕ) (s : State) (command : Command) (refused : Option CoreFault) (refused_is : refused ≡ refusal s.world command) where
   pub told : brings_document command ≡ false → (fault : CoreFault) → refused ≡ Some fault → Judges limit s command (Err fault)
   told plain fault is = refused_plainly limit s command plain fault (sym refused_is ∙ is)
@@ -37,6 +33,10 @@ module _ (limit : ℕ) (s : State) (command : Command) (refused : Option CoreFau
   module _ (free : refused ≡ None) (effect : has_effect s.world command ≡ true) (room : Bool) (room_is : room ≡ has_room limit s.world 1) where
     pub full : room ≡ false → Judges limit s command (Err JournalFull)
     full is = no_room limit s command (sym refused_is ∙ free) effect (sym room_is ∙ is)
+
+    pub none_left : room ≡ true → (judged : Result Judgement CoreFault) → IsErrAnd judged (λ fault. fault ≡ OutOfMemory) → Judges limit s command judged
+    none_left is (Ok judgement) wants = absurd wants
+    none_left is (Err fault) wants = no_memory_freely limit s command (sym refused_is ∙ free) (sym room_is ∙ is) fault wants
 
     pub served : room ≡ true → (reply : Reply) → reply ≡ answer s.world command → (step : Step) → step ≡ Commanded command → (draft : Draft) → IsDraft s step draft → Judges limit s command (Ok (Changes reply draft))
     served is reply answers step commanded draft drafted =

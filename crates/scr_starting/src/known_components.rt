@@ -8,9 +8,10 @@ ghost use Rattle.scr_world.specs.Refusals.{no_bundle, no_component, not_active};
 ghost use Rattle.scr_world.specs.Replies.{is_enabled};
 ghost use Rattle.scr_world.specs.Tables.{contents_of};
 ghost use Rattle.scr_world.specs.declared.contents.Contents.{Contents};
+ghost use Rattle.scr_world.specs.declared.reply.CoreFault.TheVariants.{NoComponent};
 ghost use Rattle.std.specs.List.{list_all, list_any};
 ghost use Rattle.std.specs.Option.{option_copied, option_map_or};
-ghost use Rattle.std.specs.Prelude.{◌≡◌, [], ◌∷◌, false, IfOk};
+ghost use Rattle.std.specs.Prelude.{◌≡◌, [], ◌∷◌, false, IfOk, OnErr, Some};
 ghost use Rattle.std.specs.Str.{bytes_eq};
 
 use crate::enabled_flags::{are_enabled, flag_of, has_component};
@@ -31,7 +32,8 @@ pub(crate) fn component_refusal(
     bundle: u64,
     name: &Str,
 ) -> Result<Option<CoreFault>, OutOfMemory>
-    ensures { IfOk result (λ refusal. refusal ≡ first_some (no_bundle state.now.world bundle ∷ not_active state.now.world bundle ∷ no_component state.now.world bundle name.now ∷ [])) }
+    ensures ok { IfOk result (λ refusal. refusal ≡ first_some (no_bundle state.now.world bundle ∷ not_active state.now.world bundle ∷ no_component state.now.world bundle name.now ∷ [])) }
+    ensures err { OnErr result (first_some (no_bundle state.now.world bundle ∷ not_active state.now.world bundle ∷ no_component state.now.world bundle name.now ∷ []) ≡ Some (NoComponent name.now)) }
 {
     match state.world.bundles.state_of(bundle) {
         None => Ok(Some(CoreFault::NoBundle { bundle })),
@@ -59,7 +61,8 @@ fn unknown_component(
     bundle: u64,
     name: &Str,
 ) -> Result<Option<CoreFault>, OutOfMemory>
-    ensures { IfOk result (λ refusal. refusal ≡ no_component world.now bundle name.now) }
+    ensures ok { IfOk result (λ refusal. refusal ≡ no_component world.now bundle name.now) }
+    ensures err { OnErr result (no_component world.now bundle name.now ≡ Some (NoComponent name.now)) }
 {
     if is_known(world.documents.as_slice(), bundle, name) {
         return Ok(None);

@@ -22,7 +22,7 @@ use Rattle.scr_world.specs.TurnSteps.{work_under_way}
 use Rattle.scr_world.specs.Consequences.{gate_of, reopened_by, shut_between}
 use Rattle.scr_world.specs.Legal.{Follows, awaits_drain}
 use Rattle.scr_world.specs.Lists.{world_of}
-use Rattle.scr_world.specs.Replies.{Replies, changes}
+use Rattle.scr_world.specs.Replies.{MayLackMemory, Replies, changes}
 use Rattle.scr_world.specs.Steps.{history_of}
 use Rattle.scr_world.specs.declared.world.World.{World}
 
@@ -39,11 +39,11 @@ abbrev pub GrownIf : Bool → ℕ → List (Entry Step) → Step → List (Entry
 GrownIf true limit old step new = Grown limit old step new
 GrownIf false limit old step new = new ≡ old
 
--- what a command answers and does: want of memory may come at any time, and a refusal leaves the journal as it was
+-- what a command answers and does: a refusal leaves the journal as it was, and want of memory hides none but those that take memory
 abbrev pub Commands : ℕ → List (Entry Step) → Command → Result Accepted CoreFault → List (Entry Step) → Type 0
 Commands limit old command (Ok accepted) new =
     Replies limit (world_at old) command (Ok accepted.reply) × (accepted.shut ≡ shut_between (world_at old) (world_at new)) × GrownIf (changes limit (world_at old) command) limit old (Commanded command) new
-Commands limit old command (Err OutOfMemory) new = new ≡ old
+Commands limit old command (Err OutOfMemory) new = MayLackMemory limit (world_at old) command × (new ≡ old)
 Commands limit old command (Err fault) new = Replies limit (world_at old) command (Err fault) × (new ≡ old)
 
 -- what the end of a turn does and answers
@@ -75,10 +75,10 @@ Drains limit old key new = (i : Instance) × (find (awaits_drain_at (world_at ol
 abbrev pub next_drain : World → Option GateKey
 next_drain w = option_map gate_of (find (awaits_drain w) w.instances)
 
--- a get by token is taken: its note says where it stands
+-- a get by token is taken: its note says where it stands. Want of memory hides no refusal
 abbrev pub Gets : ℕ → List (Entry Step) → ℕ → ℕ → Result Token CoreFault → List (Entry Step) → Type 0
 Gets limit old bundle service (Ok note) new = (note ≡ record { place = length old; bundle = bundle; service = service }) × Grown limit old (Got bundle service) new
-Gets limit old bundle service (Err OutOfMemory) new = new ≡ old
+Gets limit old bundle service (Err OutOfMemory) new = (refusal (world_at old) (Get bundle service) ≡ None) × (has_room limit (world_at old) 2 ≡ true) × (new ≡ old)
 Gets limit old bundle service (Err JournalFull) new = (refusal (world_at old) (Get bundle service) ≡ None) × (has_room limit (world_at old) 2 ≡ false) × (new ≡ old)
 Gets limit old bundle service (Err fault) new = (refusal (world_at old) (Get bundle service) ≡ Some fault) × (new ≡ old)
 

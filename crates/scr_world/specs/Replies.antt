@@ -1,5 +1,5 @@
 -- What a command changes, and what it answers. OSGi Core 8, chapters 4 and 5, where they say that a call has no effect; the rest is our own.
-use Rattle.std.specs.Prelude.{◌≡◌, ℕ, List, [], ◌∷◌, ◌+◌, ◌-◌, ◌&&◌, ◌||◌, ◌++◌, Bool, true, false, not, is_none, Result, Ok, Err}
+use Rattle.std.specs.Prelude.{◌≡◌, ℕ, List, [], ◌∷◌, ◌+◌, ◌-◌, ◌&&◌, ◌||◌, ◌++◌, Bool, true, false, not, is_none, Result, Ok, Err, IfErr}
 use Rattle.std.specs.Option.{option_or, option_map_or}
 use Rattle.std.specs.Str.{bytes_eq}
 use Rattle.bundle_life.specs.declared.bundle.BundleLife.{BundleLife}
@@ -8,9 +8,9 @@ use Rattle.component_dto.specs.declared.description.Description.{Description}
 use Rattle.level_order.specs.Cycles.{TellsCycle}
 use Rattle.use_counts.specs.Uses.{use_count}
 use Rattle.scr_world.specs.declared.command.Command.{Command}
-use Rattle.scr_world.specs.declared.command.Command.TheVariants.{Install, Update, Start, Stop, Enable, Disable, Register, Get, Unget, Listen}
+use Rattle.scr_world.specs.declared.command.Command.TheVariants.{Install, Update, Start, Stop, Enable, Disable, Register, Get, Unget, Listen, Configure, ConfigureFactory, Unconfigure}
 use Rattle.scr_world.specs.declared.reply.CoreFault.{CoreFault}
-use Rattle.scr_world.specs.declared.reply.CoreFault.TheVariants.{Cycle, JournalFull}
+use Rattle.scr_world.specs.declared.reply.CoreFault.TheVariants.{NoComponent, Cycle, BundlesFull, ComponentsFull, JournalFull, OutOfMemory}
 use Rattle.scr_world.specs.declared.reply.Reply.{Reply}
 use Rattle.scr_world.specs.declared.reply.Reply.TheVariants.{Done, Bundle as InBundle, Service as AsService, Uses as WithUses, Listener as AsListener}
 use Rattle.scr_world.specs.declared.contents.Contents.{Contents}
@@ -68,3 +68,30 @@ TellsPath w _ path = ⊥
 abbrev pub Replies : ℕ → World → Command → Result Reply CoreFault → Type 0
 Replies limit w command (Err (Cycle path)) = (reply limit w command ≡ Err (Cycle [])) × TellsPath w command path
 Replies limit w command answer = reply limit w command ≡ answer
+
+-- ---- want of memory
+
+-- a command that takes memory to judge: it may bring a cycle, or too many component configurations
+abbrev pub takes_memory_to_judge : Command → Bool
+takes_memory_to_judge (Install doc) = true
+takes_memory_to_judge (Update bundle doc) = true
+takes_memory_to_judge (Start bundle) = true
+takes_memory_to_judge (Enable bundle name) = true
+takes_memory_to_judge (Configure pid properties) = true
+takes_memory_to_judge (ConfigureFactory factory name properties) = true
+takes_memory_to_judge (Unconfigure pid) = true
+takes_memory_to_judge _ = false
+
+-- a refusal that takes memory to find or to tell; those for too many bundles and for want of room may stand behind such a one, and want of memory is none
+abbrev pub takes_memory_to_refuse : Command → CoreFault → Bool
+takes_memory_to_refuse command (NoComponent name) = true
+takes_memory_to_refuse command (Cycle path) = true
+takes_memory_to_refuse command BundlesFull = true
+takes_memory_to_refuse command ComponentsFull = true
+takes_memory_to_refuse command JournalFull = takes_memory_to_judge command
+takes_memory_to_refuse command OutOfMemory = true
+takes_memory_to_refuse command _ = false
+
+-- want of memory may come: nothing refuses the command, or what does takes memory
+abbrev pub MayLackMemory : ℕ → World → Command → Type 0
+MayLackMemory limit w command = IfErr (reply limit w command) (λ fault. takes_memory_to_refuse command fault ≡ true)

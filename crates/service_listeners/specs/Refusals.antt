@@ -14,8 +14,8 @@ listen_refusal t = refuse_if (nat_le 64 (length t.rows)) ListenersFull
 abbrev pub no_listener : ℕ → ListenerTable → Option ListenFault
 no_listener number t = refuse_if (is_none (listener_of t.rows number)) (NoListener number)
 
--- a call succeeds only where nothing refuses it, and fails with that refusal or for want of memory
+-- a call succeeds only where nothing refuses it, and fails with that refusal; for want of memory only where there is none
 abbrev pub IsRefusedBy : {A : Type 0} → Option ListenFault → Result A ListenFault → Type 0
 IsRefusedBy refusal (Ok x) = refusal ≡ None
-IsRefusedBy refusal (Err OutOfMemory) = Unit {0}
+IsRefusedBy refusal (Err OutOfMemory) = refusal ≡ None
 IsRefusedBy refusal (Err fault) = refusal ≡ Some fault

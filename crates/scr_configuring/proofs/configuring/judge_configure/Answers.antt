@@ -1,4 +1,4 @@
-use Rattle.std.proofs.Common.{Err, Some, subst, sym}
+use Rattle.std.proofs.Common.{Err, Some, refl, subst, sym}
 use Rattle.scr_judgements.proofs.Changed.{of_command}
 use Rattle.scr_judgements.specs.Changing.{ChangesUnlessFull}
 use Rattle.scr_configuring.proofs.ConfigRefusals.{own_changes, own_refused}
@@ -14,7 +14,7 @@ pub change_configurations-requires : goal.change_configurations-requires
 change_configurations-requires c = record {
   keeps = c.requires.keeps;
   changes = subst (λ (x : Step). ChangesUnlessFull c.args.state.now x Done (record no_tables { configurations = Some c.in-Ok.configurations })) (sym c.requires.command)
-      (own_changes c.args.journal.now c.args.state.now c.requires.keeps c.in-Ok.configurations c.args.pid.now c.args.properties.now c.in-Ok.ensures.refused c.in-Ok.ensures.after);
+      (own_changes c.args.journal.now c.args.state.now c.requires.keeps c.in-Ok.configurations c.args.pid.now c.args.properties.now c.in-Ok.ensures.refused c.in-Ok.ensures.after, refl);
 }
 
 pub returns-in-Ok : goal.returns-in-Ok

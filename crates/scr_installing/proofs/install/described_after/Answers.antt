@@ -3,7 +3,7 @@ use Rattle.std.proofs.lemmas.Result.{err_from_is_err_and}
 use Rattle.std.specs.Prelude.{Err}
 use Rattle.component_dto.specs.declared.description.Description.{Description}
 use Rattle.scr_installing.proofs.Allowing.{allowed_no_memory}
-use Rattle.scr_installing.proofs.Installs.{install_allowed, install_cyclic, install_full, install_same}
+use Rattle.scr_installing.proofs.Installs.{install_allowed, install_cyclic, install_full, install_same, install_takes}
 use Rattle.scr_installing.specs.Described.{AreDescribed, IsDescribed}
 use Rattle.scr_world.specs.declared.command.Command.TheVariants.{Install}
 use Rattle.scr_installing.proofs.install.described_after.Goals as goal
@@ -17,7 +17,7 @@ returns-in-Some c = install_same c.args.state.now.world c.args.doc.now c.require
 pub returns-in_err-all : goal.returns-in_err-all
 returns-in_err-all c =
     let p = err_from_is_err_and c.from_residual.result c.from_residual.ensures.1 in
-    rw p.1 (allowed_no_memory c.args.state.now.world (Install c.args.doc.now) p.0 p.2)
+    rw p.1 (allowed_no_memory c.args.state.now.world (Install c.args.doc.now) (install_takes c.args.state.now.world c.args.doc.now c.requires.unknown (sym c.in_default.is ∙ c.namesake.ensures)) p.0 p.2)
 
 pub returns-in_err-described : goal.returns-in_err-described
 returns-in_err-described c =

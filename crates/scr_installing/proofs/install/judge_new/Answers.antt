@@ -1,15 +1,15 @@
-use Rattle.std.proofs.Common.{◌∙◌, sym}
+use Rattle.std.proofs.Common.{◌∙◌, refl, sym}
 use Rattle.std.proofs.lemmas.Result.{err_from_is_err_and}
 use Rattle.scr_installing.proofs.Allowing.{allowed_described, allowed_free, not_allowed}
 use Rattle.scr_installing.proofs.Installs.{install_changes, install_no_room}
-use Rattle.scr_judgements.proofs.Judged.{no_memory_is}
+use Rattle.scr_judgements.proofs.Judged.{no_memory_freely}
 use Rattle.scr_world.specs.declared.command.Command.TheVariants.{Install}
 use Rattle.scr_installing.proofs.install.judge_new.Goals as goal
 
 pub returns-in_err-described : goal.returns-in_err-described
 returns-in_err-described c =
     let p = err_from_is_err_and c.from_residual.result c.from_residual.ensures.1 in
-    record { judged = rw (p.1, p.2) (not_allowed c.args.journal.now.limit c.args.state.now (Install c.args.doc.now) c.in_err-described.field-0.0 c.in_err-described.ensures) }
+    record { judged = rw (p.1, p.2) (not_allowed c.args.journal.now.limit c.args.state.now (Install c.args.doc.now) refl c.in_err-described.field-0.0 c.in_err-described.ensures) }
 
 pub returns-then-not-has_room_for_command : goal.returns-then-not-has_room_for_command
 returns-then-not-has_room_for_command c =
@@ -19,7 +19,11 @@ returns-then-not-has_room_for_command c =
 pub returns-in_err-number : goal.returns-in_err-number
 returns-in_err-number c =
     let p = err_from_is_err_and c.from_residual-in_err-number.result c.from_residual-in_err-number.ensures.1 in
-    record { judged = rw p.1 (no_memory_is c.args.journal.now.limit c.args.state.now (Install c.args.doc.now) p.0 p.2) }
+    let free = allowed_free c.args.state.now.world (Install c.args.doc.now) c.in_ok-described.described c.in_ok-described.ensures in
+    record {
+      judged = rw p.1 (no_memory_freely c.args.journal.now.limit c.args.state.now (Install c.args.doc.now) free
+          (sym c.has_room_for_command.ensures ∙ c.if-not-has_room_for_command.false) p.0 p.2);
+    }
 
 pub install_draft-requires-clause-described : goal.install_draft-requires-clause-described
 install_draft-requires-clause-described c = allowed_described c.args.state.now.world (Install c.args.doc.now) c.in_ok-described.described c.in_ok-described.ensures
@@ -27,7 +31,11 @@ install_draft-requires-clause-described c = allowed_described c.args.state.now.w
 pub returns-in_err-draft : goal.returns-in_err-draft
 returns-in_err-draft c =
     let p = err_from_is_err_and c.from_residual-in_err-draft.result c.from_residual-in_err-draft.ensures.1 in
-    record { judged = rw p.1 (no_memory_is c.args.journal.now.limit c.args.state.now (Install c.args.doc.now) p.0 p.2) }
+    let free = allowed_free c.args.state.now.world (Install c.args.doc.now) c.in_ok-described.described c.in_ok-described.ensures in
+    record {
+      judged = rw p.1 (no_memory_freely c.args.journal.now.limit c.args.state.now (Install c.args.doc.now) free
+          (sym c.has_room_for_command.ensures ∙ c.if-not-has_room_for_command.false) p.0 p.2);
+    }
 
 pub returns : goal.returns
 returns c =

@@ -1,6 +1,6 @@
 use Rattle.std.proofs.Common.{◌∙◌, refl, sym}
 use Rattle.std.proofs.lemmas.Result.{err_from_is_err_and}
-use Rattle.scr_judgements.proofs.Judged.{changed, no_memory_is, no_room}
+use Rattle.scr_judgements.proofs.Judged.{changed, no_memory_freely, no_room}
 use Rattle.scr_judgements.proofs.Plain.{refused_plainly}
 use Rattle.scr_world.specs.declared.command.Command.TheVariants.{Uninstall}
 use Rattle.scr_world.specs.declared.reply.Reply.TheVariants.{Done}
@@ -18,7 +18,10 @@ returns-then-not-has_room_for_command c =
 pub returns-in_err-draft : goal.returns-in_err-draft
 returns-in_err-draft c =
     let p = err_from_is_err_and c.from_residual-in_err-draft.result c.from_residual-in_err-draft.ensures.1 in
-    record { judged = rw p.1 (no_memory_is c.args.journal.now.limit c.args.state.now (Uninstall c.args.bundle) p.0 p.2) }
+    record {
+      judged = rw p.1 (no_memory_freely c.args.journal.now.limit c.args.state.now (Uninstall c.args.bundle) c.in_ok-check_idle.ensures
+          (sym c.has_room_for_command.ensures ∙ c.if-not-has_room_for_command.false) p.0 p.2);
+    }
 
 pub returns : goal.returns
 returns c =

@@ -3,9 +3,9 @@ use Rattle.std.specs.Prelude.{map}
 use Rattle.std.proofs.lemmas.Result.{err_from_is_err_and}
 use Rattle.scr_installing.proofs.Allowing.{allowed_described, allowed_free, not_allowed}
 use Rattle.scr_installing.proofs.RestingBundles.{updated_asks}
-use Rattle.scr_installing.proofs.Updates.{update_refused}
+use Rattle.scr_installing.proofs.Updates.{update_refused, update_takes}
 use Rattle.scr_installing.specs.Described.{AreDescribed}
-use Rattle.scr_judgements.proofs.Judged.{changed, no_memory_is, no_room}
+use Rattle.scr_judgements.proofs.Judged.{changed, no_memory_freely, no_memory_judged, no_room}
 use Rattle.scr_judgements.specs.Lasting.{AsksAsBefore}
 use Rattle.scr_state.specs.Keeps.{IsDraft}
 use Rattle.scr_world.specs.Tables.{descriptions_of, replaced}
@@ -23,12 +23,15 @@ returns-in_err-check_update c =
 pub returns-in_err-documents : goal.returns-in_err-documents
 returns-in_err-documents c =
     let p = err_from_is_err_and c.from_residual-in_err-documents.result c.from_residual-in_err-documents.ensures.1 in
-    record { judged = rw p.1 (no_memory_is c.args.journal.now.limit c.args.state.now (Update c.args.bundle c.args.doc.now) p.0 p.2) }
+    record {
+      judged = rw p.1 (no_memory_judged c.args.journal.now.limit c.args.state.now (Update c.args.bundle c.args.doc.now) refl
+          (update_takes c.args.state.now.world c.args.bundle c.args.doc.now c.in_ok-check_update.ensures) p.0 p.2);
+    }
 
 pub returns-in_err-described : goal.returns-in_err-described
 returns-in_err-described c =
     let p = err_from_is_err_and c.from_residual-in_err-described.result c.from_residual-in_err-described.ensures.1 in
-    record { judged = rw (p.1, p.2) (not_allowed c.args.journal.now.limit c.args.state.now (Update c.args.bundle c.args.doc.now) c.in_err-described.field-0.0 c.in_err-described.ensures) }
+    record { judged = rw (p.1, p.2) (not_allowed c.args.journal.now.limit c.args.state.now (Update c.args.bundle c.args.doc.now) refl c.in_err-described.field-0.0 c.in_err-described.ensures) }
 
 pub returns-then-not-has_room_for_command : goal.returns-then-not-has_room_for_command
 returns-then-not-has_room_for_command c =
@@ -49,7 +52,11 @@ documents_draft-requires-clause-asks c =
 pub returns-in_err-draft : goal.returns-in_err-draft
 returns-in_err-draft c =
     let p = err_from_is_err_and c.from_residual-in_err-draft.result c.from_residual-in_err-draft.ensures.1 in
-    record { judged = rw p.1 (no_memory_is c.args.journal.now.limit c.args.state.now (Update c.args.bundle c.args.doc.now) p.0 p.2) }
+    let free = allowed_free c.args.state.now.world (Update c.args.bundle c.args.doc.now) c.in_ok-described.described c.in_ok-described.ensures in
+    record {
+      judged = rw p.1 (no_memory_freely c.args.journal.now.limit c.args.state.now (Update c.args.bundle c.args.doc.now) free
+          (sym c.has_room_for_command.ensures ∙ c.if-not-has_room_for_command.false) p.0 p.2);
+    }
 
 pub returns : goal.returns
 returns c =

@@ -13,7 +13,7 @@ pub returns-then-not-has_room_for_command : goal.returns-then-not-has_room_for_c
 returns-then-not-has_room_for_command c = record { judged = full c.args.journal.now.limit c.args.state.now (Get c.args.bundle c.args.service) c.refusal_of_get.result c.refusal_of_get.ensures c.in_default.is refl c.has_room_for_command.result c.has_room_for_command.ensures c.if-not-has_room_for_command.true }
 
 pub returns-in_err-after : goal.returns-in_err-after
-returns-in_err-after c = record { judged = none_left c.args.journal.now.limit c.args.state.now (Get c.args.bundle c.args.service) c.from_residual.result c.from_residual.ensures.1 }
+returns-in_err-after c = record { judged = none_left c.args.journal.now.limit c.args.state.now (Get c.args.bundle c.args.service) c.refusal_of_get.result c.refusal_of_get.ensures c.in_default.is refl c.has_room_for_command.result c.has_room_for_command.ensures c.if-not-has_room_for_command.false c.from_residual.result c.from_residual.ensures.1 }
 
 pub draft_with-requires-clause-tables : goal.draft_with-requires-clause-tables
 draft_with-requires-clause-tables c =
@@ -21,7 +21,7 @@ draft_with-requires-clause-tables c =
     (tables_then c.args.journal.now c.args.state.now c.requires.keeps c.args.step.now (Get c.args.bundle c.args.service) c.requires.command refl refl None (Some c.in_ok-after.after.uses) refl c.in_ok-after.ensures.uses)
 
 pub returns-in_err-draft : goal.returns-in_err-draft
-returns-in_err-draft c = record { judged = none_left c.args.journal.now.limit c.args.state.now (Get c.args.bundle c.args.service) c.from_residual-in_err-draft.result c.from_residual-in_err-draft.ensures.1 }
+returns-in_err-draft c = record { judged = none_left c.args.journal.now.limit c.args.state.now (Get c.args.bundle c.args.service) c.refusal_of_get.result c.refusal_of_get.ensures c.in_default.is refl c.has_room_for_command.result c.has_room_for_command.ensures c.if-not-has_room_for_command.false c.from_residual-in_err-draft.result c.from_residual-in_err-draft.ensures.1 }
 
 pub returns : goal.returns
 returns c = record {

@@ -15,7 +15,7 @@ pub returns-then-not-has_room_for_command : goal.returns-then-not-has_room_for_c
 returns-then-not-has_room_for_command c = record { judged = full c.args.journal.now.limit c.args.state.now (Register c.args.bundle c.args.interfaces.now c.args.properties.now) c.refusal_of_register.result (c.refusal_of_register.ensures c.args.interfaces.now c.args.properties.now) c.in_default.is refl c.has_room_for_command.result c.has_room_for_command.ensures c.if-not-has_room_for_command.true }
 
 pub returns-in_err-registry : goal.returns-in_err-registry
-returns-in_err-registry c = record { judged = none_left c.args.journal.now.limit c.args.state.now (Register c.args.bundle c.args.interfaces.now c.args.properties.now) c.from_residual.result c.from_residual.ensures.1 }
+returns-in_err-registry c = record { judged = none_left c.args.journal.now.limit c.args.state.now (Register c.args.bundle c.args.interfaces.now c.args.properties.now) c.refusal_of_register.result (c.refusal_of_register.ensures c.args.interfaces.now c.args.properties.now) c.in_default.is refl c.has_room_for_command.result c.has_room_for_command.ensures c.if-not-has_room_for_command.false c.from_residual.result c.from_residual.ensures.1 }
 
 pub draft_with-requires-clause-tables : goal.draft_with-requires-clause-tables
 draft_with-requires-clause-tables c =
@@ -23,7 +23,7 @@ draft_with-requires-clause-tables c =
     (tables_then c.args.journal.now c.args.state.now c.requires.keeps c.args.step.now (Register c.args.bundle c.args.interfaces.now c.args.properties.now) c.requires.command refl refl (Some c.in_ok-registry.registry) None (c.in_ok-registry.ensures ∙ ap (λ (interfaces : List (List ℕ)). registered c.args.bundle interfaces direct_scope c.args.properties.now true c.args.state.now.world.registry) c.as_slice.ensures) refl)
 
 pub returns-in_err-draft : goal.returns-in_err-draft
-returns-in_err-draft c = record { judged = none_left c.args.journal.now.limit c.args.state.now (Register c.args.bundle c.args.interfaces.now c.args.properties.now) c.from_residual-in_err-draft.result c.from_residual-in_err-draft.ensures.1 }
+returns-in_err-draft c = record { judged = none_left c.args.journal.now.limit c.args.state.now (Register c.args.bundle c.args.interfaces.now c.args.properties.now) c.refusal_of_register.result (c.refusal_of_register.ensures c.args.interfaces.now c.args.properties.now) c.in_default.is refl c.has_room_for_command.result c.has_room_for_command.ensures c.if-not-has_room_for_command.false c.from_residual-in_err-draft.result c.from_residual-in_err-draft.ensures.1 }
 
 pub returns : goal.returns
 returns c = record {

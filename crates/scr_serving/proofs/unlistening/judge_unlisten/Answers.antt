@@ -18,7 +18,7 @@ draft_with-requires-clause-tables c =
     (tables_then c.args.journal.now c.args.state.now c.requires.keeps c.args.step.now (Unlisten c.args.listener) c.requires.command refl refl None None refl refl)
 
 pub returns-in_err-draft : goal.returns-in_err-draft
-returns-in_err-draft c = record { judged = none_left c.args.journal.now.limit c.args.state.now (Unlisten c.args.listener) c.from_residual.result c.from_residual.ensures.1 }
+returns-in_err-draft c = record { judged = none_left c.args.journal.now.limit c.args.state.now (Unlisten c.args.listener) c.refusal_of_unlisten.result c.refusal_of_unlisten.ensures c.in_default.is refl c.has_room_for_command.result c.has_room_for_command.ensures c.if-not-has_room_for_command.false c.from_residual.result c.from_residual.ensures.1 }
 
 pub returns : goal.returns
 returns c = record {

@@ -2,9 +2,9 @@ use Rattle.std.proofs.Common.{◌∙◌, ap, refl, subst, sym}
 use Rattle.std.specs.Prelude.{not}
 use Rattle.std.proofs.lemmas.Result.{err_from_is_err_and}
 use Rattle.scr_judgements.specs.Asked.{are_too_many}
-use Rattle.scr_judgements.proofs.Changed.{no_memory, not_refused, refused_full}
+use Rattle.scr_judgements.proofs.Changed.{asks_takes, not_refused, refused_full}
 use Rattle.scr_judgements.specs.Changing.{AreTablesBy, ChangesFreely}
-use Rattle.scr_judgements.proofs.Judged.{judged_step, unchanged}
+use Rattle.scr_judgements.proofs.Judged.{judged_step, no_memory_judged, unchanged}
 use Rattle.scr_judgements.proofs.Plain.{refused_plainly}
 use Rattle.scr_starting.proofs.ComponentFlags.{enable_tables}
 use Rattle.scr_starting.proofs.EnabledAlready.{already_enabled, already_free}
@@ -25,7 +25,8 @@ returns-then-is_all_enabled c =
 pub returns-in_err-tables : goal.returns-in_err-tables
 returns-in_err-tables c =
     let p = err_from_is_err_and c.from_residual.result c.from_residual.ensures.1 in
-    rw (p.1) (no_memory c.args.journal.now.limit c.args.state.now c.args.step.now p.0 p.2)
+    rw (p.1) (judged_step c.args.journal.now.limit c.args.state.now c.args.step.now (Enable c.args.bundle c.args.name.now) _ c.requires.command
+        (no_memory_judged c.args.journal.now.limit c.args.state.now (Enable c.args.bundle c.args.name.now) refl (asks_takes c.args.state.now.world (Enable c.args.bundle c.args.name.now) c.requires.refused) p.0 p.2))
 
 pub asked_with-requires-clause-tables : goal.asked_with-requires-clause-tables
 asked_with-requires-clause-tables c =
@@ -35,7 +36,8 @@ asked_with-requires-clause-tables c =
 pub returns-in_err-asked : goal.returns-in_err-asked
 returns-in_err-asked c =
     let p = err_from_is_err_and c.from_residual-in_err-asked.result c.from_residual-in_err-asked.ensures.1 in
-    rw (p.1) (no_memory c.args.journal.now.limit c.args.state.now c.args.step.now p.0 p.2)
+    rw (p.1) (judged_step c.args.journal.now.limit c.args.state.now c.args.step.now (Enable c.args.bundle c.args.name.now) _ c.requires.command
+        (no_memory_judged c.args.journal.now.limit c.args.state.now (Enable c.args.bundle c.args.name.now) refl (asks_takes c.args.state.now.world (Enable c.args.bundle c.args.name.now) c.requires.refused) p.0 p.2))
 
 pub returns-then-are_too_many : goal.returns-then-are_too_many
 returns-then-are_too_many c =
