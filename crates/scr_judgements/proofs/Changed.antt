@@ -48,9 +48,9 @@ tables_unless_full s (Released place) reply tables changes = absurd changes
 pub asks_takes : (w : World) (command : Command) → refusal w command ≡ components_full w command → IfSome (refusal w command) (λ fault. takes_memory_to_refuse command fault ≡ true)
 asks_takes w command last =
     subst (λ (due : Option CoreFault). IfSome due (λ fault. takes_memory_to_refuse command fault ≡ true)) (sym last) (by_many (are_too_many (Commanded command) w)) where
-  by_many : (many : Bool) → IfSome (refuse_if many ComponentsFull) (λ fault. takes_memory_to_refuse command fault ≡ true)
-  by_many true = refl
-  by_many false = tt
+      by_many : (many : Bool) → IfSome (refuse_if many ComponentsFull) (λ fault. takes_memory_to_refuse command fault ≡ true)
+      by_many true = refl
+      by_many false = tt
 
 pub no_memory_unless_full : (limit : ℕ) (s : State) (step : Step) (reply : Reply) (tables : TablesAfter) → ChangesUnlessFull s step reply tables
     → (fault : CoreFault) → fault ≡ OutOfMemory → JudgesStep limit s step (Err fault)

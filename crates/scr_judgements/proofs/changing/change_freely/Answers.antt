@@ -14,4 +14,4 @@ pub returns-in_err-asked : goal.returns-in_err-asked
 returns-in_err-asked c =
     let p = err_from_is_err_and c.from_residual.result c.from_residual.ensures.1 in
     rw (p.1) (no_memory_freely c.args.journal.now.limit c.args.state.now c.args.step.now c.args.reply c.args.tables c.requires.changes
-        (sym c.has_room_for_command.ensures ∙ c.if-not-has_room_for_command.false) p.0 p.2)
+    (sym c.has_room_for_command.ensures ∙ c.if-not-has_room_for_command.false) p.0 p.2)

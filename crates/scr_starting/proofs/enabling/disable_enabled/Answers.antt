@@ -17,7 +17,7 @@ pub returns-in_err-tables : goal.returns-in_err-tables
 returns-in_err-tables c =
     let p = err_from_is_err_and c.from_residual.result c.from_residual.ensures.1 in
     rw (p.1) (judged_step c.args.journal.now.limit c.args.state.now c.args.step.now (Disable c.args.bundle c.args.name.now) _ c.requires.command
-        (no_memory_freely c.args.journal.now.limit c.args.state.now (Disable c.args.bundle c.args.name.now) c.requires.free (sym c.has_room_for_command.ensures ∙ c.if-not-has_room_for_command.false) p.0 p.2))
+    (no_memory_freely c.args.journal.now.limit c.args.state.now (Disable c.args.bundle c.args.name.now) c.requires.free (sym c.has_room_for_command.ensures ∙ c.if-not-has_room_for_command.false) p.0 p.2))
 
 pub change_freely-requires-clause-changes : goal.change_freely-requires-clause-changes
 change_freely-requires-clause-changes c =

@@ -26,7 +26,7 @@ pub returns-in_err-tables : goal.returns-in_err-tables
 returns-in_err-tables c =
     let p = err_from_is_err_and c.from_residual.result c.from_residual.ensures.1 in
     rw (p.1) (judged_step c.args.journal.now.limit c.args.state.now c.args.step.now (Enable c.args.bundle c.args.name.now) _ c.requires.command
-        (no_memory_judged c.args.journal.now.limit c.args.state.now (Enable c.args.bundle c.args.name.now) refl (asks_takes c.args.state.now.world (Enable c.args.bundle c.args.name.now) c.requires.refused) p.0 p.2))
+    (no_memory_judged c.args.journal.now.limit c.args.state.now (Enable c.args.bundle c.args.name.now) refl (asks_takes c.args.state.now.world (Enable c.args.bundle c.args.name.now) c.requires.refused) p.0 p.2))
 
 pub asked_with-requires-clause-tables : goal.asked_with-requires-clause-tables
 asked_with-requires-clause-tables c =
@@ -37,7 +37,7 @@ pub returns-in_err-asked : goal.returns-in_err-asked
 returns-in_err-asked c =
     let p = err_from_is_err_and c.from_residual-in_err-asked.result c.from_residual-in_err-asked.ensures.1 in
     rw (p.1) (judged_step c.args.journal.now.limit c.args.state.now c.args.step.now (Enable c.args.bundle c.args.name.now) _ c.requires.command
-        (no_memory_judged c.args.journal.now.limit c.args.state.now (Enable c.args.bundle c.args.name.now) refl (asks_takes c.args.state.now.world (Enable c.args.bundle c.args.name.now) c.requires.refused) p.0 p.2))
+    (no_memory_judged c.args.journal.now.limit c.args.state.now (Enable c.args.bundle c.args.name.now) refl (asks_takes c.args.state.now.world (Enable c.args.bundle c.args.name.now) c.requires.refused) p.0 p.2))
 
 pub returns-then-are_too_many : goal.returns-then-are_too_many
 returns-then-are_too_many c =

@@ -16,14 +16,17 @@ pub returns-in_err-documents : goal.returns-in_err-documents
 returns-in_err-documents c =
     let p = err_from_is_err_and c.from_residual.result c.from_residual.ensures.1 in
     rw (p.1) (judged_step c.args.journal.now.limit c.args.state.now c.args.step.now (Start c.args.bundle) _ c.requires.command
-        (no_memory_judged c.args.journal.now.limit c.args.state.now (Start c.args.bundle) refl (asks_takes c.args.state.now.world (Start c.args.bundle) c.requires.refused) p.0 p.2))
+    (no_memory_judged c.args.journal.now.limit c.args.state.now (Start c.args.bundle) refl (asks_takes c.args.state.now.world (Start c.args.bundle) c.requires.refused) p.0 p.2))
 
 pub change_asking-requires-clause-changes : goal.change_asking-requires-clause-changes
 change_asking-requires-clause-changes c =
-    subst (λ (x : Step). ChangesUnlessFull c.args.state.now x Done (record c.none-tables.result { documents = Some c.in_ok-documents.documents })) (sym c.requires.command) ((record {
-      refusals = c.requires.refused;
-      effect = c.requires.effect;
-      answers = refl;
-      after = tables c.args.journal.now c.args.state.now c.requires.keeps c.args.bundle c.in_ok-documents.documents c.none-tables.result c.none-tables.ensures
-          (c.in_ok-documents.ensures ∙ ap (λ (cs : List Contents). map (set_back c.args.bundle) cs) c.as_slice.ensures);
-    }), refl)
+    subst (λ (x : Step). ChangesUnlessFull c.args.state.now x Done (record c.none-tables.result { documents = Some c.in_ok-documents.documents })) (sym c.requires.command) (
+      (record {
+        refusals = c.requires.refused;
+        effect = c.requires.effect;
+        answers = refl;
+        after = tables c.args.journal.now c.args.state.now c.requires.keeps c.args.bundle c.in_ok-documents.documents c.none-tables.result c.none-tables.ensures
+            (c.in_ok-documents.ensures ∙ ap (λ (cs : List Contents). map (set_back c.args.bundle) cs) c.as_slice.ensures);
+      }),
+      refl,
+    )
