@@ -47,7 +47,7 @@ ungot limit old new bundle service FactoryClash gets = gets.1
 ungot limit old new bundle service (ActivationFailed i) gets = gets.1
 ungot limit old new bundle service (ActivationNoMemory i) gets = gets.1
 ungot limit old new bundle service InCore gets = gets.2
-ungot limit old new bundle service CoreNoMemory gets = gets
+ungot limit old new bundle service CoreNoMemory gets = gets.2
 
 -- so it leaves the platform
 pub ungot_whole : (before after : CoreView) (bundle service : ℕ) (fault : CoreFault) → GetsUse before bundle service (Err fault) after → after ≡ before

@@ -97,7 +97,7 @@ grew_none before after commands none grew = grew_same before after [] commands (
 grew_cut_command : (command : Command) (fault : SettleFault) (before after : CoreView) (commands : List Command) → CutsCommand command fault before after commands → Grew before after commands
 grew_cut_command command StillDue before after commands cut = absurd cut
 grew_cut_command command NoRoom before after commands ((same, (is, still)), none) = grew_none before after commands none (grew_not before after (ap (λ (l : _). record { limits = l; journal = after.journal }) same ∙ ap (λ (j : _). record { limits = before.limits; journal = j }) still))
-grew_cut_command command OutOfMemory before after commands (inl (same, none)) = grew_none before after commands none (grew_not before after same)
+grew_cut_command command OutOfMemory before after commands (inl (lacks, (same, none))) = grew_none before after commands none (grew_not before after same)
 grew_cut_command command OutOfMemory before after commands (inr (said, accepts, is)) = grew_same before after (changed before command) commands (sym is) (grew_accepts before after command said accepts)
 
 grew_cut_begin : (fault : SettleFault) (before after : CoreView) → CutsBegin fault before after → Grew before after []

@@ -1,9 +1,12 @@
 -- Refusals of commands.
-use Rattle.std.proofs.Common.{◌≡◌, List, [], refl, subst, Ok, Err, inl, inr}
+use Rattle.std.proofs.Common.{◌≡◌, ◌∙◌, List, [], ap, refl, subst, Ok, Err, inl, inr}
 use Rattle.std.specs.Prelude.{Result}
+use Rattle.journal_core.specs.declared.entry.Entry.{Entry}
 use Rattle.scr_world.specs.declared.command.Command.{Command}
+use Rattle.scr_world.specs.declared.command.Limits.{Limits}
 use Rattle.scr_world.specs.declared.reply.CoreFault.{CoreFault}
 use Rattle.scr_world.specs.declared.reply.CoreFault.TheVariants.{NoBundle, NoComponent, WrongState, Stopping, SameName, Cycle, BundlesFull, ComponentsFull, ServicesFull, ConfigurationsFull, ListenersFull, NoService, NotOwner, NotUsing, NoListener, NoConfiguration, BadPid, FactoryClash, ActivationFailed, ActivationNoMemory, JournalFull as InCore, OutOfMemory as NoMemory}
+use Rattle.scr_world.specs.declared.step.Step.{Step}
 use Rattle.platform_hall.specs.Cores.{CoreView}
 use Rattle.scr_world.specs.Replies.{reply}
 use Rattle.turn_runner.specs.declared.settle_fault.SettleFault.{SettleFault}
@@ -15,7 +18,8 @@ use Rattle.platform_shell.specs.Carries.{CarriesCommand, TellsRefusal}
 use Rattle.platform_shell.specs.Cuts.{CutsCommand}
 
 carries_short : (command : Command) (before after : CoreView) → TakesCommand before command (Err NoMemory) after → (commands : List Command) × CutsCommand command OutOfMemory before after commands
-carries_short command before after (inl same) = ([], inl (same, refl))
+carries_short command before after (inl (same, (lacks, still))) =
+    ([], inl (lacks, (ap (λ (l : Limits). record { limits = l; journal = after.journal }) same ∙ ap (λ (j : List (Entry Step)). record { limits = before.limits; journal = j }) still, refl)))
 carries_short command before after (inr (said, accepts)) = (changed before command, inr (said, accepts, refl))
 
 -- what a refused command comes to

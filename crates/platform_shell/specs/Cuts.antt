@@ -3,6 +3,7 @@ use Rattle.std.specs.Prelude.{◌≡◌, ℕ, List, [], ◌∷◌, Bool, true, f
 use Rattle.callback_orders.specs.declared.callback.Outcome.TheVariants.{NoMemory}
 use Rattle.kind_trait.specs.Meanings.{Told}
 use Rattle.prop_map.specs.declared.properties.Property.{Property}
+use Rattle.scr_world.specs.Replies.{MayLackMemory}
 use Rattle.scr_world.specs.declared.command.Command.{Command}
 use Rattle.scr_world.specs.declared.reply.CoreFault.TheVariants.{JournalFull as InCore}
 use Rattle.scr_world.specs.declared.reply.Reply.{Reply}
@@ -10,7 +11,7 @@ use Rattle.platform_hall.specs.Cores.{CoreView}
 use Rattle.turn_runner.specs.declared.settle_fault.SettleFault.{SettleFault}
 use Rattle.turn_runner.specs.declared.settle_fault.SettleFault.TheVariants.{Unsettled, JournalFull, OutOfMemory}
 use Rattle.platform_hall.specs.declared.finish_fault.FinishFault.TheVariants.{OutOfMemory as NoMemoryLeft}
-use Rattle.platform_hall.specs.Platforms.{Accepts, BeginsTurn, FinishesTurn, TakesCommand}
+use Rattle.platform_hall.specs.Platforms.{Accepts, BeginsTurn, FinishesTurn, TakesCommand, world}
 use Rattle.platform_hall.specs.SettleBounds.{SettlesWithin}
 use Rattle.shell_lang.specs.declared.shell_line.ShellLine.TheVariants.{Command as Commanded, Settle, Begin, Finish, Call}
 use Rattle.shell_lang.specs.declared.shell_reply.ShellReply.{ShellReply}
@@ -22,11 +23,13 @@ use Rattle.platform_shell.specs.Calling.{CutsCall}
 abbrev pub Stays : CoreView → CoreView → List Command → Type 0
 Stays before after commands = (after ≡ before) × (commands ≡ [])
 
--- A command finds no room, which leaves all as it was. Want of memory leaves all as it was, or with the command's entry and some drains.
+-- A command finds no room, which leaves all as it was. Want of memory leaves all as it was, and then hides no refusal but those that
+-- take memory, or it leaves the command's entry and some drains.
 abbrev pub CutsCommand : Command → SettleFault → CoreView → CoreView → List Command → Type 0
 CutsCommand command Unsettled before after commands = ⊥
 CutsCommand command JournalFull before after commands = TakesCommand before command (Err InCore) after × (commands ≡ [])
-CutsCommand command OutOfMemory before after commands = Stays before after commands ⊎ ((reply : Reply) × Accepts before command reply after × (commands ≡ changed before command))
+CutsCommand command OutOfMemory before after commands =
+    (MayLackMemory before.limits.journal (world before) command × Stays before after commands) ⊎ ((reply : Reply) × Accepts before command reply after × (commands ≡ changed before command))
 
 -- the turns of a settling are cut off; on a calm platform where no creation or activation fails, a limit of turns below its bound alone leaves turns due
 abbrev pub CutsSettle : (List ℕ → List Property → Told → Bool) → SettleFault → CoreView → CoreView → Type 0
