@@ -30,5 +30,5 @@ pub returns-in_err-grow_still-clause-answer : goal.returns-in_err-grow_still-cla
 returns-in_err-grow_still-clause-answer c =
     let p = err_from_is_err_and c.from_residual-in_err-grow_still.result c.from_residual-in_err-grow_still.ensures.1 in
     let lacks = get_lacks c.args.journal.now c.args.state.now c.requires.keeps c.args.bundle c.args.service (sym c.in_default.is ∙ c.refusal_of_get.ensures)
-        (sym (c.has_room.ensures c.args.state.now c.requires.keeps) ∙ c.if-not-has_room.false) in
+    (sym (c.has_room.ensures c.args.state.now c.requires.keeps) ∙ c.if-not-has_room.false) in
     rw (p.1, p.2) (subst (λ (j : JournalRows Step). Gets c.args.journal.now.limit c.args.journal.now.entries c.args.bundle c.args.service (Err OutOfMemory) j.entries) (sym c.in_err-grow_still.ensures.as_before) lacks)
