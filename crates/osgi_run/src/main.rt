@@ -5,8 +5,7 @@
 use demonstration_kinds::Demonstration;
 use fault_count::{StdSink, StdSource};
 use file_lines::{FileLines, StandardPrompt, StdFiles};
-use platform_shell::{Status, run_program};
-use shell_terminal::Terminal;
+use shell_terminal::{Status, Terminal, run_program};
 use std::io::{ErrorKind, IsTerminal};
 use std::process::ExitCode;
 use std::rt::Env;

@@ -1,12 +1,12 @@
 -- The sessions that a thread of a server holds of the connections of one door, one after the other, in the one history. Our own.
 use Rattle.std.specs.Prelude.{◌≡◌, ◌<◌, ℕ, List, [], ◌∷◌, length, Option}
-use Rattle.platform_sessions.specs.Halls.{View}
 use Rattle.session_doors.specs.Doors.{AddsAll, TakesAll}
+use Rattle.session_doors.specs.Halls.{View}
+use Rattle.session_doors.specs.Items.{Setting}
+use Rattle.session_doors.specs.Sessions.{FaultsAt, HasServedOver, read_faults_after, write_faults_after}
 use Rattle.session_doors.specs.declared.finished.Finished.{Finished}
 use Rattle.session_server.specs.declared.door_loop.DoorEnd.{DoorEnd}
 use Rattle.session_server.specs.declared.door_loop.DoorEnd.TheVariants.{Served, AcceptFault}
-use Rattle.session_shell.specs.Items.{Setting}
-use Rattle.session_shell.specs.Sessions.{FaultsAt, HasServedOver, read_faults_after, write_faults_after}
 
 -- what is told of the two ends of a connection: the bytes that are left and those that were written, and how often each end failed
 pub record Ends (I O : Type 0) : Type 0 where

@@ -1,15 +1,15 @@
 //! The loop of one door.
 ghost use Rattle.fault_count.specs.Steps.{Rose};
 ghost use Rattle.hall_goings.specs.Went.{Went};
-ghost use Rattle.platform_sessions.specs.Halls.{Own};
+ghost use Rattle.session_doors.specs.Halls.{IsOf, KeepsPass, Own};
 ghost use Rattle.session_server.specs.Holding.{Holds, ServesDoor};
-ghost use Rattle.session_shell.specs.Halls.{IsOf, KeepsPass};
 ghost use Rattle.std.specs.Prelude.{◌≡◌, ◌≤◌};
 
 use fault_count::{Sink, Source};
 use kind_trait::Kinds;
-use session_doors::{Door, Doors, Finished};
-use session_shell::{Hall, HallPass, SessionKind, SessionNotes, serve_session};
+use session_doors::{
+    Door, Doors, Finished, Hall, HallPass, SessionKind, SessionNotes, serve_session,
+};
 use std::alloc::Global;
 use std::sync::Wait;
 
