@@ -1,5 +1,5 @@
-//! The program: the words of the command line, standard input, whose lines may name files, and standard output, over the
-//! component code of the demonstration. How a run ended is told on standard error.
+//! The program: the words of the command line, standard input, whose lines may name files, and standard output, over
+//! the component code of the demonstration. How a run ended is told on standard error.
 #![tactic(auto)]
 
 use demonstration_kinds::Demonstration;

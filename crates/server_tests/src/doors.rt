@@ -9,7 +9,7 @@ use std::sync::Wait;
 
 // Installs a bundle with a component.
 const INSTALLS: &str =
-    "install {\"location\":\"p\",\"components\":{\"p\":{\"name\":\"p\",\"implementationClass\":\"P\"}}}\nquit\nbundles\n";
+    "install {\"location\":\"p\",\"components\":{\"p\":{\"implementationClass\":\"P\"}}}\nquit\nbundles\n";
 
 // How a session ends, how many items it notes, and what it writes.
 type Told = (SessionEnd, usize, &'static [u8]);
