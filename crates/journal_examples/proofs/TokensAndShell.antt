@@ -17,6 +17,7 @@ use Rattle.scr_world.specs.declared.command.Command.TheVariants.{Install, Update
 use Rattle.scr_world.specs.declared.reply.CoreFault.TheVariants.{NoBundle, NoComponent, WrongState, Stopping, SameName, Cycle, BundlesFull, ComponentsFull, ServicesFull, ConfigurationsFull, ListenersFull, NoService, NotOwner, NotUsing, NoListener, NoConfiguration, BadPid, FactoryClash, ActivationFailed, ActivationNoMemory, JournalFull}
 use Rattle.scr_world.specs.declared.reply.Reply.TheVariants.{Done as IsDone, Bundle as InBundle, Service as AsService, Uses as WithUses, Listener as AsListener}
 use Rattle.scr_world.specs.Steps.{History}
+use Rattle.scr_world.specs.declared.marks.Token.{Token}
 use Rattle.scr_world.specs.declared.world.World.{World}
 use Rattle.journal_examples.proofs.Laws.{laws}
 use Rattle.journal_examples.proofs.Meanings.{legal_means}
@@ -91,12 +92,15 @@ no_release : map (λ (w : World). may_come w (Released 5)) all ≡ (false ∷ fa
 unfolding world_after_entry world_of world_after_step stage_in stage_of stopped_in stopped_by shut_between has_room satisfied_in
 no_release = refl
 
+abbrev got : ℕ → Token
+got place = record { place = place; bundle = 2; service = 1 }
+
 -- two tokens of one service for one bundle, each at the place of its entry: one is released, the other stays
-two_tokens : map (has_token (newest (worlds past9))) (4 ∷ 5 ∷ 6 ∷ 7 ∷ []) ≡ (false ∷ true ∷ true ∷ false ∷ [])
+two_tokens : map (λ (place : ℕ). has_token (newest (worlds past9)) (got place)) (4 ∷ 5 ∷ 6 ∷ 7 ∷ []) ≡ (false ∷ true ∷ true ∷ false ∷ [])
 unfolding world_after_entry world_of world_after_step stage_in stage_of stopped_in stopped_by shut_between has_room satisfied_in
 two_tokens = refl
 
-one_token : map (has_token (newest (worlds past10))) (5 ∷ 6 ∷ []) ≡ (true ∷ false ∷ [])
+one_token : map (λ (place : ℕ). has_token (newest (worlds past10)) (got place)) (5 ∷ 6 ∷ []) ≡ (true ∷ false ∷ [])
 unfolding world_after_entry world_of world_after_step stage_in stage_of stopped_in stopped_by shut_between has_room satisfied_in
 one_token = refl
 

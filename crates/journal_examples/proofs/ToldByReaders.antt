@@ -1,5 +1,5 @@
 -- What readers tell beside numbers and states: names, versions and the order of services; and the gate, the token and the room of a service with an instance. Derived by hand.
-use Rattle.std.specs.Prelude.{◌≡◌, refl, List, [], ◌∷◌, codes, true, false, Some, None}
+use Rattle.std.specs.Prelude.{◌≡◌, refl, ℕ, List, [], ◌∷◌, codes, true, false, Some, None}
 use Rattle.component_dto.specs.declared.description.Scope.TheVariants.{Singleton}
 use Rattle.component_dto.specs.declared.description.ConfigurationPolicy.TheVariants.{Optional}
 use Rattle.bundle_doc.specs.declared.document.BundleDoc.{BundleDoc}
@@ -9,6 +9,7 @@ use Rattle.callback_orders.specs.declared.callback.Outcome.TheVariants.{Done}
 use Rattle.scr_world.specs.declared.step.Step.TheVariants.{Command as Commanded, Begin, End, Drained, Got, Released}
 use Rattle.scr_world.specs.declared.command.Command.TheVariants.{Install, Start, Stop, Register, Get}
 use Rattle.scr_world.specs.Steps.{History}
+use Rattle.scr_world.specs.declared.marks.Token.{Token}
 use Rattle.scr_world.specs.declared.world.World.{World}
 use Rattle.journal_examples.proofs.Laws.{laws}
 use Rattle.journal_examples.proofs.Meanings.{legal_means}
@@ -152,12 +153,15 @@ which_drain : map next_drain (active ∷ stopping ∷ []) ≡ (None ∷ Some (re
 unfolding world_after_entry world_of world_after_step stage_in stage_of stopped_in stopped_by shut_between has_room satisfied_in
 which_drain = refl
 
--- a get by token stands at the place of its entry, and ends with its service
-which_token : map (has_token active) (10 ∷ 2 ∷ 1 ∷ []) ≡ (true ∷ false ∷ false ∷ [])
+abbrev got : ℕ → ℕ → ℕ → Token
+got place bundle service = record { place = place; bundle = bundle; service = service }
+
+-- a get by token stands at the place of its entry, for its bundle and its service alone, and ends with its service
+which_token : map (has_token active) (got 10 2 2 ∷ got 2 2 2 ∷ got 10 1 2 ∷ got 10 2 1 ∷ []) ≡ (true ∷ false ∷ false ∷ false ∷ [])
 unfolding world_after_entry world_of world_after_step stage_in stage_of stopped_in stopped_by shut_between has_room satisfied_in
 which_token = refl
 
-no_token : has_token stopping 10 ≡ false
+no_token : has_token stopping (got 10 2 2) ≡ false
 unfolding world_after_entry world_of world_after_step stage_in stage_of stopped_in stopped_by shut_between has_room satisfied_in
 no_token = refl
 

@@ -47,7 +47,7 @@ module _ (limit : ℕ) (past : History) (legal : IsLegal limit past) where
       }
 
   by_note : (note : Token) (live : Live) → outer w note ≡ ToOuter live → IsActiveAt w live.instance
-  by_note note live is = go (has_token w note.place) (is_direct w note.service) is
+  by_note note live is = go (has_token w note) (is_direct w note.service) is
     where
       go : (stands direct : Bool) → (if not stands then UseGone else (if direct then UseNoObject else outer_by (active_for (world_of past) note.bundle note.service))) ≡ ToOuter live → IsActiveAt (world_of past) live.instance
       go false direct told = cc

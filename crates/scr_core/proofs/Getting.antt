@@ -21,7 +21,7 @@ use Rattle.scr_world.specs.declared.step.Step.{Step}
 use Rattle.scr_world.specs.declared.step.Step.TheVariants.{Got}
 use Rattle.scr_world.specs.declared.world.World.{World}
 
--- ---- no refusal of a get is one for want of room
+-- ---- no refusal of a get is one for want of room or of memory
 
 abbrev is_room : CoreFault → Bool
 is_room JournalFull = true

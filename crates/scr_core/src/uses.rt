@@ -1,9 +1,7 @@
 //! Gets by token (OSGi Core 8, chapter 5, "Getting Services"; tokens are our own).
 ghost use Rattle.scr_state.specs.Keeps.{Keeps};
-ghost use Rattle.scr_world.specs.Calls.{EndsUse, Gets, has_token};
-ghost use Rattle.scr_world.specs.declared.marks.Token.{Token};
-ghost use Rattle.std.specs.List.{list_any};
-ghost use Rattle.std.specs.Prelude.{◌≡◌, ◌==◌, IfOk, OnErr};
+ghost use Rattle.scr_world.specs.Calls.{EndsUse, Gets};
+ghost use Rattle.std.specs.Prelude.{◌≡◌, IfOk, OnErr};
 
 use crate::generic::let_go;
 use crate::room::has_room;
@@ -15,7 +13,7 @@ use scr_serving::refusal_of_get;
 use scr_state::State;
 use scr_still::grow_still;
 use scr_turns::turn_draft;
-use scr_world::{CoreFault, Step, Token, World};
+use scr_world::{CoreFault, Step, Token, has_token};
 use std::alloc::Global;
 
 /// Gets a service for a bundle by a token.
@@ -54,19 +52,6 @@ pub(crate) fn get(
     }))
 }
 
-// Whether a get by token stands.
-fn has_token(world: &World, place: u64) -> bool
-    ensures { result ≡ has_token world.now place }
-{
-    stands(world.tokens.as_slice(), place)
-}
-
-fn stands(tokens: &[Token], place: u64) -> bool
-    ensures { result ≡ list_any (λ (t : Token). t.place == place) tokens.now }
-{
-    tokens.iter().any(|token| token.place == place)
-}
-
 /// Releases a get by token, and answers whether it stood.
 pub(crate) fn release(
     alloc: Global,
@@ -80,7 +65,7 @@ pub(crate) fn release(
     ensures ok { IfOk result (λ stood. EndsUse journal.old.limit journal.old.entries note.now stood journal.new.entries) }
     ensures err { OnErr result (journal.new ≡ journal.old) }
 {
-    if !has_token(&state.world, note.place) {
+    if !has_token(&state.world, note) {
         return Ok(false);
     }
     // This lets the proof know that what is reserved has room.

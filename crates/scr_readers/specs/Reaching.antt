@@ -75,7 +75,7 @@ outer_by (Some live) = UseLive live
 
 -- whom a call by a get reaches: nobody where the get stands no more, where the service has no object, or where its instance isn't active
 abbrev pub outer : World → Token → Outer
-outer w note = if not (has_token w note.place) then UseGone else (if is_direct w note.service then UseNoObject else outer_by (active_for w note.bundle note.service))
+outer w note = if not (has_token w note) then UseGone else (if is_direct w note.service then UseNoObject else outer_by (active_for w note.bundle note.service))
 
 -- ---- nested calls
 

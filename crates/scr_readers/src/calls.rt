@@ -2,9 +2,7 @@
 ghost use Rattle.scr_readers.specs.Inside.{first_one};
 ghost use Rattle.scr_readers.specs.Reaching.{active_for, held_best_first, inward, inward_by, inward_to, is_direct, live_of, outer, server_of};
 ghost use Rattle.scr_world.specs.Views.{bundle_of_instance};
-ghost use Rattle.scr_world.specs.declared.marks.Token.{Token};
 ghost use Rattle.service_registry.specs.declared.row.ServiceRow.{ServiceRow};
-ghost use Rattle.std.specs.List.{list_any};
 ghost use Rattle.std.specs.Option.{option_copied, option_map_or};
 ghost use Rattle.std.specs.Prelude.{◌≡◌, ◌==◌, ℕ, List, false, IfOk, if◌then◌else◌};
 
@@ -13,7 +11,7 @@ use crate::instances::{active_server, server_of};
 use crate::{Inward, Live, Outer};
 use prop_map::{Copies, OutOfMemory, Str};
 use scr_dues::{OwnRows, bundle_of_instance, class_in, instance_of, row_known};
-use scr_world::{Instance, Token, World, ends};
+use scr_world::{Instance, Token, World, ends, has_token};
 use service_registry::ServiceRow;
 use std::alloc::Global;
 use turn_work::Site;
@@ -45,7 +43,7 @@ pub fn active(
 pub fn outer(alloc: Global, own: &OwnRows, world: &World, get: &Token) -> Result<Outer, OutOfMemory>
     ensures { IfOk result (λ reached. reached ≡ outer world.now get.now) }
 {
-    if !stands(world.tokens.as_slice(), get.place) {
+    if !has_token(world, get) {
         return Ok(Outer::Gone);
     }
     if is_direct(own, world, get.service) {
@@ -130,13 +128,6 @@ fn inward_to(
         }
         _ => Ok(Inward::Gone { service }),
     }
-}
-
-/// Whether a get by token stands.
-pub(crate) fn stands(tokens: &[Token], place: u64) -> bool
-    ensures { result ≡ list_any (λ (t : Token). t.place == place) tokens.now }
-{
-    tokens.iter().any(|token| token.place == place)
 }
 
 /// Whether there is no object behind a service, as it is or as it left.

@@ -7,12 +7,12 @@ ghost use Rattle.scr_world.specs.Views.{bundle_of_instance};
 ghost use Rattle.std.specs.Prelude.{◌≡◌, ℕ, List, option_map, if◌then◌else◌};
 
 use crate::best_held::best_held;
-use crate::calls::{is_direct, stands};
+use crate::calls::is_direct;
 use crate::instances::{active_server, server_of};
 use crate::{InwardAt, LiveAt, OuterAt};
 use prop_map::Str;
 use scr_dues::{OwnRows, bundle_of_instance, instance_of};
-use scr_world::{Instance, Token, World, ends};
+use scr_world::{Instance, Token, World, ends, has_token};
 
 /// The active instance that a bundle uses of a service, and `None` exactly where there is none. Each slot has to be a number
 /// of 32 bits, as it is in each legal journal. It takes no memory.
@@ -29,7 +29,7 @@ pub fn active_at(world: &World, service: u64, bundle: u64) -> Option<LiveAt>
 pub fn outer_at(own: &OwnRows, world: &World, get: &Token) -> OuterAt
     ensures { result ≡ outer_at (outer world.now get.now) }
 {
-    if !stands(world.tokens.as_slice(), get.place) {
+    if !has_token(world, get) {
         return OuterAt::Gone;
     }
     if is_direct(own, world, get.service) {

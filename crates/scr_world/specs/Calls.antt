@@ -82,11 +82,15 @@ Gets limit old bundle service (Err OutOfMemory) new = (refusal (world_at old) (G
 Gets limit old bundle service (Err JournalFull) new = (refusal (world_at old) (Get bundle service) ≡ None) × (has_room limit (world_at old) 2 ≡ false) × (new ≡ old)
 Gets limit old bundle service (Err fault) new = (refusal (world_at old) (Get bundle service) ≡ Some fault) × (new ≡ old)
 
--- a get by token that stands
-abbrev pub has_token : World → ℕ → Bool
-has_token w place = list_any (λ (t : Token). t.place == place) w.tokens
+-- these two are one get by token: its entry stands at one place, and it is of one bundle and of one service
+abbrev pub is_token : Token → Token → Bool
+is_token note t = (t.place == note.place) && ((t.bundle == note.bundle) && (t.service == note.service))
+
+-- a get by token stands
+abbrev pub has_token : World → Token → Bool
+has_token w note = list_any (is_token note) w.tokens
 
 -- it is released where it stands
 abbrev pub EndsUse : ℕ → List (Entry Step) → Token → Bool → List (Entry Step) → Type 0
-EndsUse limit old note true new = (has_token (world_at old) note.place ≡ true) × Grown limit old (Released note.place) new
-EndsUse limit old note false new = (has_token (world_at old) note.place ≡ false) × (new ≡ old)
+EndsUse limit old note true new = (has_token (world_at old) note ≡ true) × Grown limit old (Released note.place) new
+EndsUse limit old note false new = (has_token (world_at old) note ≡ false) × (new ≡ old)

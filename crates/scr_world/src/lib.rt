@@ -11,6 +11,7 @@ mod lines;
 mod marks;
 mod reply;
 mod step;
+mod tokens;
 mod turn;
 mod world;
 
@@ -23,5 +24,6 @@ pub use lines::{BundleLine, ComponentLine, HeldLine, TurnLine};
 pub use marks::{Failure, Token};
 pub use reply::{Accepted, CoreFault, Reply};
 pub use step::Step;
+pub use tokens::has_token;
 pub use turn::Ended;
 pub use world::World;
