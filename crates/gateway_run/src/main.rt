@@ -1,13 +1,12 @@
-//! A program over component code of one's own, to be copied: that of the gateway. It hands the words of the command line,
-//! standard input, whose lines may name files, and standard output to `run_program`, which makes a platform with the code,
-//! and hands it to `run_told`. How a run ended is told on standard error.
+//! A program over component code of one's own, to be copied: that of the gateway. It hands the words of the command
+//! line, standard input, whose lines may name files, and standard output to `run_program`, which makes a platform with
+//! the code, and hands it to `run_told`. How a run ended is told on standard error.
 #![tactic(auto)]
 
 use fault_count::{StdSink, StdSource};
 use file_lines::{FileLines, StandardPrompt, StdFiles};
 use gateway::Gateway;
-use platform_shell::{Status, run_program};
-use shell_terminal::Terminal;
+use shell_terminal::{Status, Terminal, run_program};
 use std::io::{ErrorKind, IsTerminal};
 use std::process::ExitCode;
 use std::rt::Env;

@@ -9,3 +9,9 @@ pub mod Counts
 mod Told
 pub mod Turning
 pub mod Placed
+pub use Rattle.platform_hall.proofs.Desks
+pub use Rattle.platform_hall.proofs.Lists
+pub use Rattle.platform_hall.proofs.Settlings
+pub use Rattle.platform_hall.proofs.Starts
+pub use Rattle.platform_hall.proofs.Steps
+pub use Rattle.platform_hall.proofs.Turns

@@ -2,3 +2,4 @@ pub mod Cores
 pub mod Owned
 pub mod Locks
 pub mod Parts
+pub use Rattle.platform_hall.specs.Platforms

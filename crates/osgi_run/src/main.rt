@@ -1,12 +1,11 @@
-//! The program: the words of the command line, standard input, whose lines may name files, and standard output, over the
-//! component code of the demonstration. How a run ended is told on standard error.
+//! The program: the words of the command line, standard input, whose lines may name files, and standard output, over
+//! the component code of the demonstration. How a run ended is told on standard error.
 #![tactic(auto)]
 
 use demonstration_kinds::Demonstration;
 use fault_count::{StdSink, StdSource};
 use file_lines::{FileLines, StandardPrompt, StdFiles};
-use platform_shell::{Status, run_program};
-use shell_terminal::Terminal;
+use shell_terminal::{Status, Terminal, run_program};
 use std::io::{ErrorKind, IsTerminal};
 use std::process::ExitCode;
 use std::rt::Env;

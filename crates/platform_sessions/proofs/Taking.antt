@@ -12,7 +12,7 @@ use Rattle.hall_locked.specs.Owned.{entries_in}
 use Rattle.hall_locked.specs.declared.owed.Owed.{Owed}
 use Rattle.journal_core.specs.declared.entry.Entry.{Entry}
 use Rattle.journal_core.specs.declared.entry.GateKey.{GateKey}
-use Rattle.platform_hall.specs.Platforms.{CoreTakes, has_drain, world}
+use Rattle.hall_locked.specs.Platforms.{CoreTakes, has_drain, world}
 use Rattle.platform_sessions.specs.Commands.{Appended, IsDrain, IsOwed, Posts, Refused, TookCommand, Unchanged}
 use Rattle.platform_sessions.specs.Halls.{View}
 use Rattle.platform_sessions.proofs.Stretches.{core_is, journal_is, journal_was, longer_by_one, looked, near, none_more, one_more, went_by}

@@ -1,0 +1,2 @@
+pub use Rattle.session_shell.proofs.SessionGoings
+pub use Rattle.session_shell.proofs.Stretches

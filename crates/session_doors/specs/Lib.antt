@@ -1,2 +1,5 @@
 pub mod Doors
 pub mod Memory
+pub use Rattle.session_shell.specs.Halls
+pub use Rattle.session_shell.specs.Items
+pub use Rattle.session_shell.specs.Sessions

@@ -1,1 +1,2 @@
 pub mod Holding
+pub use Rattle.session_doors.specs.Halls

@@ -5,3 +5,5 @@ pub mod Reached
 pub mod Endings
 pub mod Goings
 pub mod Sends
+pub mod SessionGoings
+pub use Rattle.platform_sessions.proofs.Stretches

@@ -1,6 +1,7 @@
 //! What a program of shell lines tells people: the texts that its words ask for, and sentences on standard error.
 //!
-//! A [`Terminal`] is told of a run. No clause speaks of its texts, and a write to standard error that fails is passed over.
+//! A [`Terminal`] is told of a run. No clause speaks of its texts, and a write to standard error that fails is passed
+//! over. The run itself, [`run_program`], is passed on.
 #![tactic(auto)]
 
 mod argument;
@@ -17,4 +18,5 @@ mod refusal_hints;
 mod sentences;
 mod terminal;
 
+pub use platform_shell::{Status, run_program};
 pub use terminal::Terminal;

@@ -1,4 +1,4 @@
--- Over a session, and over the sessions of a door, a pass goes on in the one history.
+-- Over a session a pass goes on in the one history.
 use Rattle.std.proofs.Common.{◌≡◌, ◌++◌, ℕ, List, [], ◌∷◌, sym, subst, Ok, Err, Some, inl, inr}
 use Rattle.std.specs.declared.option.Option.{Option}
 use Rattle.hall_goings.specs.Went.{Went}
