@@ -85,7 +85,7 @@ with_journal p journal = record { limits = p.limits; journal = journal }
 
 grew_drained : (count : ℕ) (before : CoreView) (journal : List (Entry Step)) → Drained before.limits.journal count before.journal journal → Grew before (with_journal before journal) []
 grew_drained zero before journal same = grew_not before (with_journal before journal) (ap (with_journal before) same)
-grew_drained (suc count) before journal (between, key, drained, (i, found, grown)) =
+grew_drained (suc count) before journal (between, key, next, drained, (i, found, grown)) =
     grew_behind before (with_journal before between) (with_journal before journal) [] (grew_drained count before between drained)
     (grew_step (with_journal before between) (with_journal before journal) (DrainStep i.number) [] refl grown refl)
 

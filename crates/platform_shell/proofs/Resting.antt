@@ -67,7 +67,7 @@ outstanding_grown limit old new step grown =
 
 drained_still : (limit count : ℕ) (old new : List (Entry Step)) → Drained limit count old new → outstanding_at new ≡ outstanding_at old
 drained_still limit zero old new same = ap outstanding_at same
-drained_still limit (suc count) old new (between, key, drained, (i, found, grown)) =
+drained_still limit (suc count) old new (between, key, next, drained, (i, found, grown)) =
     outstanding_grown limit between new (DrainStep i.number) grown
     ∙ ap (λ b. is_outstanding (world_at between).whiteboard.callbacks || b) (drained_ones i.number (world_at between).instances)
     ∙ drained_still limit count old between drained
