@@ -150,7 +150,7 @@ module _ {O : Type 0} (p q : View) (before after : LockedView O) (kept : List (�
     refused_so (ActivationFailed i) t = by_refusal (ActivationFailed i) (ActivationFailed i) t.0 t.0 t.1
     refused_so (ActivationNoMemory i) t = by_refusal (ActivationNoMemory i) (ActivationNoMemory i) t.0 t.0 t.1
     refused_so JournalFull t = by_refusal JournalFull JournalFull t.0 t.0 t.1
-    refused_so OutOfMemory stays = looked p q before after kept apart goes same (none_more p q before after kept apart goes same a stays)
+    refused_so OutOfMemory t = looked p q before after kept apart goes same (none_more p q before after kept apart goes same a t.1)
 
     -- what the core answered, for the pass
     pub took : (answer : Result (Accepted × Option Owed) CoreFault) → Answered before after command answer → TookCommand limits p q command answer (length q.seen)

@@ -23,7 +23,8 @@ use std::alloc::Global;
 ///
 /// # Errors
 /// The first refusal of the command whose condition holds, last `JournalFull`, where the journal has no room for the entry of a
-/// command that changes something. Of a command `OutOfMemory` comes only for want of memory, at any time.
+/// command that changes something. Of a command `OutOfMemory` comes only for want of memory, and hides none of these but
+/// `NoComponent`, `Cycle`, `ComponentsFull` and what stands behind one of them.
 pub fn judge(
     alloc: Global,
     journal: &Journal<Step>,

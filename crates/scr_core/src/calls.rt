@@ -22,9 +22,10 @@ impl Core {
     /// it is.
     ///
     /// # Errors
-    /// The first refusal of the command whose condition holds; last comes `JournalFull`, where the journal has no room for the entry of
-    /// a command that changes something. `OutOfMemory` comes only for want of memory, at any time. A refused command leaves all as it
-    /// was.
+    /// The first refusal of the command whose condition holds; last comes `JournalFull`, where the journal has no room
+    /// for the entry of a command that changes something. `OutOfMemory` comes only for want of memory, and hides none of
+    /// these but `NoComponent`, `Cycle`, `ComponentsFull` and what stands behind one of them. A refused command leaves
+    /// all as it was.
     pub fn command(&mut self, alloc: Global, command: Command) -> Result<Accepted, CoreFault>
         ensures answer { Commands self.old.limits.journal self.old.journal command result self.new.journal }
         ensures limits { self.new.limits ≡ self.old.limits }

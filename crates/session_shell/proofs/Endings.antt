@@ -5,8 +5,8 @@ use Rattle.std.specs.declared.option.Option.{Option}
 use Rattle.std.specs.Io.KnownBytes.{Appends}
 use Rattle.std.proofs.KnownBytes.{Appends-nil}
 use Rattle.platform_sessions.specs.Halls.{View}
-use Rattle.platform_shell.specs.Reading.{NextLine}
-use Rattle.platform_shell.specs.declared.line_input.LineStep.TheVariants.{Line as OfLine}
+use Rattle.script_shell.specs.Reading.{NextLine}
+use Rattle.script_shell.specs.declared.line_input.LineStep.TheVariants.{Line as OfLine}
 use Rattle.shell_lang.specs.ShellLines.{Asked, is_quit, shell_line}
 use Rattle.session_shell.specs.Answers.{AnswersLine, Serves, TellsItem, end_of}
 use Rattle.session_shell.specs.Items.{ServesLine, Setting}

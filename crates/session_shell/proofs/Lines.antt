@@ -6,7 +6,7 @@ use Rattle.hall_goings.specs.Went.{Went}
 use Rattle.platform_sessions.specs.Commands.{TakesCommand}
 use Rattle.platform_sessions.specs.Halls.{View, core_seen}
 use Rattle.platform_sessions.specs.Works.{Works}
-use Rattle.platform_shell.specs.Looks.{Looks, is_look}
+use Rattle.script_shell.specs.Looks.{Looks, is_look}
 use Rattle.scr_world.specs.declared.command.Command.{Command as CoreCommand}
 use Rattle.scr_world.specs.declared.reply.CoreFault.{CoreFault}
 use Rattle.scr_world.specs.declared.reply.CoreFault.TheVariants.{NoBundle, NoComponent, WrongState, Stopping, SameName, Cycle, BundlesFull, ComponentsFull, ServicesFull, ConfigurationsFull, ListenersFull, NoService, NotOwner, NotUsing, NoListener, NoConfiguration, BadPid, FactoryClash, ActivationFailed, ActivationNoMemory, JournalFull as InCore, OutOfMemory as NoMemoryThere}

@@ -5,12 +5,12 @@ use Rattle.std.specs.Io.KnownBytes.{Appends}
 use Rattle.std.proofs.KnownBytes.{Appends-trans, Appends-nil}
 use Rattle.fault_count.specs.Steps.{next_count}
 use Rattle.platform_sessions.specs.Halls.{View}
-use Rattle.platform_shell.specs.Lines.{Line, lines_of, longest_line}
-use Rattle.platform_shell.specs.Reading.{NextLine, Tells}
-use Rattle.platform_shell.specs.Runs.{script_lines}
-use Rattle.platform_shell.specs.declared.line_input.LineStep.TheVariants.{Line as OfLine, TooLong, End}
-use Rattle.platform_shell.proofs.Progress.{long_line, short_line}
-use Rattle.platform_shell.proofs.ReadingLemmas.{some_told}
+use Rattle.script_shell.specs.Lines.{Line, lines_of, longest_line}
+use Rattle.script_shell.specs.Reading.{NextLine, Tells}
+use Rattle.script_shell.specs.Runs.{script_lines}
+use Rattle.script_shell.specs.declared.line_input.LineStep.TheVariants.{Line as OfLine, TooLong, End}
+use Rattle.script_shell.proofs.Progress.{long_line, short_line}
+use Rattle.script_shell.proofs.ReadingLemmas.{some_told}
 use Rattle.shell_lang.specs.ShellLines.{is_quit, shell_line}
 use Rattle.session_shell.specs.Items.{ServesLine, Setting, noted}
 use Rattle.session_shell.specs.Sessions.{HasServed, HasServedOver, IsLinesEnd, ServedLines, Stops, lines_end, texts}

@@ -5,11 +5,11 @@ use Rattle.std.specs.Io.KnownBytes.{Appends}
 use Rattle.std.proofs.KnownBytes.{Consumes-nil, Consumes-trans}
 use Rattle.fault_count.specs.Steps.{next_count}
 use Rattle.platform_sessions.specs.Halls.{View}
-use Rattle.platform_shell.specs.Lines.{lines_of}
-use Rattle.platform_shell.specs.Reading.{LineRead, NextLine, not_yet_read}
-use Rattle.platform_shell.specs.Runs.{script_lines}
-use Rattle.platform_shell.specs.declared.line_input.LineStep.TheVariants.{Line as OfLine, Failed}
-use Rattle.platform_shell.proofs.Reached.{ReadSoFar, line_more}
+use Rattle.script_shell.specs.Lines.{lines_of}
+use Rattle.script_shell.specs.Reading.{LineRead, NextLine, not_yet_read}
+use Rattle.script_shell.specs.Runs.{script_lines}
+use Rattle.script_shell.specs.declared.line_input.LineStep.TheVariants.{Line as OfLine, Failed}
+use Rattle.script_shell.proofs.Reached.{ReadSoFar, line_more}
 use Rattle.shell_lang.specs.ShellLines.{is_quit, shell_line}
 use Rattle.session_shell.specs.Items.{ServesLine, Setting, noted}
 use Rattle.session_shell.specs.Sessions.{Faulted, texts}

@@ -3,8 +3,8 @@ use Rattle.std.specs.Prelude.{◌≡◌, ◌≢◌, ◌<◌, ℕ, true, List, []
 use Rattle.std.specs.Io.KnownBytes.{Appends}
 use Rattle.hall_goings.specs.Went.{Went}
 use Rattle.platform_sessions.specs.Halls.{View}
-use Rattle.platform_shell.specs.Looks.{Looks}
-use Rattle.platform_shell.specs.Refusals.{is_told}
+use Rattle.script_shell.specs.Looks.{Looks}
+use Rattle.script_shell.specs.Refusals.{is_told}
 use Rattle.platform_sessions.specs.Cores.{CoreView}
 use Rattle.scr_world.specs.declared.reply.CoreFault.{CoreFault}
 use Rattle.scr_world.specs.declared.reply.CoreFault.TheVariants.{JournalFull as InCore, OutOfMemory as NoMemoryThere}

@@ -6,9 +6,9 @@ use Rattle.kind_trait.specs.Meanings.{Told}
 use Rattle.platform_sessions.specs.Commands.{TakesCommand}
 use Rattle.platform_sessions.specs.Halls.{View, core_seen}
 use Rattle.platform_sessions.specs.Works.{Works}
-use Rattle.platform_shell.specs.Asks.{command_reply}
-use Rattle.platform_shell.specs.Looks.{Looks}
-use Rattle.platform_shell.specs.Refusals.{IsAnswer}
+use Rattle.script_shell.specs.Asks.{command_reply}
+use Rattle.script_shell.specs.Looks.{Looks}
+use Rattle.script_shell.specs.Refusals.{IsAnswer}
 use Rattle.prop_map.specs.declared.properties.Property.{Property}
 use Rattle.scr_world.specs.declared.command.Command.{Command}
 use Rattle.scr_world.specs.declared.command.Limits.{Limits}

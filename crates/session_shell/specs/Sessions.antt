@@ -6,9 +6,9 @@ use Rattle.hall_goings.specs.Went.{Went}
 use Rattle.platform_sessions.specs.Commands.{TakesCommand}
 use Rattle.platform_sessions.specs.Halls.{View}
 use Rattle.platform_sessions.specs.Works.{Works}
-use Rattle.platform_shell.specs.Lines.{Line, is_too_long, lines_of, longest_line}
-use Rattle.platform_shell.specs.Reading.{NoLineFeed, Tells}
-use Rattle.platform_shell.specs.Runs.{script_lines}
+use Rattle.script_shell.specs.Lines.{Line, is_too_long, lines_of, longest_line}
+use Rattle.script_shell.specs.Reading.{NoLineFeed, Tells}
+use Rattle.script_shell.specs.Runs.{script_lines}
 use Rattle.scr_world.specs.declared.reply.CoreFault.TheVariants.{JournalFull as InCore, OutOfMemory as NoMemoryThere}
 use Rattle.shell_lang.specs.ReplyTexts.{reply_text}
 use Rattle.shell_lang.specs.ShellLines.{Asked, is_quit, shell_line}

@@ -1,10 +1,10 @@
 //! What a line asks that only looks, answered in one turn at the lock.
-ghost use Rattle.platform_shell.specs.Looks.{is_look};
+ghost use Rattle.script_shell.specs.Looks.{is_look};
 ghost use Rattle.session_shell.specs.Answers.{IsLooked, LooksAt};
 ghost use Rattle.std.specs.Prelude.{◌≡◌, true};
 
 use platform_sessions::{Core, Look};
-use platform_shell::look_at;
+use script_shell::look_at;
 use shell_lang::{ShellLine, ShellReply};
 use std::alloc::Global;
 use turn_runner::SettleFault;

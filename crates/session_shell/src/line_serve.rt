@@ -1,7 +1,7 @@
 //! A line, served: what it asks is asked of the hall, in one turn at the lock or, for turns that run, in several.
 ghost use Rattle.platform_sessions.specs.Halls.{IsOf, KeepsPass};
-ghost use Rattle.platform_shell.specs.Asks.{command_reply};
-ghost use Rattle.platform_shell.specs.Looks.{is_look};
+ghost use Rattle.script_shell.specs.Asks.{command_reply};
+ghost use Rattle.script_shell.specs.Looks.{is_look};
 ghost use Rattle.session_shell.specs.Answers.{LooksOr, Serves, ServesOr, StopsBy, TellsFault};
 ghost use Rattle.session_shell.specs.Items.{ServesCommand, ServesSettle, line_at};
 ghost use Rattle.shell_lang.specs.ShellLines.{is_quit};
@@ -12,9 +12,9 @@ use crate::line_look::LineLook;
 use crate::line_stop::LineStop;
 use kind_trait::Kinds;
 use platform_sessions::{Hall, HallPass};
-use platform_shell::is_look;
 use prop_map::List;
 use scr_world::{Command, CoreFault, Reply};
+use script_shell::is_look;
 use shell_lang::{LineFault, Refusal, ShellLine, ShellReply};
 use std::alloc::Global;
 use std::sync::Wait;

@@ -8,7 +8,7 @@ use crate::{SessionEnd, SessionNotes};
 use fault_count::{Sink, Source};
 use kind_trait::Kinds;
 use platform_sessions::{Hall, HallPass};
-use platform_shell::{AskStep, LineStep, ReadAhead, next_line, read_ask};
+use script_shell::{AskStep, LineStep, ReadAhead, next_line, read_ask};
 use std::alloc::Global;
 use std::sync::Wait;
 

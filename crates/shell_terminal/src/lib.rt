@@ -18,5 +18,5 @@ mod refusal_hints;
 mod sentences;
 mod terminal;
 
-pub use platform_shell::{Status, run_program};
+pub use script_shell::{Status, run_program};
 pub use terminal::Terminal;

@@ -1,6 +1,6 @@
 //! How a run ended, in a sentence.
 
-use platform_shell::Status;
+use script_shell::Status;
 
 /// What a status says, and what to do. Words that are no form have texts of their own, and nothing is said of a good end.
 pub(crate) fn sentence(status: &Status) -> Option<&'static str> {

@@ -6,8 +6,8 @@ use crate::like_fields::tell_like_fields;
 use crate::refusal_hints::tell_of_refusal;
 use crate::sentences::sentence;
 use clap::Error;
-use platform_shell::{AskedText, Status, Tells, Texts};
 use prop_map::OutOfMemory;
+use script_shell::{AskedText, Status, Tells, Texts};
 use shell_lang::{Refusal, ShellReply, write_reply};
 use std::alloc::Global;
 

@@ -1,6 +1,6 @@
 //! The forms of words.
 
-use platform_shell::{Form, LoadNumbers, ScriptOptions, form_of};
+use script_shell::{Form, LoadNumbers, ScriptOptions, form_of};
 
 const GREATEST: LoadNumbers = LoadNumbers {
     seed: 18_446_744_073_709_551_615,

@@ -1,12 +1,12 @@
 //! Loads.
-ghost use Rattle.platform_shell.specs.Forms.{IsLoad};
+ghost use Rattle.script_shell.specs.Forms.{IsLoad};
 
 use crate::ends::sink;
 use crate::platforms::{Deed, holds};
 use demonstration_kinds::Demonstration;
 use kind_trait::Kinds;
-use platform_shell::{LoadNumbers, Platform, Status, run_load};
 use scr_world::Limits;
+use script_shell::{LoadNumbers, Platform, Status, run_load};
 use std::alloc::Global;
 
 const ROOM: Limits = Limits {

@@ -5,8 +5,8 @@ use crate::loads::{Loading, loads};
 use crate::runs::{Script, runs};
 use crate::turns::{settles, settles_behind_a_turn, turns_by_hand};
 use kind_trait::Kinds;
-use platform_shell::Platform;
 use scr_world::Limits;
+use script_shell::Platform;
 use std::alloc::Global;
 
 pub(crate) const LIMITS: Limits = Limits {

@@ -3,8 +3,8 @@
 use crate::ends::{given, sink};
 use demonstration_kinds::Demonstration;
 use fault_count::{MemorySink, MemorySource};
-use platform_shell::{AskedText, Status, Tells, Texts, run_program};
 use prop_map::OutOfMemory;
+use script_shell::{AskedText, Status, Tells, Texts, run_program};
 use shell_lang::ShellReply;
 use std::alloc::Global;
 

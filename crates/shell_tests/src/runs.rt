@@ -3,7 +3,7 @@
 use crate::ends::{sink, source};
 use fault_count::{MemorySink, MemorySource};
 use kind_trait::Kinds;
-use platform_shell::{Platform, Status, Tells, run_script, run_told};
+use script_shell::{Platform, Status, Tells, run_script, run_told};
 use shell_lang::ShellReply;
 use std::alloc::Global;
 

@@ -7,7 +7,7 @@ use callback_orders::Outcome;
 use demonstration_kinds::Demonstration;
 use kind_trait::Kinds;
 use platform_hall::{FinishFault, Platform, note_rest, note_turns_end};
-use platform_shell::{Status, run_script};
+use script_shell::{Status, run_script};
 use std::alloc::Global;
 use std::fmt::Display;
 

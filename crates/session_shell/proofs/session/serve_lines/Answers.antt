@@ -1,7 +1,7 @@
 use Rattle.std.proofs.Common.{◌≡◌, ◌∙◌, ap, sym, subst, refl, inl, false, Err}
 use Rattle.fault_count.specs.Steps.{next_count}
 use Rattle.platform_sessions.proofs.Stretches.{keeps_itself, keeps_on}
-use Rattle.platform_shell.specs.Reading.{not_yet_read}
+use Rattle.script_shell.specs.Reading.{not_yet_read}
 use Rattle.shell_lang.specs.ShellLines.{Asked, is_quit, shell_line}
 use Rattle.session_shell.specs.Answers.{AnswersLine}
 use Rattle.session_shell.specs.Items.{ServesLine, Setting}

@@ -1,6 +1,0 @@
-use Rattle.std.proofs.Common.{◌≡◌, ◌+◌, drop, map}
-use Rattle.platform_shell.specs.Forms.{after_options, no_options}
-use Rattle.platform_shell.proofs.form_words.script_behind.Given as goal
-
-abbrev pub invariant-loop-index : goal.invariant-loop-index
-invariant-loop-index l = after_options l.options (l.index + 1) (map (λ word. word.now) (drop l.index l.words)) ≡ after_options no_options 1 (map (λ word. word.now) l.words)

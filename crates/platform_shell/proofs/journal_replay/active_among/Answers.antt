@@ -1,9 +1,0 @@
-use Rattle.std.proofs.Common.{rules, tests}
-use Rattle.std.proofs.lemmas.Iterator.{YieldsList-from_slice}
-use Rattle.std.proofs.lemmas.Iterator.Consumers.{YieldsList-from_filter, count_from_yields_List}
-use Rattle.platform_shell.specs.Replays.{is_active_living}
-use Rattle.platform_shell.proofs.journal_replay.active_among.Goals as goal
-
-pub returns : goal.returns
-returns c =
-    count_from_yields_List c.filter.result c.count.result c.count.ensures.ran (YieldsList-from_filter _ is_active_living (YieldsList-from_slice c.args.living.now cc) c.filter.ensures.closure (λ x r q k. search (rules, tests)))

@@ -1,7 +1,0 @@
-use Rattle.std.proofs.Common.{◌≡◌}
-use Rattle.platform_shell.specs.Replays.{with_begun}
-use Rattle.platform_shell.proofs.Mapped.{mapped}
-use Rattle.platform_shell.proofs.journal_replay.tell.Given as goal
-
-abbrev pub invariant-loop-one : goal.invariant-loop-one
-invariant-loop-one l = l.living ≡ mapped (with_begun l.turn l.instance l.callback) l.one-index l.initial.living

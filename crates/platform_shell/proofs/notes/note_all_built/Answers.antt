@@ -1,5 +1,0 @@
-use Rattle.platform_shell.proofs.AllBuilt.{all_built}
-use Rattle.platform_shell.proofs.notes.note_all_built.Goals as goal
-
-pub returns : goal.returns
-returns c = all_built
