@@ -26,7 +26,8 @@ mod wirings;
 
 pub use platform_core::Core;
 pub use scr_readers::{
-    ComponentView, Inward, InwardAt, Live, LiveAt, Outer, OuterAt, ReferenceState,
+    ComponentDetails, ComponentView, Inward, InwardAt, ListedComponent, Live, LiveAt, Outer,
+    OuterAt, ReferenceDetails, ReferenceState, ServiceHolder, ServiceUse, ServiceView,
 };
 pub use scr_world::{
     Accepted, BundleLine, Command, ComponentLine, CoreFault, Ended, HeldLine, Limits, Reply, Step,

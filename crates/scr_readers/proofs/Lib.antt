@@ -7,3 +7,6 @@ pub mod FirstReached
 pub mod TurnLemmas
 pub mod CountedTurns
 pub mod SameViews
+pub mod SameListed
+pub mod OpenedRows
+pub mod SameDetails

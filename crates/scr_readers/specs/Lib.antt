@@ -5,3 +5,7 @@ pub mod Reaching
 pub mod Turns
 pub mod ComponentViews
 pub mod Counting
+pub mod ServiceViews
+pub mod Described
+pub mod ListedComponents
+pub mod DetailViews

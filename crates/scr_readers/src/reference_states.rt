@@ -64,7 +64,8 @@ fn states_of(
     Ok(states)
 }
 
-fn reference_state(
+/// A reference, with what an instance holds for it.
+pub(crate) fn reference_state(
     alloc: Global,
     own: &OwnRows,
     world: &World,
@@ -80,8 +81,8 @@ fn reference_state(
     state_with(alloc, own, world, properties, &reference.name, &need, bound)
 }
 
-// The implicit one on the satisfying condition. Nothing is bound for it.
-fn implicit_state(
+/// The implicit one on the satisfying condition. Nothing is bound for it.
+pub(crate) fn implicit_state(
     alloc: Global,
     own: &OwnRows,
     world: &World,
