@@ -10,5 +10,5 @@ use Rattle.scr_world.specs.declared.marks.Token.{Token}
 pub stands_at_its_place : (note : Token) (ts : List Token) → list_any (is_token note) ts ≡ true → list_any (λ (t : Token). t.place == note.place) ts ≡ true
 stands_at_its_place note ts stands =
     let one = any_witness (is_token note) ts stands in
-    any_from (λ (t : Token). t.place == note.place) ts one.0 one.1.0
-    (and_parts (one.0.place == note.place) ((one.0.bundle == note.bundle) && (one.0.service == note.service)) one.1.1).0
+    any_from (λ (t : Token). t.place == note.place) ts one.0 one.1
+    (and_parts (one.0.place == note.place) ((one.0.bundle == note.bundle) && (one.0.service == note.service)) one.2).0
