@@ -1,6 +1,6 @@
 -- What lies under the lock of a hall, as contracts see it, and what its calls do. Our own; callbacks are OSGi
 -- Compendium 8, chapter 112, component life cycle.
-use Rattle.std.specs.Prelude.{◌≡◌, ℕ, ◌==◌, List, [], ◌∷◌, ◌++◌, Option, Some, None, length, map, count_by}
+use Rattle.std.specs.Prelude.{◌≡◌, ◌⊎◌, ℕ, ◌==◌, List, [], ◌∷◌, ◌++◌, Option, Some, None, Err, length, map, count_by}
 use Rattle.std.specs.List.{Contains}
 use Rattle.journal_core.specs.declared.entry.Entry.{Entry}
 use Rattle.journal_core.specs.declared.entry.GateKey.{GateKey}
@@ -10,13 +10,16 @@ use Rattle.hall_goings.specs.Went.{owned_by}
 use Rattle.hall_locked.specs.Owned.{as_kept, owned, turn_numbers}
 use Rattle.hall_locked.specs.declared.part.Part.{Part}
 use Rattle.platform_hall.specs.Desks.{tokens_of}
-use Rattle.platform_hall.specs.Platforms.{has_object, world}
+use Rattle.platform_hall.specs.Platforms.{CoreTakes, has_object, world}
 use Rattle.scr_core.specs.Cores.{CoreView}
 use Rattle.scr_world.specs.Calls.{Drains, next_drain}
 use Rattle.scr_world.specs.Legal.{is_under_way}
 use Rattle.scr_world.specs.TurnSteps.{class_in}
+use Rattle.scr_world.specs.declared.command.Command.{Command}
 use Rattle.scr_world.specs.declared.command.Limits.{Limits}
 use Rattle.scr_world.specs.declared.instance.Instance.{Instance}
+use Rattle.scr_world.specs.declared.reply.CoreFault.{CoreFault}
+use Rattle.scr_world.specs.declared.reply.CoreFault.TheVariants.{OutOfMemory}
 use Rattle.scr_world.specs.declared.step.Step.{Step}
 use Rattle.scr_world.specs.declared.world.World.{World}
 
@@ -75,6 +78,10 @@ pub record IsLocked {O : Type 0} (l : LockedView O) : Type 0 where
   pub sites : (part : Part O) → Contains l.parts part → IsSiteOf (world l.core) part
 
 -- ---- drains
+
+-- the core refuses a command so, or memory is wanting for the owner of its entry before the core is asked, and nothing changes
+abbrev pub IsRefusedUnder : CoreView → Command → CoreFault → CoreView → Type 0
+IsRefusedUnder before command fault after = CoreTakes before command (Err fault) after ⊎ ((fault ≡ OutOfMemory) × (after ≡ before))
 
 -- the drain of a gate is posted, where one is awaited
 abbrev pub PostsAt : CoreView → Option GateKey → CoreView → Type 0
