@@ -1,15 +1,17 @@
 //! Doors in memory, served one connection after the other.
-ghost use Rattle.session_server.specs.Halls.{IsOf};
+ghost use Rattle.session_shell.specs.Halls.{IsOf};
 
 use crate::samples::{doors, new_hall};
 use fault_count::{MemorySink, MemorySource};
-use session_server::{DoorEnd, Doors, Finished, MemoryDoors, SessionEnd, serve_door};
+use session_doors::{Doors, Finished, MemoryDoors};
+use session_server::{DoorEnd, serve_door};
+use session_shell::SessionEnd;
 use std::alloc::Global;
 use std::sync::Wait;
 
 // Installs a bundle with a component.
 const INSTALLS: &str =
-    "install {\"location\":\"p\",\"components\":{\"p\":{\"implementationClass\":\"P\"}}}\nquit\nbundles\n";
+    "install {\"location\":\"p\",\"components\":{\"p\":{\"name\":\"p\",\"implementationClass\":\"P\"}}}\nquit\nbundles\n";
 
 // How a session ends, how many items it notes, and what it writes.
 type Told = (SessionEnd, usize, &'static [u8]);

@@ -1,11 +1,12 @@
 //! Halls, and doors in memory, for tests.
-ghost use Rattle.session_server.specs.Halls.{IsOf};
+ghost use Rattle.session_shell.specs.Halls.{IsOf};
 ghost use Rattle.std.specs.Prelude.{IfSome};
 
 use demonstration_kinds::Demonstration;
 use fault_count::{MemorySink, MemorySource};
 use scr_world::Limits;
-use session_server::{Hall, HallPass, MemoryDoors};
+use session_doors::MemoryDoors;
+use session_shell::{Hall, HallPass};
 use std::alloc::Global;
 
 pub(crate) type DemoHall = Hall<Demonstration>;

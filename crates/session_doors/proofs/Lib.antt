@@ -1,2 +1,0 @@
-pub use Rattle.session_shell.proofs.SessionGoings
-pub use Rattle.session_shell.proofs.Stretches

@@ -1,2 +1,1 @@
 pub mod Holding
-pub use Rattle.session_doors.specs.Halls

@@ -7,7 +7,3 @@
 mod door_loop;
 
 pub use door_loop::{DoorEnd, serve_door};
-pub use session_doors::{
-    Doors, Finished, Hall, HallPass, ListenStop, Listens, MemoryDoors, MemoryListens, SessionEnd,
-    TcpDoors, TcpListens,
-};
