@@ -1,5 +1,6 @@
 mod Allowing
 mod DocumentDrafts
+mod FewerLevels
 mod IdleBundles
 mod Installs
 mod LevelsAre

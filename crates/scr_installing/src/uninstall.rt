@@ -3,9 +3,10 @@ ghost use Rattle.scr_installing.specs.Described.{AreDescribed};
 ghost use Rattle.scr_installing.specs.Idle.{idle_refusal};
 ghost use Rattle.scr_judgements.specs.Judgements.{Judges};
 ghost use Rattle.scr_state.specs.Keeps.{IsDraft, IsKept, Keeps};
+ghost use Rattle.scr_world.specs.Levels.{has_levels};
 ghost use Rattle.scr_world.specs.declared.command.Command.TheVariants.{Uninstall};
 ghost use Rattle.scr_world.specs.declared.step.Step.TheVariants.{Command as Commanded};
-ghost use Rattle.std.specs.Prelude.{◌≡◌, IfOk, None};
+ghost use Rattle.std.specs.Prelude.{◌≡◌, IfOk, None, true};
 
 use crate::described::{Described, descriptions_in, with_levels};
 use crate::documents::documents_without;
@@ -19,7 +20,7 @@ use scr_state::{Draft, State};
 use scr_world::{CoreFault, Reply, Step};
 use std::alloc::{AllocError, Global};
 
-/// What is said of the uninstall of a bundle.
+/// What is said of the uninstall of a bundle. No cycle comes where descriptions go.
 ///
 /// # Errors
 /// `NoBundle` where the bundle isn't there, then `WrongState` where it is ACTIVE, then `Stopping` where it is STOPPING, then
@@ -63,12 +64,14 @@ fn uninstall_draft(
     documents_draft(alloc, state, step, documents, described)
 }
 
-// Some of the descriptions that all have levels, with theirs: no cycle comes where descriptions go.
+// Descriptions that have levels, with these.
 fn described_still(alloc: Global, descriptions: List<Description>) -> Result<Described, OutOfMemory>
+    requires { has_levels descriptions ≡ true }
     ensures { IfOk result (λ described. AreDescribed descriptions described) }
 {
     match with_levels(alloc, descriptions) {
         Ok(described) => Ok(described),
-        Err(_) => Err(AllocError),
+        Err(CoreFault::OutOfMemory) => Err(AllocError),
+        Err(_) => unreachable!(),
     }
 }

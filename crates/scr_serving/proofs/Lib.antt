@@ -1,2 +1,3 @@
+mod Owned
 mod RegisteredServices
 mod Served

@@ -3,8 +3,8 @@ ghost use Rattle.scr_judgements.specs.Judgements.{Judges};
 ghost use Rattle.scr_state.specs.Keeps.{Keeps};
 ghost use Rattle.scr_world.specs.declared.command.Command.TheVariants.{SetProperties};
 ghost use Rattle.scr_world.specs.declared.step.Step.TheVariants.{Command as Commanded};
-ghost use Rattle.service_registry.specs.Registries.{with_properties};
-ghost use Rattle.std.specs.Prelude.{◌≡◌, IfOk};
+ghost use Rattle.service_registry.specs.Registries.{refusal, with_properties};
+ghost use Rattle.std.specs.Prelude.{◌≡◌, IfOk, None};
 
 use crate::drafts::services_after;
 use crate::ownership::refusal_of_foreign;
@@ -13,7 +13,7 @@ use prop_map::{Copies, OutOfMemory, Properties};
 use scr_judgements::{Judgement, draft_with, has_room_for_command};
 use scr_state::State;
 use scr_world::{CoreFault, Reply, Step};
-use service_registry::Registry;
+use service_registry::{Registry, RegistryFault};
 use std::alloc::{AllocError, Global};
 
 /// What is said of a command that sets the properties of a service.
@@ -48,7 +48,7 @@ pub fn judge_set_properties(
     })
 }
 
-// The services, one of a bundle with other properties.
+// The services, one that is the bundle's with other properties.
 fn with_properties(
     alloc: Global,
     registry: &Registry,
@@ -56,13 +56,14 @@ fn with_properties(
     service: u64,
     properties: &Properties,
 ) -> Result<Registry, OutOfMemory>
+    requires { refusal bundle service registry.now ≡ None }
     ensures { IfOk result (λ after. after ≡ with_properties service properties.now registry.now) }
 {
     let mut after = registry.copy(alloc)?;
     let given = properties.copy(alloc)?;
     match after.set_properties(alloc, bundle, service, given) {
         Ok(()) => Ok(after),
-        // What isn't the bundle's was refused before.
-        Err(_) => Err(AllocError),
+        Err(RegistryFault::OutOfMemory) => Err(AllocError),
+        Err(_) => unreachable!(),
     }
 }

@@ -6,7 +6,7 @@ ghost use Rattle.scr_world.specs.Refusals.{refusal, refuse_if};
 ghost use Rattle.scr_world.specs.declared.command.Command.TheVariants.{Unget};
 ghost use Rattle.scr_world.specs.declared.reply.CoreFault.TheVariants.{NoBundle, NotUsing};
 ghost use Rattle.scr_world.specs.declared.step.Step.TheVariants.{Command as Commanded};
-ghost use Rattle.std.specs.Prelude.{◌≡◌, ◌+◌, ◌==◌, IfOk, is_none};
+ghost use Rattle.std.specs.Prelude.{◌≡◌, ◌<◌, ◌+◌, ◌==◌, IfOk, is_none};
 ghost use Rattle.use_counts.specs.Uses.{after_unget, holder_count, use_count};
 ghost use Rattle.use_counts.specs.declared.uses.Holder.TheVariants.{Shell};
 
@@ -19,7 +19,7 @@ use prop_map::{Copies, OutOfMemory};
 use scr_judgements::{Judgement, draft_with, has_room_for_command};
 use scr_state::State;
 use scr_world::{CoreFault, Reply, Step, World};
-use std::alloc::{AllocError, Global};
+use std::alloc::Global;
 use use_counts::{Holder, UseCounts};
 
 /// What is said of a command that releases a service: how often the bundle uses it then.
@@ -85,13 +85,13 @@ fn without_get(
     bundle: u64,
     service: u64,
 ) -> Result<Counted, OutOfMemory>
+    requires { 0 < holder_count Shell bundle service uses.now }
     ensures uses { IfOk result (λ after. after.uses ≡ after_unget bundle service Shell uses.now) }
     ensures count { IfOk result (λ after. after.count + 1 ≡ use_count bundle service uses.now) }
 {
     let mut uses = uses.copy(alloc)?;
     match uses.unget(bundle, service, Holder::Shell) {
         Ok(count) => Ok(Counted { uses, count }),
-        // What isn't used was refused before.
-        Err(_) => Err(AllocError),
+        Err(_) => unreachable!(),
     }
 }

@@ -3,8 +3,8 @@ ghost use Rattle.scr_judgements.specs.Judgements.{Judges};
 ghost use Rattle.scr_state.specs.Keeps.{Keeps};
 ghost use Rattle.scr_world.specs.declared.command.Command.TheVariants.{Unregister};
 ghost use Rattle.scr_world.specs.declared.step.Step.TheVariants.{Command as Commanded};
-ghost use Rattle.service_registry.specs.Registries.{unregistered};
-ghost use Rattle.std.specs.Prelude.{◌≡◌, IfOk};
+ghost use Rattle.service_registry.specs.Registries.{refusal, unregistered};
+ghost use Rattle.std.specs.Prelude.{◌≡◌, IfOk, None};
 
 use crate::drafts::services_after;
 use crate::ownership::refusal_of_foreign;
@@ -14,7 +14,7 @@ use scr_judgements::{Judgement, draft_with, has_room_for_command};
 use scr_state::State;
 use scr_world::{CoreFault, Reply, Step};
 use service_registry::Registry;
-use std::alloc::{AllocError, Global};
+use std::alloc::Global;
 
 /// What is said of a command that unregisters a service.
 ///
@@ -47,19 +47,19 @@ pub fn judge_unregister(
     })
 }
 
-// The services without one of a bundle.
+// The services without one that is the bundle's.
 fn without_service(
     alloc: Global,
     registry: &Registry,
     bundle: u64,
     service: u64,
 ) -> Result<Registry, OutOfMemory>
+    requires { refusal bundle service registry.now ≡ None }
     ensures { IfOk result (λ after. after ≡ unregistered service registry.now) }
 {
     let mut after = registry.copy(alloc)?;
     match after.unregister(bundle, service) {
         Ok(_) => Ok(after),
-        // What isn't the bundle's was refused before.
-        Err(_) => Err(AllocError),
+        Err(_) => unreachable!(),
     }
 }

@@ -1,8 +1,9 @@
-use Rattle.std.proofs.Common.{refl, subst, sym, ap, arith, Some, None}
+use Rattle.std.proofs.Common.{◌∙◌, refl, subst, sym, ap, arith, Some, None}
 use Rattle.scr_judgements.specs.Drafting.{AreTablesBy}
 use Rattle.scr_judgements.specs.declared.drafting.TablesAfter.{TablesAfter}
 use Rattle.scr_world.specs.declared.command.Command.TheVariants.{Unget}
 use Rattle.scr_world.specs.declared.reply.Reply.TheVariants.{Uses as WithUses}
+use Rattle.scr_serving.proofs.Owned.{held}
 use Rattle.scr_serving.proofs.Served.{full, none_left, served, tables_then, told}
 use Rattle.scr_serving.proofs.ungetting.judge_unget.Goals as goal
 
@@ -27,3 +28,6 @@ pub returns : goal.returns
 returns c = record {
   judged = served c.args.journal.now.limit c.args.state.now (Unget c.args.bundle c.args.service) c.refusal_of_unget.result c.refusal_of_unget.ensures c.in_default.is refl c.has_room_for_command.result c.has_room_for_command.ensures c.if-not-has_room_for_command.false (WithUses c.in_ok-after.after.count) (ap (λ n. WithUses n) (omega (arith, c.in_ok-after.ensures.count))) c.args.step.now c.requires.command c.in_ok-draft.draft c.in_ok-draft.ensures;
 }
+
+pub without_get-requires : goal.without_get-requires
+without_get-requires c = held c.args.state.now.world c.args.bundle c.args.service (sym c.refusal_of_unget.ensures ∙ c.in_default.is)

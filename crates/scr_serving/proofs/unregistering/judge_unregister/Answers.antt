@@ -1,8 +1,9 @@
-use Rattle.std.proofs.Common.{refl, subst, sym, Some, None}
+use Rattle.std.proofs.Common.{◌∙◌, refl, subst, sym, Some, None}
 use Rattle.scr_judgements.specs.Drafting.{AreTablesBy}
 use Rattle.scr_judgements.specs.declared.drafting.TablesAfter.{TablesAfter}
 use Rattle.scr_world.specs.declared.command.Command.TheVariants.{Unregister}
 use Rattle.scr_world.specs.declared.reply.Reply.TheVariants.{Done}
+use Rattle.scr_serving.proofs.Owned.{owned}
 use Rattle.scr_serving.proofs.Served.{full, none_left, served, tables_then, told}
 use Rattle.scr_serving.proofs.unregistering.judge_unregister.Goals as goal
 
@@ -27,3 +28,6 @@ pub returns : goal.returns
 returns c = record {
   judged = served c.args.journal.now.limit c.args.state.now (Unregister c.args.bundle c.args.service) c.refusal_of_foreign.result c.refusal_of_foreign.ensures c.in_default.is refl c.has_room_for_command.result c.has_room_for_command.ensures c.if-not-has_room_for_command.false Done refl c.args.step.now c.requires.command c.in_ok-draft.draft c.in_ok-draft.ensures;
 }
+
+pub without_service-requires : goal.without_service-requires
+without_service-requires c = owned c.args.state.now.world c.args.bundle c.args.service (sym c.refusal_of_foreign.ensures ∙ c.in_default.is)
