@@ -14,7 +14,7 @@ use Rattle.serde_json.specs.View.{items_of}
 use Rattle.serde_json.specs.Written.{has_float, items_have_float, members_have_float}
 use Rattle.scr_report.specs.ReportData.{number_or_null, numbers, property_members, report_data, satisfied_ones, satisfied_reference, text_or_null, unsatisfied_ones, unsatisfied_reference, value_data, whole_number}
 
-neither : (a b : Bool) → a ≡ false → b ≡ false → (a || b) ≡ false
+pub neither : (a b : Bool) → a ≡ false → b ≡ false → (a || b) ≡ false
 neither a b first second = ap (λ x. x || b) first ∙ second
 
 second_is : (a b : Bool) → (a || b) ≡ false → b ≡ false
@@ -41,7 +41,7 @@ put_without key d (member other e ms) value none =
 -- ---- lists and properties
 
 module _ {X : Type 0} (data_of : X → Data) (each : (x : X) → has_float (data_of x) ≡ false) where
-  list_without : (xs : List X) → items_have_float (items_of (map data_of xs)) ≡ false
+  pub list_without : (xs : List X) → items_have_float (items_of (map data_of xs)) ≡ false
   list_without [] = refl
   list_without (x ∷ xs) = neither (has_float (data_of x)) (items_have_float (items_of (map data_of xs))) (each x) (list_without xs)
 
@@ -66,15 +66,15 @@ properties_without ps = properties_from no_members ps refl
 
 -- ---- the report
 
-number_without : (n : Option ℕ) → has_float (number_or_null n) ≡ false
+pub number_without : (n : Option ℕ) → has_float (number_or_null n) ≡ false
 number_without None = refl
 number_without (Some n) = refl
 
-text_without : (t : Option (List ℕ)) → has_float (text_or_null t) ≡ false
+pub text_without : (t : Option (List ℕ)) → has_float (text_or_null t) ≡ false
 text_without None = refl
 text_without (Some t) = refl
 
-numbers_without : (ns : List ℕ) → has_float (numbers ns) ≡ false
+pub numbers_without : (ns : List ℕ) → has_float (numbers ns) ≡ false
 numbers_without ns = list_without whole_number (λ n. refl) ns
 
 satisfied_without : (r : ReferenceState) → has_float (satisfied_reference r) ≡ false

@@ -1,3 +1,5 @@
 pub mod KeyOrder
 pub mod ReportData
 pub mod Reports
+pub mod DetailData
+pub mod Details

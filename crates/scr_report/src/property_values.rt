@@ -41,7 +41,8 @@ fn value_of(alloc: Global, value: &Value) -> Result<Json, OutOfMemory>
     }
 }
 
-fn texts_value(alloc: Global, texts: &[Str]) -> Result<Json, OutOfMemory>
+/// A list of texts.
+pub(crate) fn texts_value(alloc: Global, texts: &[Str]) -> Result<Json, OutOfMemory>
     ensures { IfOk result (λ json. view json ≡ list_of (map string texts.now)) }
 {
     let mut items = Vec::new(alloc);

@@ -10,7 +10,10 @@ use Rattle.http_wire.specs.declared.messages.Answered.{Answered}
 use Rattle.scr_calls.specs.declared.call_fault.CallFault.{CallFault}
 use Rattle.scr_calls.specs.declared.call_fault.CallFault.TheVariants.{Gone, NoObject, Pending, Refused as Declined, CallTooLong, Core, Settle as InSettling, OutOfMemory as CallNoMemory}
 use Rattle.scr_readers.specs.Events.{has_listener}
+use Rattle.scr_readers.specs.ServiceViews.{service_view}
+use Rattle.scr_report.specs.DetailData.{details_in}
 use Rattle.scr_report.specs.Reports.{report_in}
+use Rattle.scr_world.specs.Tables.{contents_of}
 use Rattle.scr_world.specs.declared.lines.HeldLine.{HeldLine}
 use Rattle.scr_world.specs.declared.reply.CoreFault.{CoreFault}
 use Rattle.scr_world.specs.declared.reply.Reply.{Reply}
@@ -19,7 +22,7 @@ use Rattle.platform_hall.specs.Cores.{CoreView}
 use Rattle.platform_hall.specs.Platforms.{world}
 use Rattle.platform_hall.specs.declared.finish_fault.FinishFault.{FinishFault}
 use Rattle.platform_hall.specs.declared.finish_fault.FinishFault.TheVariants.{NoTurn as NoSuchTurn, OutOfMemory as NoMemoryLeft}
-use Rattle.shell_lang.specs.declared.shell_line.ShellLine.TheVariants.{Silent, Quit, Help, Command as Commanded, Bundles, Services, Components, Report, Held, Find, Events, BundleEvents, Trace, Wiring, BundleWiring, Routes, Configurations, Configuration, Listeners, Journal, Settle, Begin, Finish, Call, Http}
+use Rattle.shell_lang.specs.declared.shell_line.ShellLine.TheVariants.{Silent, Quit, Help, Command as Commanded, Bundles, Services, Components, Report, Held, ListComponents, Details, AboutService, Descriptions, Find, Events, BundleEvents, Trace, Wiring, BundleWiring, Routes, Configurations, Configuration, Listeners, Journal, Settle, Begin, Finish, Call, Http}
 use Rattle.shell_lang.specs.declared.shell_reply.Refusal.TheVariants.{NotBuilt}
 use Rattle.shell_lang.specs.declared.shell_reply.ShellReply.{ShellReply}
 use Rattle.shell_lang.specs.declared.shell_reply.ShellReply.TheVariants.{Refused}
@@ -27,8 +30,10 @@ use Rattle.shell_lang.specs.ShellLines.{Asked}
 use Rattle.wiring_reader.specs.declared.wiring_line.NeedLine.{NeedLine}
 use Rattle.script_shell.specs.Asks.{Asks, AsksBegin, AsksFinish, Manually, Setting, TellsBegun, TellsFinished, command_reply, events_reply, held_reply, report_reply}
 use Rattle.script_shell.specs.Calling.{TellsCall}
+use Rattle.script_shell.specs.ComponentListings.{descriptions_reply, details_reply}
 use Rattle.script_shell.specs.Listings.{configuration_reply}
 use Rattle.script_shell.specs.Requests.{AnswersFound, AnswersSized, greatest_body}
+use Rattle.script_shell.specs.ServiceFacts.{service_reply}
 use Rattle.script_shell.specs.Wiring.{bundle_reply}
 
 -- this isn't told
@@ -118,6 +123,13 @@ asks_built s (Ok (Report configuration)) before after told (is, same) =
     told_built told (report_reply (world before) configuration) is (mapped_built _ (report_in (world before) configuration) _ (λ d. tt) tt)
 asks_built s (Ok (Held configuration)) before after told (reply, is, (answer, tells, told_one, replied, same)) =
     told_built told reply is (reply_built reply _ replied (held_built answer))
+asks_built s (Ok ListComponents) before after told (is, same) = told_built told _ is tt
+asks_built s (Ok (Details configuration)) before after told (is, same) =
+    told_built told (details_reply (world before) configuration) is (mapped_built _ (details_in (world before) configuration) _ (λ d. tt) tt)
+asks_built s (Ok (AboutService service)) before after told (is, same) =
+    told_built told (service_reply (world before) service) is (mapped_built _ (service_view (world before) service) _ (λ v. tt) tt)
+asks_built s (Ok (Descriptions bundle)) before after told (is, same) =
+    told_built told (descriptions_reply (world before) bundle) is (mapped_built _ (contents_of (world before).documents bundle) _ (λ c. tt) tt)
 asks_built s (Ok (Find tree)) before after told (is, same) = told_built told _ is tt
 asks_built s (Ok (Events listener number)) before after told (is, same) =
     told_built told (events_reply (world before) listener number) is (chosen_built (has_listener (world before) listener) _ _ tt tt)

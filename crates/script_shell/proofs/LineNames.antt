@@ -11,13 +11,13 @@ use Rattle.scr_world.specs.declared.command.Command.TheVariants.{Install, Update
 use Rattle.shell_lang.specs.declared.line_fault.LineFault.{LineFault}
 use Rattle.shell_lang.specs.declared.line_fault.LineFault.TheVariants.{NoFile, UnknownCommand}
 use Rattle.shell_lang.specs.declared.shell_line.ShellLine.{ShellLine}
-use Rattle.shell_lang.specs.declared.shell_line.ShellLine.TheVariants.{Quit, Command as Commanded, Bundles, Services, Components, Routes, Configurations, Listeners, Journal, Settle, Begin}
+use Rattle.shell_lang.specs.declared.shell_line.ShellLine.TheVariants.{Quit, Command as Commanded, Bundles, Services, Components, ListComponents, Routes, Configurations, Listeners, Journal, Settle, Begin}
 use Rattle.shell_lang.specs.declared.words.Misfit.{Misfit}
 use Rattle.shell_lang.specs.Arguments.{document_argument, filter_argument, given_document, names_file, properties_argument}
 use Rattle.shell_lang.specs.Help.{helping, line_word_at}
 use Rattle.shell_lang.specs.Interfaces.{interfaces_at}
 use Rattle.shell_lang.specs.LineFaults.{fitting}
-use Rattle.shell_lang.specs.ShellLines.{Asked, alone, asking_configuration, bundle_line, calling, carrying_line, configuring, configuring_factory, configuring_line, finding, installing, is_silent, listening, listing_line, named, named_line, numbered, paired, paired_line, reading_line, registering, setting, shell_line, text_line, unconfiguring, updating, wiring, worded_line}
+use Rattle.shell_lang.specs.ShellLines.{Asked, alone, asking_configuration, bundle_line, calling, carrying_line, configuring, configuring_factory, configuring_line, finding, installing, is_silent, listening, listing_line, named, named_line, numbered, paired, paired_line, reading_line, registering, setting, shell_line, telling_line, text_line, unconfiguring, updating, wiring, worded_line}
 use Rattle.shell_lang.specs.Requesting.{method_at, requesting}
 use Rattle.shell_lang.specs.Words.{behind_word, first_word, nothing_at, number_and_text, number_and_word, number_at, only_number, only_word, text_at, two_numbers, two_numbers_and_text, two_words_and_text, word_and_text, word_at}
 use Rattle.script_shell.proofs.ReadNames.{AreNamed, bundle_named}
@@ -150,6 +150,12 @@ module _ (word : List ℕ) (rest : Option (List ℕ)) where
       (either_line (bytes_eq word (codes "unget")) _ _ (paired_named _ rest (λ n m. tt))
       (either_line (bytes_eq word (codes "events")) _ (named_line word rest) (paired_named _ rest (λ n m. tt)) named_line_named)))
 
+  telling_line_named : AskedNamed (telling_line word rest)
+  telling_line_named =
+      either_line (bytes_eq word (codes "details")) _ _ (numbered_named _ rest (λ n. tt))
+      (either_line (bytes_eq word (codes "service")) _ _ (numbered_named _ rest (λ n. tt))
+      (either_line (bytes_eq word (codes "descriptions")) _ (paired_line word rest) (numbered_named _ rest (λ n. tt)) paired_line_named))
+
   reading_line_named : AskedNamed (reading_line word rest)
   reading_line_named =
       either_line (bytes_eq word (codes "report")) _ _ (numbered_named _ rest (λ n. tt))
@@ -157,7 +163,7 @@ module _ (word : List ℕ) (rest : Option (List ℕ)) where
       (either_line (bytes_eq word (codes "trace")) _ _ (numbered_named _ rest (λ n. tt))
       (either_line (bytes_eq word (codes "bundle-events")) _ _ (numbered_named _ rest (λ n. tt))
       (either_line (bytes_eq word (codes "finish")) _ _ (numbered_named _ rest (λ n. tt))
-      (either_line (bytes_eq word (codes "wiring")) (wiring rest) (paired_line word rest) (wiring_named rest) paired_line_named)))))
+      (either_line (bytes_eq word (codes "wiring")) (wiring rest) (telling_line word rest) (wiring_named rest) telling_line_named)))))
 
   bundle_line_named : AskedNamed (bundle_line word rest)
   bundle_line_named =
@@ -168,9 +174,10 @@ module _ (word : List ℕ) (rest : Option (List ℕ)) where
 
   listing_line_named : AskedNamed (listing_line word rest)
   listing_line_named =
-      either_line (bytes_eq word (codes "configs")) (alone Configurations rest) _ (alone_named Configurations rest tt)
+      either_line (bytes_eq word (codes "list")) (alone ListComponents rest) _ (alone_named ListComponents rest tt)
+      (either_line (bytes_eq word (codes "configs")) (alone Configurations rest) _ (alone_named Configurations rest tt)
       (either_line (bytes_eq word (codes "listeners")) (alone Listeners rest) _ (alone_named Listeners rest tt)
-      (either_line (bytes_eq word (codes "journal")) (alone Journal rest) (bundle_line word rest) (alone_named Journal rest tt) bundle_line_named))
+      (either_line (bytes_eq word (codes "journal")) (alone Journal rest) (bundle_line word rest) (alone_named Journal rest tt) bundle_line_named)))
 
   worded_line_named : AskedNamed (worded_line word rest)
   worded_line_named =

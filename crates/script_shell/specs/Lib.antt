@@ -5,6 +5,8 @@ pub mod Statuses
 pub mod Wiring
 pub mod Routes
 pub mod Listings
+pub mod ComponentListings
+pub mod ServiceFacts
 pub mod Requests
 pub mod Refusals
 pub mod Calling

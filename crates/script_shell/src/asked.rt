@@ -9,12 +9,14 @@ ghost use Rattle.shell_lang.specs.declared.shell_line.ShellLine.TheVariants.{Set
 ghost use Rattle.std.specs.Prelude.{Ok};
 
 use crate::calling::call;
+use crate::component_listings::{descriptions, detailed, listed};
 use crate::listings::{configuration, configurations, journal, listeners};
 use crate::readings::{
     bundle_events, bundles, components, events, found, held, reported, services, trace,
 };
 use crate::requests::http;
 use crate::routes::routes;
+use crate::service_facts::about_service;
 use crate::wiring::{bundle_wiring, wiring};
 use callback_orders::Outcome;
 use kind_trait::Kinds;
@@ -46,6 +48,14 @@ pub(crate) fn carry_out<K: Kinds + Drop>(
             Ok(Some(reported(alloc, core, configuration)?))
         }
         Ok(ShellLine::Held { configuration }) => Ok(Some(held(alloc, core, configuration)?)),
+        Ok(ShellLine::ListComponents) => Ok(Some(listed(alloc, core)?)),
+        Ok(ShellLine::Details { configuration }) => {
+            Ok(Some(detailed(alloc, core, configuration)?))
+        }
+        Ok(ShellLine::AboutService { service }) => {
+            Ok(Some(about_service(alloc, core, service)?))
+        }
+        Ok(ShellLine::Descriptions { bundle }) => Ok(Some(descriptions(alloc, core, bundle)?)),
         Ok(ShellLine::Find { filter }) => Ok(Some(found(alloc, core, &filter)?)),
         Ok(ShellLine::Events { listener, after }) => {
             Ok(Some(events(alloc, core, listener, after)?))

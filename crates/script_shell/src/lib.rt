@@ -11,6 +11,7 @@
 mod asked;
 mod asked_text;
 mod calling;
+mod component_listings;
 mod form;
 mod form_run;
 mod form_words;
@@ -32,6 +33,7 @@ mod reply_output;
 mod requests;
 mod routes;
 mod script_run;
+mod service_facts;
 mod status;
 mod tells;
 mod told_reply;

@@ -3,11 +3,13 @@ ghost use Rattle.script_shell.specs.Looks.{Looks, is_look};
 ghost use Rattle.std.specs.Prelude.{◌≡◌, IfErr, IfOk, true};
 ghost use Rattle.turn_runner.specs.declared.settle_fault.SettleFault.TheVariants.{OutOfMemory};
 
+use crate::component_listings::{descriptions, detailed, listed};
 use crate::listings::{configuration, configurations, journal, listeners};
 use crate::readings::{
     bundle_events, bundles, components, events, found, held, reported, services, trace,
 };
 use crate::routes::routes;
+use crate::service_facts::about_service;
 use crate::wiring::{bundle_wiring, wiring};
 use scr_report::Core;
 use shell_lang::{ShellLine, ShellReply};
@@ -28,6 +30,10 @@ pub fn is_look(line: &ShellLine) -> bool
         ShellLine::Components => true,
         ShellLine::Report { .. } => true,
         ShellLine::Held { .. } => true,
+        ShellLine::ListComponents => true,
+        ShellLine::Details { .. } => true,
+        ShellLine::AboutService { .. } => true,
+        ShellLine::Descriptions { .. } => true,
         ShellLine::Find { .. } => true,
         ShellLine::Events { .. } => true,
         ShellLine::BundleEvents { .. } => true,
@@ -62,6 +68,10 @@ pub fn look_at(alloc: Global, core: &Core, line: &ShellLine) -> Result<ShellRepl
         ShellLine::Components => components(alloc, core),
         ShellLine::Report { configuration } => reported(alloc, core, *configuration),
         ShellLine::Held { configuration } => held(alloc, core, *configuration),
+        ShellLine::ListComponents => listed(alloc, core),
+        ShellLine::Details { configuration } => detailed(alloc, core, *configuration),
+        ShellLine::AboutService { service } => about_service(alloc, core, *service),
+        ShellLine::Descriptions { bundle } => descriptions(alloc, core, *bundle),
         ShellLine::Find { filter } => found(alloc, core, filter),
         ShellLine::Events { listener, after } => events(alloc, core, *listener, *after),
         ShellLine::BundleEvents { after } => bundle_events(alloc, core, *after),

@@ -58,7 +58,7 @@ pub(crate) fn reported(
 }
 
 // There is no component configuration of this number.
-fn no_component(alloc: Global, id: u64) -> Result<ShellReply, SettleFault>
+pub(crate) fn no_component(alloc: Global, id: u64) -> Result<ShellReply, SettleFault>
     ensures { CarriesReading (ShellReply.Refused (OfCore (NoComponent (decimal id)))) result }
 {
     let name = Str::of(format!(in alloc; "{id}")?);

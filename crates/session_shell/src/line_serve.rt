@@ -103,6 +103,10 @@ fn serve_deed<R: Wait, K: Kinds + Drop>(
         | ShellLine::Wiring
         | ShellLine::BundleWiring { .. }
         | ShellLine::Routes
+        | ShellLine::ListComponents
+        | ShellLine::Details { .. }
+        | ShellLine::AboutService { .. }
+        | ShellLine::Descriptions { .. }
         | ShellLine::Configurations
         | ShellLine::Configuration { .. }
         | ShellLine::Listeners

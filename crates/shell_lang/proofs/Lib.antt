@@ -3,3 +3,4 @@ pub mod TextLemmas
 pub mod TokenLemmas
 pub mod LoadLemmas
 pub mod Draws
+pub mod TextArrays

@@ -15,5 +15,8 @@ pub mod WiringTexts
 pub mod RouteTexts
 pub mod ConfigurationTexts
 pub mod RowTexts
+pub mod ServiceTexts
+pub mod DescriptionTexts
+pub mod ListedTexts
 pub mod ReplyTexts
 pub mod Loads

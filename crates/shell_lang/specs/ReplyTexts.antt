@@ -6,13 +6,16 @@ use Rattle.shell_lang.specs.Help.{help_text}
 use Rattle.serde_json.specs.Data.{string}
 use Rattle.serde_json.specs.Written.{compact_text}
 use Rattle.shell_lang.specs.ConfigurationTexts.{configuration_text}
+use Rattle.shell_lang.specs.DescriptionTexts.{description_text}
+use Rattle.shell_lang.specs.ListedTexts.{listed_text}
 use Rattle.shell_lang.specs.RefusalTexts.{refusal_text}
 use Rattle.shell_lang.specs.RouteTexts.{route_text}
 use Rattle.shell_lang.specs.RowTexts.{bundle_event_text, bundle_text, component_text, held_text, listener_text, number_text, placed_rows_text, registered_text, rows_text, service_event_text}
+use Rattle.shell_lang.specs.ServiceTexts.{service_fact_text}
 use Rattle.shell_lang.specs.TurnTexts.{finished_text, trace_text, turn_text}
 use Rattle.shell_lang.specs.WiringTexts.{need_text, wiring_text}
 use Rattle.shell_lang.specs.declared.shell_reply.ShellReply.{ShellReply}
-use Rattle.shell_lang.specs.declared.shell_reply.ShellReply.TheVariants.{Done, Help, Bundle, Service, Uses, Listener, Bundles, Services, Components, Report, Held, Found, Events, BundleEvents, Trace, Wiring, BundleWiring, Routes, Configurations, Configuration, Listeners, Journal, Turns, Begun, Idle, Finished, Text, Http, Refused}
+use Rattle.shell_lang.specs.declared.shell_reply.ShellReply.TheVariants.{Done, Help, Bundle, Service, Uses, Listener, Bundles, Services, Components, Report, Held, Listed, Details, ServiceFacts, Descriptions, Found, Events, BundleEvents, Trace, Wiring, BundleWiring, Routes, Configurations, Configuration, Listeners, Journal, Turns, Begun, Idle, Finished, Text, Http, Refused}
 
 -- a text in quotes, as JSON has it
 abbrev pub quoted_text : List ℕ → List ℕ
@@ -39,6 +42,10 @@ reply_text (Services rows) = rows_text registered_text rows
 reply_text (Components rows) = rows_text component_text rows
 reply_text (Report text) = codes "ok " ++ text ++ codes "\n"
 reply_text (Held rows) = rows_text held_text rows
+reply_text (Listed rows) = rows_text listed_text rows
+reply_text (Details text) = codes "ok " ++ text ++ codes "\n"
+reply_text (ServiceFacts rows) = rows_text service_fact_text rows
+reply_text (Descriptions rows) = rows_text description_text rows
 reply_text (Found numbers) = rows_text number_text numbers
 reply_text (Events before events) = placed_rows_text service_event_text before events
 reply_text (BundleEvents before events) = placed_rows_text bundle_event_text before events

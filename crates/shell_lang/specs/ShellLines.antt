@@ -7,7 +7,7 @@ use Rattle.scr_world.specs.declared.command.Command.TheVariants.{Install, Update
 use Rattle.shell_lang.specs.declared.line_fault.LineFault.{LineFault}
 use Rattle.shell_lang.specs.declared.line_fault.LineFault.TheVariants.{UnknownCommand}
 use Rattle.shell_lang.specs.declared.shell_line.ShellLine.{ShellLine}
-use Rattle.shell_lang.specs.declared.shell_line.ShellLine.TheVariants.{Silent, Quit, Command as Commanded, Bundles, Services, Components, Report, Held, Find, Events, BundleEvents, Trace, Wiring, BundleWiring, Routes, Configurations, Configuration, Listeners, Journal, Settle, Begin, Finish, Call}
+use Rattle.shell_lang.specs.declared.shell_line.ShellLine.TheVariants.{Silent, Quit, Command as Commanded, Bundles, Services, Components, Report, Held, ListComponents, Details, AboutService, Descriptions, Find, Events, BundleEvents, Trace, Wiring, BundleWiring, Routes, Configurations, Configuration, Listeners, Journal, Settle, Begin, Finish, Call}
 use Rattle.shell_lang.specs.Arguments.{document_argument, filter_argument, properties_argument}
 use Rattle.shell_lang.specs.Help.{helping}
 use Rattle.shell_lang.specs.Interfaces.{interfaces_at}
@@ -116,6 +116,13 @@ abbrev pub wiring : Option (List ℕ) → Asked
 wiring None = Ok Wiring
 wiring (Some text) = numbered (λ bundle. BundleWiring bundle) (Some text)
 
+-- with a number, of what is told whole
+abbrev pub telling_line : List ℕ → Option (List ℕ) → Asked
+telling_line word rest =
+    if bytes_eq word (codes "details") then numbered (λ configuration. Details configuration) rest
+    else (if bytes_eq word (codes "service") then numbered (λ service. AboutService service) rest
+    else (if bytes_eq word (codes "descriptions") then numbered (λ bundle. Descriptions bundle) rest else paired_line word rest))
+
 -- with a number that is told
 abbrev pub reading_line : List ℕ → Option (List ℕ) → Asked
 reading_line word rest =
@@ -124,7 +131,7 @@ reading_line word rest =
     else (if bytes_eq word (codes "trace") then numbered (λ above. Trace above) rest
     else (if bytes_eq word (codes "bundle-events") then numbered (λ above. BundleEvents above) rest
     else (if bytes_eq word (codes "finish") then numbered (λ turn. Finish turn) rest
-    else (if bytes_eq word (codes "wiring") then wiring rest else paired_line word rest)))))
+    else (if bytes_eq word (codes "wiring") then wiring rest else telling_line word rest)))))
 
 -- with a bundle or a listener
 abbrev pub bundle_line : List ℕ → Option (List ℕ) → Asked
@@ -137,9 +144,10 @@ bundle_line word rest =
 -- alone: what is there
 abbrev pub listing_line : List ℕ → Option (List ℕ) → Asked
 listing_line word rest =
-    if bytes_eq word (codes "configs") then alone Configurations rest
+    if bytes_eq word (codes "list") then alone ListComponents rest
+    else (if bytes_eq word (codes "configs") then alone Configurations rest
     else (if bytes_eq word (codes "listeners") then alone Listeners rest
-    else (if bytes_eq word (codes "journal") then alone Journal rest else bundle_line word rest))
+    else (if bytes_eq word (codes "journal") then alone Journal rest else bundle_line word rest)))
 
 -- alone, or with a word of a line
 abbrev pub worded_line : List ℕ → Option (List ℕ) → Asked

@@ -41,7 +41,7 @@ fn shown_factory(factory: &Option<Str>) -> &str
 }
 
 // Numbers with commas between them. A hyphen stands for none.
-fn shown_numbers(alloc: Global, numbers: &[u64]) -> Result<String, OutOfMemory>
+pub(crate) fn shown_numbers(alloc: Global, numbers: &[u64]) -> Result<String, OutOfMemory>
     ensures { IfOk result (λ text. string_bytes text ≡ shown_numbers numbers.now) }
 {
     match numbers {

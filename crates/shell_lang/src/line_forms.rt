@@ -1,7 +1,7 @@
 //! The forms of lines, by their first word.
 ghost use Rattle.std.specs.Prelude.{◌≡◌, option_map};
 ghost use Rattle.shell_lang.specs.LineFaults.{Reads};
-ghost use Rattle.shell_lang.specs.ShellLines.{alone, asking_configuration, bundle_line, calling, carrying_line, configuring, configuring_factory, configuring_line, finding, installing, listening, listing_line, named_line, paired_line, reading_line, registering, setting, unconfiguring, updating, wiring, worded_line};
+ghost use Rattle.shell_lang.specs.ShellLines.{alone, asking_configuration, bundle_line, calling, carrying_line, configuring, configuring_factory, configuring_line, finding, installing, listening, listing_line, named_line, paired_line, reading_line, registering, setting, telling_line, unconfiguring, updating, wiring, worded_line};
 
 use crate::arguments::{owned, read_document, read_filter, read_properties};
 use crate::interfaces::interfaces_at;
@@ -40,6 +40,7 @@ fn listing_line(alloc: Global, word: &str, rest: Option<&str>) -> Result<ShellLi
     ensures { Reads (listing_line word.now (option_map (λ t. t.now) rest.entry)) result }
 {
     match word {
+        "list" => alone(ShellLine::ListComponents, rest),
         "configs" => alone(ShellLine::Configurations, rest),
         "listeners" => alone(ShellLine::Listeners, rest),
         "journal" => alone(ShellLine::Journal, rest),
@@ -95,6 +96,23 @@ fn reading_line(alloc: Global, word: &str, rest: Option<&str>) -> Result<ShellLi
             turn: only_number(rest)?,
         }),
         "wiring" => wiring(rest),
+        _ => telling_line(alloc, word, rest),
+    }
+}
+
+fn telling_line(alloc: Global, word: &str, rest: Option<&str>) -> Result<ShellLine, LineFault>
+    ensures { Reads (telling_line word.now (option_map (λ t. t.now) rest.entry)) result }
+{
+    match word {
+        "details" => Ok(ShellLine::Details {
+            configuration: only_number(rest)?,
+        }),
+        "service" => Ok(ShellLine::AboutService {
+            service: only_number(rest)?,
+        }),
+        "descriptions" => Ok(ShellLine::Descriptions {
+            bundle: only_number(rest)?,
+        }),
         _ => paired_line(alloc, word, rest),
     }
 }

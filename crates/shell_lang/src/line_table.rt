@@ -45,8 +45,16 @@ pub const LINES: &[(&str, &str)] = &[
         "tells what happened to bundles behind position P",
     ),
     (
+        "descriptions B",
+        "tells each description of a bundle, and its component configurations",
+    ),
+    (
         "services",
         "tells each service: number, bundle, interfaces, ranking",
+    ),
+    (
+        "service S",
+        "tells a service: its component, its properties, who uses and who holds it",
     ),
     (
         "find FILTER",
@@ -70,7 +78,15 @@ pub const LINES: &[(&str, &str)] = &[
         "components",
         "tells each component configuration: number, name, state",
     ),
+    (
+        "list",
+        "tells each component configuration, with the references that it waits for",
+    ),
     ("report C", "tells of a component configuration, as JSON"),
+    (
+        "details C",
+        "tells all of a component configuration, as JSON",
+    ),
     (
         "held C",
         "tells the services that the instances of a component configuration hold",

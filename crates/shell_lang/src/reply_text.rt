@@ -37,6 +37,10 @@ fn reply_text(alloc: Global, reply: &ShellReply) -> Result<String, OutOfMemory>
         ShellReply::Components(rows) => rows_text(alloc, rows.as_slice()),
         ShellReply::Report(text) => format!(in alloc; "ok {}\n", text.as_str()),
         ShellReply::Held(rows) => rows_text(alloc, rows.as_slice()),
+        ShellReply::Listed(rows) => rows_text(alloc, rows.as_slice()),
+        ShellReply::Details(text) => format!(in alloc; "ok {}\n", text.as_str()),
+        ShellReply::ServiceFacts(rows) => rows_text(alloc, rows.as_slice()),
+        ShellReply::Descriptions(rows) => rows_text(alloc, rows.as_slice()),
         ShellReply::Found(numbers) => rows_text(alloc, numbers.as_slice()),
         ShellReply::Events { before, events } => {
             placed_rows_text(alloc, *before, events.as_slice())

@@ -32,6 +32,23 @@ pub enum ShellLine {
         /// Its number.
         configuration: u64,
     },
+    /// The component configurations, their states, and what they wait for.
+    ListComponents,
+    /// All that is told of a component configuration.
+    Details {
+        /// Its number.
+        configuration: u64,
+    },
+    /// What is told of a service.
+    AboutService {
+        /// Its number.
+        service: u64,
+    },
+    /// The descriptions of a bundle, and the component configurations of each.
+    Descriptions {
+        /// The bundle's number.
+        bundle: u64,
+    },
     /// The services that a filter matches.
     Find {
         /// The filter.

@@ -1,6 +1,9 @@
 //! What lines are answered.
 
-use crate::{CallRefusal, ConfigurationLine, LineFault, LineHelp, ListenerLine, RouteLine};
+use crate::{
+    CallRefusal, ConfigurationLine, DescriptionLine, LineFault, LineHelp, ListedLine, ListenerLine,
+    RouteLine, ServiceFact,
+};
 use bundle_life::BundleEvent;
 use callback_orders::Outcome;
 use prop_map::{List, Str};
@@ -63,6 +66,14 @@ pub enum ShellReply {
     Report(Str),
     /// What instances hold.
     Held(List<HeldLine>),
+    /// The component configurations with what they wait for.
+    Listed(List<ListedLine>),
+    /// All that is told of a component configuration, as JSON without blanks.
+    Details(Str),
+    /// What is told of a service.
+    ServiceFacts(List<ServiceFact>),
+    /// The descriptions of a bundle.
+    Descriptions(List<DescriptionLine>),
     /// The numbers of services, the best first.
     Found(List<u64>),
     /// What a listener was told.
