@@ -7,5 +7,5 @@ use Rattle.platform_hall.proofs.platform.Platform.command.Goals as goal
 pub returns-in_err-post : goal.returns-in_err-post
 returns-in_err-post g c =
     let p = err_from_is_err_and c.from_residual-in_err-post.result c.from_residual-in_err-post.ensures.1 in
-    let taken = subst (λ (p : CoreView). CoreTakes p c.args.command (Ok c.in_ok-accepted.accepted) c.command.new.self.core) c.self.view_is c.in_ok-accepted.ensures in
+    let taken = subst (λ (p : CoreView). CoreTakes p c.args.command (Ok c.in_ok-accepted.accepted) c.command.new.self.core) c.self.view_is c.in_ok-accepted.ensures.takes in
     rw (p.1, p.2) (inr (c.in_ok-accepted.accepted.reply, (c.in_ok-accepted.accepted, c.command.new.self.core, refl, taken, c.post.ensures.step.0)))

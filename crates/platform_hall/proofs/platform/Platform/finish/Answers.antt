@@ -16,7 +16,7 @@ returns-in-Ok-clause-finishes g c =
     let its = subst (λ n. running desk.core n ≡ Some work) (sym number) runs in
     let P : CoreView → Type 0 = λ p. FinishesTurn g.K.Kinds.refuses p c.args.turn (Ok c.in-Ok.outcome) left.core in
     let Q : ℕ → Type 0 = λ n. FinishesTurn g.K.Kinds.refuses desk.core n (Ok c.in-Ok.outcome) left.core in
-    subst P c.self.view_is (subst Q number (finished_ok g.K.Kinds.made g.K.Kinds.hears g.K.Kinds.refuses desk left work its c.in-Ok.outcome c.in-Ok.ensures))
+    subst P c.self.view_is (subst Q number (finished_ok g.K.Kinds.made g.K.Kinds.hears g.K.Kinds.refuses desk left work its c.self.invariant.1 c.in-Ok.outcome c.in-Ok.ensures))
 
 pub returns-in-Ok-clause-heard : goal.returns-in-Ok-clause-heard
 returns-in-Ok-clause-heard g c =
@@ -26,9 +26,9 @@ returns-in-Ok-clause-heard g c =
     let runs = sym c.in_ok-work.ensures.work ∙ c.in-Some.is in
     let number = c.work.ensures.number work runs in
     let its = subst (λ n. running desk.core n ≡ Some work) (sym number) runs in
-    let P : CoreView → Type 0 = λ p. FinishesHeard g.K.Kinds.made g.K.Kinds.hears p c.args.turn c.in-Ok.outcome left.core in
-    let Q : ℕ → Type 0 = λ n. FinishesHeard g.K.Kinds.made g.K.Kinds.hears desk.core n c.in-Ok.outcome left.core in
-    subst P c.self.view_is (subst Q number (finished_heard g.K.Kinds.made g.K.Kinds.hears g.K.Kinds.refuses desk left work its c.in-Ok.outcome c.in-Ok.ensures))
+    let P : CoreView → Type 0 = λ p. FinishesHeard g.K.Kinds.made g.K.Kinds.hears g.K.Kinds.refuses p c.args.turn c.in-Ok.outcome left.core in
+    let Q : ℕ → Type 0 = λ n. FinishesHeard g.K.Kinds.made g.K.Kinds.hears g.K.Kinds.refuses desk.core n c.in-Ok.outcome left.core in
+    subst P c.self.view_is (subst Q number (finished_heard g.K.Kinds.made g.K.Kinds.hears g.K.Kinds.refuses desk left work its c.self.invariant.1 c.in-Ok.outcome c.in-Ok.ensures))
 
 pub returns-clause-finishes : goal.returns-clause-finishes
 returns-clause-finishes g c =
@@ -40,4 +40,4 @@ returns-clause-finishes g c =
     let its = subst (λ n. running desk.core n ≡ Some work) (sym number) runs in
     let P : CoreView → Type 0 = λ p. FinishesTurn g.K.Kinds.refuses p c.args.turn (Err OutOfMemory) left.core in
     let Q : ℕ → Type 0 = λ n. FinishesTurn g.K.Kinds.refuses desk.core n (Err OutOfMemory) left.core in
-    subst P c.self.view_is (subst Q number (finished_err g.K.Kinds.made g.K.Kinds.hears g.K.Kinds.refuses desk left work its c.in-Err.field-0 c.in-Err.ensures))
+    subst P c.self.view_is (subst Q number (finished_err g.K.Kinds.made g.K.Kinds.hears g.K.Kinds.refuses desk left work its c.self.invariant.1 c.in-Err.field-0 c.in-Err.ensures))

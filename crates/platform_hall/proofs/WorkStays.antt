@@ -22,7 +22,7 @@ use Rattle.platform_hall.proofs.Starts.{runs_as}
 use Rattle.platform_hall.proofs.Steps.{IsAfter}
 use Rattle.platform_hall.proofs.Turns.{AreTold, one_turn, turn_told, turns_legal}
 use Rattle.prop_map.specs.declared.properties.Property.{Property}
-use Rattle.hall_locked.specs.Cores.{CoreView}
+use Rattle.scr_requests.specs.Cores.{CoreView}
 use Rattle.scr_laws.proofs.Activated.{none_outstanding}
 use Rattle.scr_laws.proofs.InstanceLemmas.{begun_cases, mapped_was}
 use Rattle.scr_laws.proofs.Listed.{found_was}
