@@ -1,5 +1,5 @@
 -- What is kept of turns stays what they came to when they were told, at each of a desk's calls.
-use Rattle.std.proofs.Common.{◌≡◌, ℕ, zero, suc, List, [], ◌∷◌, ◌++◌, Bool, sym, ◌∙◌, ap, subst, inl, inr, Result, Ok, Err}
+use Rattle.std.proofs.Common.{◌≡◌, ℕ, zero, suc, List, [], ◌∷◌, ◌++◌, Bool, sym, ◌∙◌, ap, subst, inl, inr, Option, Some, None, Result, Ok, Err}
 use Rattle.std.specs.List.{Contains}
 use Rattle.callback_orders.specs.declared.callback.Outcome.{Outcome}
 use Rattle.kind_trait.specs.declared.kind_fault.KindFault.{KindFault}
@@ -7,13 +7,15 @@ use Rattle.kind_trait.specs.Meanings.{Told}
 use Rattle.prop_map.specs.declared.properties.Property.{Property}
 use Rattle.component_state.proofs.Apart.{in_none}
 use Rattle.turn_runner.specs.declared.came.Came.{Came}
+use Rattle.turn_runner.specs.declared.desk_fault.DeskFault.{DeskFault}
+use Rattle.turn_runner.specs.declared.desk_fault.DeskFault.TheVariants.{JournalFull as NoRoom, OutOfMemory as NoMemoryLeft}
 use Rattle.turn_runner.specs.declared.settle_fault.SettleFault.{SettleFault}
 use Rattle.turn_runner.specs.declared.settle_fault.SettleFault.TheVariants.{Unsettled, JournalFull, OutOfMemory}
-use Rattle.turn_runner.specs.Turns.{Ends, IsAnswered, IsCutOff, IsFinished, Settles, Starts, Turns}
+use Rattle.turn_runner.specs.Turns.{Ends, IsAnswered, IsCutOff, IsFinished, IsTaken, Settles, Starts, Turns}
 use Rattle.turn_work.specs.declared.site.Site.{Site}
 use Rattle.turn_work.specs.declared.work.TurnWork.{TurnWork}
 use Rattle.platform_hall.specs.Desks.{AreAnswered, DeskBegins, DeskFinishes, DeskHears, DeskPosts, DeskSettles, DeskStays, DeskView, Owns, kept_but}
-use Rattle.platform_hall.specs.Platforms.{has_drain}
+use Rattle.platform_hall.specs.Platforms.{has_drain, has_due, has_room}
 use Rattle.platform_hall.proofs.Keeping.{kept_before, kept_or_new}
 use Rattle.platform_hall.proofs.Seen.{kept_same}
 
@@ -48,6 +50,13 @@ module _ {O : Type 0} (made : O → Site → Type 0) (hears : O → Site → Tol
   stays_answered before work after (inl same) known = answered_same before.kept after.kept (kept_same same) known
   stays_answered before work after (inr (handed, came, its, hands, keeps, is)) known =
       answered_more before before.kept after.kept came (keeps.3 ∙ ap (λ (xs : List (Came O)). xs ++ came ∷ []) hands.3) is known
+
+  -- a turn that is taken, or isn't
+  pub taken_answered : (before after : DeskView O) (answer : Result (Option TurnWork) DeskFault) → IsTaken (λ (d : DeskView O). has_due d.core) (λ (d : DeskView O). has_room d.core) DeskBegins before answer after → Known before.kept → Known after.kept
+  taken_answered before after (Ok None) (idle, same) known = answered_same before.kept after.kept (kept_same same) known
+  taken_answered before after (Ok (Some work)) (due, room, begins) known = answered_same before.kept after.kept begins.2 known
+  taken_answered before after (Err NoRoom) (due, full, same) known = answered_same before.kept after.kept (kept_same same) known
+  taken_answered before after (Err NoMemoryLeft) same known = answered_same before.kept after.kept (kept_same same) known
 
   -- ---- settlings
 

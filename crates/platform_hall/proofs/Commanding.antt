@@ -10,6 +10,8 @@ use Rattle.scr_world.specs.declared.step.Step.{Step}
 use Rattle.scr_world.specs.declared.step.Step.TheVariants.{Command as Commanded}
 use Rattle.scr_world.specs.Calls.{Commands, Grown, GrownIf, world_at}
 use Rattle.scr_world.specs.Replies.{changes}
+use Rattle.scr_requests.specs.Cores.{CoreView}
+use Rattle.platform_hall.specs.Platforms.{CoreTakes, TakesCommand}
 use Rattle.platform_hall.proofs.Growing.{Grows, grown_grows, grows_none}
 use Rattle.platform_hall.proofs.Steps.{grown_after}
 use Rattle.platform_hall.proofs.Stops.{IsAlike, alike_itself, commanded_alike}
@@ -43,7 +45,7 @@ module _ (limit : ℕ) (old new : List (Entry Step)) (command : Command) where
   commands_step (Err (ActivationFailed i)) takes = inl takes.1
   commands_step (Err (ActivationNoMemory i)) takes = inl takes.1
   commands_step (Err JournalFull) takes = inl takes.1
-  commands_step (Err OutOfMemory) takes = inl takes
+  commands_step (Err OutOfMemory) takes = inl takes.1
 
   step_alike : (new ≡ old) ⊎ Grown limit old (Commanded command) new → IsAlike (world_at old) (world_at new)
   step_alike (inl same) = subst (λ (j : List (Entry Step)). IsAlike (world_at old) (world_at j)) (sym same) (alike_itself (world_at old))
@@ -58,3 +60,28 @@ module _ (limit : ℕ) (old new : List (Entry Step)) (command : Command) where
 
   pub commands_grow : (answer : Result Accepted CoreFault) → Commands limit old command answer new → Grows old new
   commands_grow answer takes = step_grows (commands_step answer takes)
+
+-- what the core refuses the platform refuses
+pub takes_refused : (before after : CoreView) (command : Command) (fault : CoreFault) → CoreTakes before command (Err fault) after → TakesCommand before command (Err fault) after
+takes_refused before after command (NoBundle b) takes = takes
+takes_refused before after command (NoComponent n) takes = takes
+takes_refused before after command (WrongState s) takes = takes
+takes_refused before after command (Stopping i) takes = takes
+takes_refused before after command (SameName b) takes = takes
+takes_refused before after command (Cycle path) takes = takes
+takes_refused before after command BundlesFull takes = takes
+takes_refused before after command ComponentsFull takes = takes
+takes_refused before after command ServicesFull takes = takes
+takes_refused before after command ConfigurationsFull takes = takes
+takes_refused before after command ListenersFull takes = takes
+takes_refused before after command (NoService s) takes = takes
+takes_refused before after command (NotOwner b) takes = takes
+takes_refused before after command NotUsing takes = takes
+takes_refused before after command (NoListener l) takes = takes
+takes_refused before after command NoConfiguration takes = takes
+takes_refused before after command BadPid takes = takes
+takes_refused before after command FactoryClash takes = takes
+takes_refused before after command (ActivationFailed i) takes = takes
+takes_refused before after command (ActivationNoMemory i) takes = takes
+takes_refused before after command JournalFull takes = takes
+takes_refused before after command OutOfMemory takes = inl takes

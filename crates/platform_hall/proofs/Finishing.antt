@@ -23,9 +23,11 @@ module _ {O : Type 0} (made : O → Site → Type 0) (hears : O → Site → Tol
   -- the outcome is right, and the turn has ended in the core
   finishes_ends : (outcome : Outcome) (ended : DeskView O) → DeskFinishes made hears refuses before work outcome ended → IsOutcome (is_refused refuses work) outcome × Ends before.core work.number outcome ended.core
   finishes_ends outcome ended (inl (untold, told)) = (told.0, hears_ends made hears before work.number outcome ended told.1)
-  finishes_ends outcome ended (inr (came, kept, its, same, ends, own)) =
-      (subst (λ (o : Outcome). IsOutcome (is_refused refuses work) o) (sym same)
-      (subst (λ (w : TurnWork). IsOutcome (is_refused refuses w) came.ran.outcome) its (known came (found_was (λ (k : Came O). k.work.number == work.number) before.kept came kept).0).1.0), ends.0)
+  finishes_ends outcome ended (inr (came, kept, its, same, ends, own)) = (
+    subst (λ (o : Outcome). IsOutcome (is_refused refuses work) o) (sym same)
+        (subst (λ (w : TurnWork). IsOutcome (is_refused refuses w) came.ran.outcome) its (known came (found_was (λ (k : Came O). k.work.number == work.number) before.kept came kept).0).1.0),
+    ends.0,
+  )
 
   finishes : (ended : DeskView O) (outcome : Outcome) → DeskFinishes made hears refuses before work outcome ended → DeskPosts ended after → Finishes refuses before.core work.number outcome after.core
   finishes ended outcome is posts = let ends = finishes_ends outcome ended is in (work, ended.core, runs, ends.0, ends.1, posts.0)

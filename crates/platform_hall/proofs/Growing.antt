@@ -36,7 +36,7 @@ grown_grows limit old step new (entry, its_step, follows, grew) = (entry ∷ [],
 
 drained_grows : (limit count : ℕ) (old new : List (Entry Step)) → Drained limit count old new → Grows old new
 drained_grows limit zero old new same = grows_none old new same
-drained_grows limit (suc count) old new (between, key, rest, (i, found, grown)) =
+drained_grows limit (suc count) old new (between, key, next, rest, (i, found, grown)) =
     grows_then old between new (drained_grows limit count old between rest) (grown_grows limit between _ new grown)
 
 pub posts_grows : (before after : CoreView) → Posts before after → Grows before.journal after.journal

@@ -51,14 +51,14 @@ ends_legal before after turn outcome legal ends = with_limits before after ends.
 
 drained_legal : (limit count : ℕ) (old new : List (Entry Step)) → IsLegal limit (history_of old) → Drained limit count old new → IsLegal limit (history_of new)
 drained_legal limit zero old new legal same = subst (λ (j : List (Entry Step)). IsLegal limit (history_of j)) (sym same) legal
-drained_legal limit (suc count) old new legal (between, key, rest, (i, found, grown)) = grown_legal limit between new (DrainedStep i.number) (drained_legal limit count old between legal rest) grown
+drained_legal limit (suc count) old new legal (between, key, next, rest, (i, found, grown)) = grown_legal limit between new (DrainedStep i.number) (drained_legal limit count old between legal rest) grown
 
 pub posts_legal : (before after : CoreView) → HasLegal before → Posts before after → HasLegal after
 posts_legal before after legal (same, count, posted) = with_limits before after same (drained_legal before.limits.journal count before.journal after.journal legal posted)
 
 drained_all : (limit count : ℕ) (old new : List (Entry Step)) → Drained limit count old new → IsAlike (world_at old) (world_at new)
 drained_all limit zero old new same = subst (λ (j : List (Entry Step)). IsAlike (world_at old) (world_at j)) (sym same) (alike_itself (world_at old))
-drained_all limit (suc count) old new (between, key, rest, (i, found, grown)) =
+drained_all limit (suc count) old new (between, key, next, rest, (i, found, grown)) =
     alike_then (world_at old) (world_at between) (world_at new) (drained_all limit count old between rest)
     (drained_alike (world_at between) (world_at new) i.number (grown_after limit between new (DrainedStep i.number) grown))
 

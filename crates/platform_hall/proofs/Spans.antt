@@ -95,7 +95,7 @@ with_journal p journal = record { limits = p.limits; journal = journal }
 
 drained_spans : (count : ℕ) (before : CoreView) (journal : List (Entry Step)) → Drained before.limits.journal count before.journal journal → Spans before (with_journal before journal) 0
 drained_spans zero before journal same = spans_none before (with_journal before journal) (ap (with_journal before) same)
-drained_spans (suc count) before journal (between, key, rest, (i, found, grown)) =
+drained_spans (suc count) before journal (between, key, next, rest, (i, found, grown)) =
     spans_then before (with_journal before between) (with_journal before journal) 0 0 0 refl (drained_spans count before between rest)
     (spans_step (with_journal before between) (with_journal before journal) (DrainedStep i.number) 0 refl grown refl refl (λ legal. grown_legal before.limits.journal between journal (DrainedStep i.number) legal grown))
 

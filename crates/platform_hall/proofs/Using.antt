@@ -59,7 +59,7 @@ module _ (limit : ℕ) (old new : List (Entry Step)) where
   gets_step bundle service (Err (ActivationFailed i)) gets = inl gets.1
   gets_step bundle service (Err (ActivationNoMemory i)) gets = inl gets.1
   gets_step bundle service (Err JournalFull) gets = inl gets.2
-  gets_step bundle service (Err OutOfMemory) gets = inl gets
+  gets_step bundle service (Err OutOfMemory) gets = inl gets.2
 
   got_step_alike : (bundle service : ℕ) → (new ≡ old) ⊎ Grown limit old (Got bundle service) new → IsAlike (world_at old) (world_at new)
   got_step_alike bundle service (inl same) = same_alike same

@@ -19,7 +19,7 @@ use Rattle.scr_world.specs.declared.reply.Reply.{Reply}
 use Rattle.scr_world.specs.declared.step.Step.{Step}
 use Rattle.scr_world.specs.declared.step.Step.TheVariants.{End}
 use Rattle.scr_world.specs.declared.instance.Instance.{Instance}
-use Rattle.scr_world.specs.Calls.{Commands, Drains, Grown, Takes, world_at}
+use Rattle.scr_world.specs.Calls.{Commands, Drains, Grown, Takes, next_drain, world_at}
 use Rattle.scr_requests.specs.Cores.{CoreView}
 use Rattle.scr_world.specs.Dues.{due_in, next_begin}
 use Rattle.scr_world.specs.Legal.{awaits_drain}
@@ -71,10 +71,11 @@ Begins before work after = (after.limits ≡ before.limits) × (work.number ≡ 
 abbrev pub Ends : CoreView → ℕ → Outcome → CoreView → Type 0
 Ends before turn outcome after = (after.limits ≡ before.limits) × Grown before.limits.journal before.journal (End turn outcome) after.journal
 
--- the journal has grown by so many drains
+-- the journal has grown by so many drains, each that of the first instance that awaited one then
 abbrev pub Drained : ℕ → ℕ → List (Entry Step) → List (Entry Step) → Type 0
 Drained limit zero old new = new ≡ old
-Drained limit (suc count) old new = (between : List (Entry Step)) × (key : GateKey) × Drained limit count old between × Drains limit between key new
+Drained limit (suc count) old new =
+    (between : List (Entry Step)) × (key : GateKey) × (next_drain (world_at between) ≡ Some key) × Drained limit count old between × Drains limit between key new
 
 -- drains are posted
 abbrev pub Posts : CoreView → CoreView → Type 0
@@ -93,7 +94,7 @@ Accepts before command reply after =
 -- entry and some of the drains
 abbrev pub TakesCommand : CoreView → Command → Result Reply CoreFault → CoreView → Type 0
 TakesCommand before command (Ok reply) after = Accepts before command reply after × (has_drain after ≡ false)
-TakesCommand before command (Err OutOfMemory) after = (after ≡ before) ⊎ ((reply : Reply) × Accepts before command reply after)
+TakesCommand before command (Err OutOfMemory) after = CoreTakes before command (Err OutOfMemory) after ⊎ ((reply : Reply) × Accepts before command reply after)
 TakesCommand before command (Err fault) after = CoreTakes before command (Err fault) after
 
 -- what a settling of so many turns at most answers and does, where component code refuses so

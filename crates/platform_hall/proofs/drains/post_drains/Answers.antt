@@ -12,7 +12,7 @@ pub loop-key-preserved : goal.loop-key-preserved
 loop-key-preserved c =
     let posted = c.loop-key.invariant in
     let drains = subst (λ (l : Limits). Drains l.journal c.loop-key.core.journal c.in-Some.key c.drained.new.self.journal) posted.0 c.in_ok-drained.ensures.ok in
-    (c.in_ok-drained.ensures.limits ∙ posted.0, suc posted.1, (c.loop-key.core.journal, c.in-Some.key, posted.2, drains))
+    (c.in_ok-drained.ensures.limits ∙ posted.0, suc posted.1, (c.loop-key.core.journal, c.in-Some.key, sym c.next_drain.ensures ∙ c.in-Some.is, posted.2, drains))
 
 pub loop-key-smaller : goal.loop-key-smaller
 loop-key-smaller c = room_falls c.loop-key.core c.drained.new.self c.in-Some.key c.in_ok-drained.ensures.limits c.in_ok-drained.ensures.ok

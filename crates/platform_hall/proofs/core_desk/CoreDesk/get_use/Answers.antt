@@ -9,9 +9,10 @@ invariant_of-self g c =
     let core = c.self.inside.core in
     let after = c.get_use-note.new.self in
     let alike = gets_alike core.limits.journal core.journal after.journal c.args.bundle c.args.service c.get_use-note.result c.get_use-note.ensures.answer in
-    let grows = gets_grow core.limits.journal core.journal after.journal c.args.bundle c.args.service c.get_use-note.result c.get_use-note.ensures.answer in
-    (desk_alike core after c.self.inside.turns.items c.self.inside.held.items alike c.self.invariant.0,
-    fit_alike core after c.self.inside.kept.items c.note_legal.ensures c.note_legal-2.ensures grows alike c.self.invariant.1)
+    let grows = gets_grow core.limits.journal core.journal after.journal c.args.bundle c.args.service c.get_use-note.result c.get_use-note.ensures.answer in (
+      desk_alike core after c.self.inside.turns.items c.self.inside.held.items alike c.self.invariant.0,
+      fit_alike core after c.self.inside.kept.items c.note_legal.ensures c.note_legal-2.ensures grows alike c.self.invariant.1,
+    )
 
 pub returns-clause-kept : goal.returns-clause-kept
 returns-clause-kept g c = kept_same c.self.view_is

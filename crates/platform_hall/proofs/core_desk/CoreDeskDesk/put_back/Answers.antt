@@ -27,17 +27,18 @@ try_end-ended-requires-clause-token g c =
 pub push_reserved-requires : goal.push_reserved-requires
 push_reserved-requires g c = ltb-true _ _ (ap (λ (d : DeskView g.row.O.Denot). d.ready) c.self.view_is ∙ c.requires.ready)
 
-pub invariant_of-self-then-is_err : goal.invariant_of-self-then-is_err
-invariant_of-self-then-is_err g c =
+pub invariant_of-self : goal.invariant_of-self
+invariant_of-self g c =
     let ended = c.try_end-ended in
     let failed = sym c.is_err.ensures.value ∙ c.if-is_err.true in
     let same = when_err ended.result failed ended.ensures.err in
-    let runs = ap (λ (d : DeskView g.row.O.Denot). running d.core c.args.work.number) c.self.view_is ∙ c.requires.running in
-    (desk_same c.self.inside.core ended.new.core c.self.inside.turns.items ended.new.turns.items c.self.inside.held.items ended.new.held.items
-    same (when_err ended.result failed ended.ensures.same) ended.ensures.held c.self.invariant.0,
-    fit_more ended.new.core c.self.inside.kept.items c.push_reserved.new.self.items (record { work = c.args.work; ran = c.args.ran }) c.push_reserved.ensures.items
-    (ap (λ (p : CoreView). running p c.args.work.number) same ∙ runs) c.requires.made
-    (fit_same c.self.inside.core ended.new.core c.self.inside.kept.items same c.self.invariant.1))
+    let runs = ap (λ (d : DeskView g.row.O.Denot). running d.core c.args.work.number) c.self.view_is ∙ c.requires.running in (
+      desk_same c.self.inside.core ended.new.core c.self.inside.turns.items ended.new.turns.items c.self.inside.held.items ended.new.held.items
+          same (when_err ended.result failed ended.ensures.same) ended.ensures.held c.self.invariant.0,
+      fit_more ended.new.core c.self.inside.kept.items c.push_reserved.new.self.items (record { work = c.args.work; ran = c.args.ran }) c.push_reserved.ensures.items
+          (ap (λ (p : CoreView). running p c.args.work.number) same ∙ runs) c.requires.made
+          (fit_same c.self.inside.core ended.new.core c.self.inside.kept.items same c.self.invariant.1),
+    )
 
 pub returns-then-is_err-clause-err : goal.returns-then-is_err-clause-err
 returns-then-is_err-clause-err g c =
@@ -47,20 +48,21 @@ returns-then-is_err-clause-err g c =
     (when_err ended.result failed ended.ensures.err, ended.ensures.held, refl, c.push_reserved.ensures.items)
 
 -- it has ended
-pub invariant_of-self : goal.invariant_of-self
-invariant_of-self g c =
+pub invariant_of-self-2 : goal.invariant_of-self-2
+invariant_of-self-2 g c =
     let work = c.args.work in
     let ended = c.try_end-ended in
     let made = is_some c.args.ran.made in
     let runs = ap (λ (d : DeskView g.row.O.Denot). running d.core work.number) c.self.view_is ∙ c.requires.running in
-    let done = sym c.is_err.ensures.value ∙ c.if-is_err.false in
-    (ended_desk c.self.inside.core ended.new.core work.number c.args.ran.outcome work c.note_legal.ensures runs (when_ok ended.result done ended.ensures.ok)
-    c.self.inside.turns.items ended.new.turns.items c.self.inside.held.items c.keep.new.held.items made c.is_destroy-is_destroyed.result
-    (when_ok ended.result done ended.ensures.less)
-    (λ n. c.keep.ensures.holders n ∙ ap (λ xs. (is_holder xs n || (made && (work.instance == n))) && not (c.is_destroy-is_destroyed.result && (work.instance == n))) ended.ensures.held)
-    (λ n. subst (λ xs. holders_of c.keep.new.held.items n ≤ holders_of xs n + one_if (made && (work.instance == n))) ended.ensures.held (c.keep.ensures.few n))
-    c.requires.made c.is_destroy-is_destroyed.ensures c.self.invariant.0,
-    fit_ended c.self.inside.core ended.new.core work.number c.args.ran.outcome work c.self.inside.kept.items c.forget.new.kept.items c.note_legal.ensures runs (when_ok ended.result done ended.ensures.ok) c.forget.ensures c.self.invariant.1)
+    let done = sym c.is_err.ensures.value ∙ c.if-is_err.false in (
+      ended_desk c.self.inside.core ended.new.core work.number c.args.ran.outcome work c.note_legal.ensures runs (when_ok ended.result done ended.ensures.ok)
+          c.self.inside.turns.items ended.new.turns.items c.self.inside.held.items c.keep.new.held.items made c.is_destroy-is_destroyed.result
+          (when_ok ended.result done ended.ensures.less)
+          (λ n. c.keep.ensures.holders n ∙ ap (λ xs. (is_holder xs n || (made && (work.instance == n))) && not (c.is_destroy-is_destroyed.result && (work.instance == n))) ended.ensures.held)
+          (λ n. subst (λ xs. holders_of c.keep.new.held.items n ≤ holders_of xs n + one_if (made && (work.instance == n))) ended.ensures.held (c.keep.ensures.few n))
+          c.requires.made c.is_destroy-is_destroyed.ensures c.self.invariant.0,
+      fit_ended c.self.inside.core ended.new.core work.number c.args.ran.outcome work c.self.inside.kept.items c.forget.new.kept.items c.note_legal.ensures runs (when_ok ended.result done ended.ensures.ok) c.forget.ensures c.self.invariant.1,
+    )
 
 pub returns-clause-ok : goal.returns-clause-ok
 returns-clause-ok g c =

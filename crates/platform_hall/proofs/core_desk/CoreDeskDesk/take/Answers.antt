@@ -14,10 +14,11 @@ pub invariant_of-self-in-Ok-Turn : goal.invariant_of-self-in-Ok-Turn
 invariant_of-self-in-Ok-Turn g c =
     let took = rw c.in-Ok-Turn.field-0-is at c.in-Ok-Turn.ensures.answer in
     let turns = c.self.inside.turns.items in
-    let grew = c.push_reserved.ensures.items ∙ ap (λ xs. xs ++ c.in-Ok-Turn.token ∷ []) c.reserve.ensures.items ∙ ap (λ t. turns ++ t ∷ []) took.0 in
-    (subst (λ xs. IsDesk {O = g.row.O.Denot} c.take_turn.new.self xs c.self.inside.held.items) (sym grew)
-    (desk_begun c.self.inside.core c.take_turn.new.self turns c.self.inside.held.items c.in-Ok-Turn.work c.note_legal.ensures (c.in-Ok-Turn.ensures.limits, took.1, took.2) c.self.invariant.0),
-    fit_begun c.self.inside.core c.take_turn.new.self c.in-Ok-Turn.work c.self.inside.kept.items c.note_legal.ensures (c.in-Ok-Turn.ensures.limits, took.1, took.2) c.self.invariant.1)
+    let grew = c.push_reserved.ensures.items ∙ ap (λ xs. xs ++ c.in-Ok-Turn.token ∷ []) c.reserve.ensures.items ∙ ap (λ t. turns ++ t ∷ []) took.0 in (
+      subst (λ xs. IsDesk {O = g.row.O.Denot} c.take_turn.new.self xs c.self.inside.held.items) (sym grew)
+          (desk_begun c.self.inside.core c.take_turn.new.self turns c.self.inside.held.items c.in-Ok-Turn.work c.note_legal.ensures (c.in-Ok-Turn.ensures.limits, took.1, took.2) c.self.invariant.0),
+      fit_begun c.self.inside.core c.take_turn.new.self c.in-Ok-Turn.work c.self.inside.kept.items c.note_legal.ensures (c.in-Ok-Turn.ensures.limits, took.1, took.2) c.self.invariant.1,
+    )
 
 pub returns-in-Ok-Turn-clause-running : goal.returns-in-Ok-Turn-clause-running
 returns-in-Ok-Turn-clause-running g c =
