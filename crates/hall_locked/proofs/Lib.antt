@@ -15,3 +15,4 @@ pub use Rattle.platform_hall.proofs.Settlings
 pub use Rattle.platform_hall.proofs.Starts
 pub use Rattle.platform_hall.proofs.Steps
 pub use Rattle.platform_hall.proofs.Turns
+pub use Rattle.platform_hall.proofs.WorkStays

@@ -1,5 +1,5 @@
 -- What a desk keeps beside the core stays as its journal says, at each of its calls.
-use Rattle.std.proofs.Common.{◌≡◌, ◌<◌, ◌≤◌, ℕ, ◌+◌, List, [], ◌∷◌, ◌++◌, ap, sym, ◌∙◌, refl, cond, Bool, true, false, ◌&&◌, ◌||◌, Some, None, inl, inr, arith}
+use Rattle.std.proofs.Common.{◌≡◌, ◌<◌, ◌≤◌, ℕ, ◌+◌, List, [], ◌∷◌, ◌++◌, ap, sym, ◌∙◌, refl, subst, cond, Bool, true, false, ◌&&◌, ◌||◌, Some, None, inl, inr, arith}
 use Rattle.std.specs.Prelude.{not, ◌==◌, option_and_then, option_map, if◌then◌else◌}
 use Rattle.std.specs.List.{list_any, sum_by}
 use Rattle.std.proofs.lemmas.Bool.{cases_eq, eqb-true, eq-eqb, ne_eqb}
@@ -90,12 +90,12 @@ module _ {O : Type 0} where
         alone = desk.alone;
       }
 
-  -- one token less, and one more again
-  pub desk_back : (p : CoreView) (turns rest : List ℕ) (held : List (Held O)) (turn : ℕ) → ((n : ℕ) → tokens_of turns n ≡ tokens_of rest n + one_if (turn == n)) → IsDesk p turns held → IsDesk p (rest ++ turn ∷ []) held
-  desk_back p turns rest held turn others desk = record {
-    tokens = λ n. tokens_more rest turn n ∙ sym (others n) ∙ desk.tokens n;
-    objects = desk.objects;
-    alone = desk.alone;
+  -- the same tokens and objects over the same core
+  pub desk_same : (before after : CoreView) (turns rest : List ℕ) (held kept : List (Held O)) → after ≡ before → ((n : ℕ) → tokens_of rest n ≡ tokens_of turns n) → kept ≡ held → IsDesk before turns held → IsDesk after rest kept
+  desk_same before after turns rest held kept same tokens holds desk = record {
+    tokens = λ n. tokens n ∙ desk.tokens n ∙ ap (λ (p : CoreView). one_if (is_under_way (world p) n)) (sym same);
+    objects = λ n. ap (λ (hs : List (Held O)). is_holder hs n) holds ∙ desk.objects n ∙ ap (λ (p : CoreView). has_object p n) (sym same);
+    alone = λ n. subst (λ (hs : List (Held O)). holders_of hs n ≤ 1) (sym holds) (desk.alone n);
   }
 
 -- ---- a turn that is under way
@@ -125,7 +125,7 @@ module _ (before after : CoreView) (turn : ℕ) (outcome : Outcome) (work : Turn
       stops_it (world before) (world after) (turns_legal before.limits.journal (history_of before.journal) legal) turn outcome
       (grown_after before.limits.journal before.journal after.journal (End turn outcome) ends.1) work (runs_as (world before) turn work is)
 
-  ended_others : (n : ℕ) → (turn ≡ n → ⊥) → is_under_way (world after) n ≡ is_under_way (world before) n
+  pub ended_others : (n : ℕ) → (turn ≡ n → ⊥) → is_under_way (world after) n ≡ is_under_way (world before) n
   ended_others =
       stops_others (world before) (world after) (turns_legal before.limits.journal (history_of before.journal) legal) turn outcome
       (grown_after before.limits.journal before.journal after.journal (End turn outcome) ends.1) work (runs_as (world before) turn work is)
@@ -192,3 +192,7 @@ module _ (before after : CoreView) (turn : ℕ) (outcome : Outcome) (work : Turn
       as_told false true false false is = refl
       as_told true false false false is = refl
       as_told false false false false is = refl
+
+-- one token more, where it was taken out
+pub back_again : (turns rest : List ℕ) (turn : ℕ) → ((n : ℕ) → tokens_of turns n ≡ tokens_of rest n + one_if (turn == n)) → (n : ℕ) → tokens_of (rest ++ turn ∷ []) n ≡ tokens_of turns n
+back_again turns rest turn others n = tokens_more rest turn n ∙ sym (others n)

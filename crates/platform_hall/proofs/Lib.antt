@@ -12,7 +12,10 @@ pub mod Taking
 pub mod Holders
 pub mod Alone
 pub mod Owners
+pub mod WorkStays
+pub mod Keeping
 pub mod Seen
+pub mod Answered
 pub mod Finishing
 pub mod Draining
 pub mod Results

@@ -17,3 +17,7 @@ ok_with (Err e) follows is = tt
 pub err_anyway : {T E Q : Type 0} (r : Result T E) → Q → OnErr r Q
 err_anyway (Ok x) is = tt
 err_anyway (Err e) is = is
+
+pub ok_anyway : {T E Q : Type 0} (r : Result T E) → Q → OnOk r Q
+ok_anyway (Ok x) is = is
+ok_anyway (Err e) is = tt

@@ -21,17 +21,25 @@ impl<O: Drop> CoreDesk<O> {
         bundle: u64,
         service: u64,
     ) -> Result<UseNote, CoreFault>
-        ensures { GetsUse self.old.core bundle service result self.new.core }
+        ensures gets { GetsUse self.old.core bundle service result self.new.core }
+        ensures kept { self.new.kept ≡ self.old.kept }
     {
-        self.core.get_use(alloc, bundle, service)
+        self.core.note_legal();
+        let note = self.core.get_use(alloc, bundle, service);
+        self.core.note_legal();
+        note
     }
 
     // Releases a get by a token, and answers whether it stood still.
     pub(crate) fn end_use(&mut self, alloc: Global, note: UseNote) -> Result<bool, OutOfMemory>
         ensures ok { OnOk result (ReleasesUse self.old.core note self.new.core) }
         ensures err { OnErr result (self.new.core ≡ self.old.core) }
+        ensures kept { self.new.kept ≡ self.old.kept }
     {
-        match self.core.end_use(alloc, note) {
+        self.core.note_legal();
+        let ended = self.core.end_use(alloc, note);
+        self.core.note_legal();
+        match ended {
             Ok(stood) => Ok(stood),
             Err((_, error)) => Err(error),
         }

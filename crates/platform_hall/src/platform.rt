@@ -4,7 +4,7 @@ ghost use Rattle.scr_world.specs.declared.reply.CoreFault.TheVariants.{OutOfMemo
 ghost use Rattle.scr_requests.specs.Cores.{AreWithinGreatest};
 ghost use Rattle.scr_world.specs.Legal.{IsLegal};
 ghost use Rattle.scr_world.specs.Steps.{history_of};
-ghost use Rattle.platform_hall.specs.Desks.{DeskSettles, FinishesHeard, SettlesHeard};
+ghost use Rattle.platform_hall.specs.Desks.{AreAnswered, DeskSettles, FinishesHeard, SettlesHeard};
 ghost use Rattle.platform_hall.specs.Platforms.{BeginsTurn, FinishesTurn, SettlesAs, TakesCommand};
 ghost use Rattle.platform_hall.specs.SettleBounds.{SettlesWithin};
 
@@ -31,6 +31,7 @@ pub struct Platform<K: Kinds> {
 
 impl<K: Kinds> Model for Platform<K> {
     ghost use Rattle.scr_requests.specs.Cores.{CoreView};
+    ghost use Rattle.platform_hall.specs.Desks.{AreAnswered};
     ghost use Rattle.platform_hall.specs.Requests.{WereServletsOf};
     ghost use Rattle.std.specs.Prelude.{MatchOption};
     ghost use Rattle.std.specs.Coded.{codes};
@@ -42,7 +43,7 @@ impl<K: Kinds> Model for Platform<K> {
 
     ghost view = { λ p. p.desk.core };
 
-    ghost invariant = { λ p. MatchOption p.servlets (Unit {0}) (WereServletsOf p.desk.core.journal) };
+    ghost invariant = { λ p. MatchOption p.servlets (Unit {0}) (WereServletsOf p.desk.core.journal) × AreAnswered K.made K.hears K.refuses p.desk.kept };
 }
 
 // Runs the turns that are due over the desk, and sees of it what contracts see of its core.
@@ -54,6 +55,7 @@ fn settle_desk<K: Kinds>(
 ) -> Result<u64, SettleFault>
     ensures settles { SettlesAs K.refuses turns desk.old.core result desk.new.core }
     ensures heard { DeskSettles K.made K.hears K.refuses turns desk.old result desk.new }
+    ensures answered { AreAnswered K.made K.hears K.refuses desk.old.kept → AreAnswered K.made K.hears K.refuses desk.new.kept }
 {
     settle(alloc, desk, kinds, turns)
 }
@@ -125,20 +127,21 @@ impl<K: Kinds + Drop> Platform<K> {
     }
 
     /// Runs a turn that has begun, ends it, posts the drains that are due then, and answers the outcome. Unless it is a Create or a
-    /// Destroy, the object that is kept for its instance hears of it once.
+    /// Destroy, the object that is kept for its instance hears of it once. A turn that was told before, by a settling or by this call,
+    /// and couldn't be ended then for want of memory, ends with what it came to then, and nobody is told again.
     ///
     /// # Errors
-    /// `NoTurn` exactly where no turn of this number is under way. Otherwise only want of memory, which may leave the turn ended and
-    /// some of the drains posted.
+    /// `NoTurn` exactly where no turn of this number is under way. Otherwise only want of memory, which may leave the turn under
+    /// way, told or not, or ended and some of the drains posted.
     pub fn finish(&mut self, alloc: Global, turn: u64) -> Result<Outcome, FinishFault>
         ensures finishes { FinishesTurn K.refuses self.old turn result self.new }
-        ensures heard { IfOk result (λ outcome. FinishesHeard K.made K.hears self.old turn outcome self.new) }
+        ensures heard { IfOk result (λ outcome. FinishesHeard K.made K.hears K.refuses self.old turn outcome self.new) }
     {
         self.servlets = None;
         let Some(work) = self.desk.work(alloc, turn)? else {
             return Err(FinishFault::NoTurn);
         };
-        match finish(alloc, &mut self.desk, &self.kinds, &work) {
+        match finish(alloc, &mut self.desk, &self.kinds, work) {
             Ok(outcome) => Ok(outcome),
             Err(_) => Err(FinishFault::OutOfMemory),
         }

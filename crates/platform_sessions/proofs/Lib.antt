@@ -1,4 +1,3 @@
-pub mod WorkStays
 pub mod Things
 pub mod Mine
 pub mod Stretches

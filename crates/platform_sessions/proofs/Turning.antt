@@ -23,7 +23,7 @@ use Rattle.platform_sessions.specs.Halls.{KeepsPass, Own, View, core_seen, core_
 use Rattle.platform_sessions.specs.Works.{BeginsOne, HandsOut, HasBegun, HasEnded, IsBeginOf, IsEndOf, IsMine, IsRunFor, IsTold, begun_of, things_but}
 use Rattle.platform_sessions.proofs.Mine.{begun_mine, kept_begun, mine_under_way}
 use Rattle.platform_sessions.proofs.Things.{but_kept, by_but, by_there}
-use Rattle.platform_sessions.proofs.WorkStays.{running_stays}
+use Rattle.hall_locked.proofs.WorkStays.{running_stays}
 use Rattle.platform_sessions.proofs.Stretches.{core_is, core_with, entries_owned, journal_was, longer_by_one, looked, none_more, one_more, went_by}
 use Rattle.prop_map.specs.declared.properties.Property.{Property}
 use Rattle.hall_locked.specs.Cores.{CoreView}

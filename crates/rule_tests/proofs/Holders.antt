@@ -5,6 +5,8 @@ use Rattle.std.specs.Prelude.{◌==◌, is_some, option_map}
 use Rattle.std.specs.Option.{option_copied}
 use Rattle.std.specs.List.{find}
 use Rattle.std.proofs.lemmas.Bool.{eqb-true}
+use Rattle.turn_runner.specs.Outcomes.{IsMadeFor}
+use Rattle.turn_work.specs.declared.work.TurnWork.{TurnWork}
 use Rattle.rule_tests.specs.declared.memory_desk.Held.{Held}
 use Rattle.rule_tests.specs.Desktops.{is_holder, object_of}
 
@@ -39,3 +41,8 @@ module _ {O : Type 0} where
         | true ↦ λ is. inl is
         | false ↦ own_more held one n object
       ]
+
+-- what a turn made is its instance's
+pub made_own : {A O : Type 0} (shared : A → O) (work : TurnWork) (made : Option A) (n : ℕ) (object : O) → work.instance ≡ n → option_map shared made ≡ Some object → IsMadeFor shared (Some work) made n object
+made_own shared work None n object same is = cc
+made_own shared work (Some one) n object same is = (same, cc)

@@ -1,10 +1,10 @@
 //! A desk in memory, for tests.
 ghost use Rattle.std.specs.Prelude.{◌≡◌, ◌⊎◌, ◌==◌, ◌<◌, ◌&&◌, ◌||◌, ℕ, [], Some, None, not, false, true, is_some, option_map, vec_len, vec_capacity, IfOk, MatchOption, OnOk, OnErr, IfErr};
-ghost use Rattle.rule_tests.specs.Desktops.{Begins, EndsAs, Posts, is_due, is_holder, fits, object_of, with_number};
+ghost use Rattle.rule_tests.specs.Desktops.{Begins, EndsAs, Keeps, Posts, is_due, is_holder, fits, kept_of, object_of, with_number};
 ghost use Rattle.std.specs.Arc.{arc_value};
 ghost use Rattle.std.specs.List.{find};
 ghost use Rattle.std.specs.Option.{option_copied};
-ghost use Rattle.turn_runner.specs.Outcomes.{IsMadeFor, IsRunOf, has_object_after, is_destroy_of};
+ghost use Rattle.turn_runner.specs.Outcomes.{IsMadeFor, has_object_after, is_destroy_of, makes_object};
 
 use callback_orders::Outcome;
 use prop_map::{Copies, OutOfMemory};
@@ -39,6 +39,7 @@ pub struct MemoryDesk<O> {
     turns_to_come: VecDeque<TurnWork>,
     room: u64,
     under_way: Option<TurnWork>,
+    kept: Option<Ran<O>>,
     held: Vec<Held<O>>,
     ended: Vec<Ended>,
     drain: bool,
@@ -49,7 +50,7 @@ impl<O> Model for MemoryDesk<O> {
 
     ghost Value = { Desktop O };
 
-    ghost view = { λ d. record { turns_to_come = d.turns_to_come.items; room = d.room; under_way = d.under_way; held = d.held.items; ended = d.ended.items; drain = d.drain } };
+    ghost view = { λ d. record { turns_to_come = d.turns_to_come.items; room = d.room; under_way = d.under_way; kept = d.kept; held = d.held.items; ended = d.ended.items; drain = d.drain } };
 }
 
 fn is_holder<O>(held: &[Held<O>], instance: u64) -> bool
@@ -98,12 +99,13 @@ fn keep<O: Drop>(held: &mut Vec<Held<O>>, instance: u64, made: Option<Arc<O>>)
 impl<O> MemoryDesk<O> {
     /// A desk with these turns to come, the first one first, of which so many may begin. It has no objects.
     pub fn new(alloc: Global, turns_to_come: VecDeque<TurnWork>, room: u64) -> MemoryDesk<O>
-        ensures { result ≡ record { turns_to_come = turns_to_come.items; room = room; under_way = None; held = []; ended = []; drain = true } }
+        ensures { result ≡ record { turns_to_come = turns_to_come.items; room = room; under_way = None; kept = None; held = []; ended = []; drain = true } }
     {
         MemoryDesk {
             turns_to_come,
             room,
             under_way: None,
+            kept: None,
             held: Vec::new(alloc),
             ended: Vec::new(alloc),
             drain: true,
@@ -149,11 +151,17 @@ impl<O: Drop> Desk<O> for MemoryDesk<O> {
 
     ghost owns = { λ d instance object. object_of d.held instance ≡ Some object };
 
+    ghost kept = { kept_of };
+
+    ghost ready = { λ _. true };
+
     ghost begins = { Begins };
 
     ghost hands = { λ before _ after. after ≡ before };
 
     ghost ends = { EndsAs };
+
+    ghost keeps = { Keeps };
 
     ghost posts = { Posts };
 
@@ -170,6 +178,7 @@ impl<O: Drop> Desk<O> for MemoryDesk<O> {
         };
         let taken = self.turns_to_come.pop_front();
         self.under_way = Some(kept);
+        self.kept = None;
         self.room -= 1;
         Ok(taken)
     }
@@ -182,32 +191,53 @@ impl<O: Drop> Desk<O> for MemoryDesk<O> {
         shared_object(self.held.as_slice(), work.instance)
     }
 
-    fn put_back(
-        &mut self,
-        _alloc: Global,
-        number: u64,
-        ran: Ran<O>,
-    ) -> Result<(), (Ran<O>, OutOfMemory)>
-        requires { IsRunOf (with_number number self.old.under_way) ran.outcome (is_some ran.made) }
-        ensures ok { OnOk result (EndsAs self.old number ran.outcome self.new) }
-        ensures ended { OnOk result (with_number number self.new.under_way ≡ None) }
-        ensures objects { OnOk result ((instance : ℕ) → is_destroy_of (with_number number self.old.under_way) instance ≡ false → is_holder self.new.held instance ≡ has_object_after (with_number number self.old.under_way) (is_some ran.made) (λ other. is_holder self.old.held other) instance) }
-        ensures own { OnOk result ((instance : ℕ) (object : O) → object_of self.new.held instance ≡ Some object → (object_of self.old.held instance ≡ Some object) ⊎ IsMadeFor arc_value (with_number number self.old.under_way) ran.made instance object) }
-        ensures err { OnErr result (self.new ≡ self.old) }
-        ensures back { IfErr result (λ e. e.0 ≡ ran) }
+    fn put_back(&mut self, _alloc: Global, work: TurnWork, ran: Ran<O>) -> Result<(), OutOfMemory>
+        requires running { with_number work.number self.old.under_way ≡ Some work }
+        requires made { is_some ran.made ≡ makes_object work ran.outcome }
+        requires ready { true ≡ true }
+        ensures ok { OnOk result (EndsAs self.old work.number ran.outcome self.new) }
+        ensures ended { OnOk result (with_number work.number self.new.under_way ≡ None) }
+        ensures objects { OnOk result ((instance : ℕ) → is_destroy_of (Some work) instance ≡ false → is_holder self.new.held instance ≡ has_object_after (Some work) (is_some ran.made) (λ other. is_holder self.old.held other) instance) }
+        ensures own { OnOk result ((instance : ℕ) (object : O) → object_of self.new.held instance ≡ Some object → (object_of self.old.held instance ≡ Some object) ⊎ IsMadeFor arc_value (Some work) ran.made instance object) }
+        ensures err { OnErr result (Keeps self.old (record { work = work; ran = ran }) self.new) }
     {
         if self.held.reserve(1).is_err() || self.ended.reserve(1).is_err() {
-            return Err((ran, AllocError));
+            self.kept = Some(ran);
+            return Err(AllocError);
         }
         let Ran { outcome, made } = ran;
-        let instance = match self.under_way.take() {
-            Some(work) => work.instance,
-            None => unreachable!(),
-        };
-        keep(&mut self.held, instance, made);
-        self.ended.push_reserved(Ended { number, outcome });
+        keep(&mut self.held, work.instance, made);
+        self.ended.push_reserved(Ended {
+            number: work.number,
+            outcome,
+        });
+        self.under_way = None;
+        self.kept = None;
         self.drain = true;
         Ok(())
+    }
+
+    fn put_back_kept(
+        &mut self,
+        _alloc: Global,
+        work: &TurnWork,
+    ) -> Result<Option<Outcome>, OutOfMemory> {
+        if self.kept.is_none() {
+            return Ok(None);
+        }
+        self.held.reserve(1)?;
+        self.ended.reserve(1)?;
+        let Some(Ran { outcome, made }) = self.kept.take() else {
+            unreachable!();
+        };
+        keep(&mut self.held, work.instance, made);
+        self.ended.push_reserved(Ended {
+            number: work.number,
+            outcome,
+        });
+        self.under_way = None;
+        self.drain = true;
+        Ok(Some(outcome))
     }
 
     fn post(&mut self, _alloc: Global) -> Result<(), OutOfMemory> {

@@ -3,7 +3,7 @@ ghost use Rattle.platform_hall.specs.Cores.{AreWithinGreatest};
 
 use crate::loads::{Loading, loads};
 use crate::runs::{Script, runs};
-use crate::turns::{settles, settles_behind_a_turn, turns_by_hand};
+use crate::turns::{leaves_no_turn, settles, settles_behind_a_turn, turns_by_hand};
 use kind_trait::Kinds;
 use scr_world::Limits;
 use script_shell::Platform;
@@ -27,6 +27,8 @@ pub(crate) enum Deed<'d> {
     TurnAndSettling { turns: u64, journal: u64 },
     /// A consumer and its provider are started, and then so many turns run.
     Settling { turns: u64 },
+    /// The same, where memory may be wanting once, also for what comes before.
+    SettlingAtLast,
 }
 
 // Whether what is done comes to what it is to.
@@ -39,6 +41,7 @@ fn comes_true<K: Kinds + Drop>(alloc: Global, platform: &mut Platform<K>, deed: 
             settles_behind_a_turn(alloc, platform, *turns, *journal)
         }
         Deed::Settling { turns } => settles(alloc, platform, *turns),
+        Deed::SettlingAtLast => leaves_no_turn(alloc, platform),
     }
 }
 
@@ -53,6 +56,6 @@ pub(crate) fn holds<K: Kinds + Drop>(
 {
     match Platform::new(alloc, kinds, limits) {
         Ok(mut platform) => comes_true(alloc, &mut platform, deed),
-        Err(_) => false,
+        Err(_) => matches!(deed, Deed::SettlingAtLast),
     }
 }

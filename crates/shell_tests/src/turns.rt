@@ -80,6 +80,39 @@ pub(crate) fn settles<K: Kinds + Drop>(
     starts_both(alloc, platform) && runs_turns(alloc, platform, turns)
 }
 
+// Ends what is under way of the first turns, as far as there is memory.
+fn end_turns<K: Kinds + Drop>(alloc: Global, platform: &mut Platform<K>) {
+    for turn in 1..8 {
+        let _outcome = finished(alloc, platform, turn);
+    }
+}
+
+// Whether turns run until none is due. Where memory is wanting, a turn that is left is ended first.
+fn settles_at_last<K: Kinds + Drop>(alloc: Global, platform: &mut Platform<K>) -> bool {
+    if platform.settle(alloc).is_ok() {
+        return true;
+    }
+    end_turns(alloc, platform);
+    platform.settle(alloc).is_ok()
+}
+
+// Whether none of the first turns is under way.
+fn has_ended_turns<K: Kinds + Drop>(alloc: Global, platform: &mut Platform<K>) -> bool {
+    for turn in 1..8 {
+        match platform.finish(alloc, turn) {
+            Err(FinishFault::NoTurn) => {}
+            _ => return false,
+        }
+    }
+    true
+}
+
+// Whether what was started, if it was, is settled at last, and no turn is left under way.
+pub(crate) fn leaves_no_turn<K: Kinds + Drop>(alloc: Global, platform: &mut Platform<K>) -> bool {
+    !starts_both(alloc, platform)
+        || (settles_at_last(alloc, platform) && has_ended_turns(alloc, platform))
+}
+
 #[test]
 fn a_turn_runs_by_hand(rt: HostRuntime) {
     assert!(rt; holds(rt.alloc(), Demonstration, LIMITS, &Deed::Turn));

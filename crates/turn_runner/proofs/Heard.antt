@@ -10,10 +10,10 @@ use Rattle.turn_work.specs.declared.site.Site.{Site}
 use Rattle.turn_work.specs.declared.work.TurnWork.{TurnWork}
 use Rattle.prop_map.specs.declared.properties.Property.{Property}
 use Rattle.turn_runner.specs.Outcomes.{IsAnswerOf, IsHeard, IsMadeAt, IsMadeFor, IsMadeFrom, IsOutcome, IsOwnFrom, is_done, is_refused, makes_object, needs_object}
-use Rattle.turn_runner.specs.Turns.{IsCutOff, Starts, Stays}
+use Rattle.turn_runner.specs.Turns.{IsCutOff, Starts}
 
 -- where an object has to be told, it was the one that was handed out
-was_heard : {S O A : Type 0} (owns : S → ℕ → O → Type 0) (hears : O → Site → Told → Result (Unit {0}) KindFault → Type 0) (shared : A → O) (desk : S) (work : TurnWork) (outcome : Outcome) (handed : Option A)
+pub was_heard : {S O A : Type 0} (owns : S → ℕ → O → Type 0) (hears : O → Site → Told → Result (Unit {0}) KindFault → Type 0) (shared : A → O) (desk : S) (work : TurnWork) (outcome : Outcome) (handed : Option A)
     → is_some handed ≡ needs_object work → MatchOption handed (Unit {0}) (λ o. owns desk work.instance (shared o)) → MatchOption handed (Unit {0}) (λ o. IsAnswerOf hears (shared o) work outcome) → IsHeard owns hears desk (Some work) outcome
 was_heard owns hears shared desk work outcome None fits own answered needs = absurd (let both : false ≡ true = fits ∙ needs in cc)
 was_heard owns hears shared desk work outcome (Some o) fits own answered needs = (shared o, own, answered)
@@ -45,11 +45,11 @@ own_from owns made shared before handed after running later work outcome one run
     ]
 
 -- a turn that begins and then wants memory
-pub cut_off : {S : Type 0} (begins : S → TurnWork → S → Type 0) (hands : S → ℕ → S → Type 0) (ends : S → ℕ → Outcome → S → Type 0) (posts : S → S → Type 0) (refuses : List ℕ → List Property → Told → Bool) (before begun after : S) (work : TurnWork)
-    → begins before work begun → Stays hands begun work.number after ⊎ ((outcome : Outcome) × (ended : S) × IsOutcome (is_refused refuses work) outcome × ends begun work.number outcome ended × posts ended after)
-    → IsCutOff begins (Starts begins hands) ends posts refuses before after
-cut_off begins hands ends posts refuses before begun after work begun_is (inl stays) = inl (work, (begun, begun_is, stays))
-cut_off begins hands ends posts refuses before begun after work begun_is (inr (outcome, ended, is, ends_is, posts_is)) = inr (work, outcome, is, (begun, ended, begun_is, ends_is, posts_is))
+pub cut_off : {S : Type 0} (begins : S → TurnWork → S → Type 0) (stays : S → TurnWork → S → Type 0) (ends : S → ℕ → Outcome → S → Type 0) (posts : S → S → Type 0) (refuses : List ℕ → List Property → Told → Bool) (before begun after : S) (work : TurnWork)
+    → begins before work begun → stays begun work after ⊎ ((outcome : Outcome) × (ended : S) × IsOutcome (is_refused refuses work) outcome × ends begun work.number outcome ended × posts ended after)
+    → IsCutOff begins (Starts begins stays) ends posts refuses before after
+cut_off begins stays ends posts refuses before begun after work begun_is (inl goes_on) = inl (work, (begun, begun_is, goes_on))
+cut_off begins stays ends posts refuses before begun after work begun_is (inr (outcome, ended, is, ends_is, posts_is)) = inr (work, outcome, is, (begun, ended, begun_is, ends_is, posts_is))
 
 -- what a call did, by whether it gave an error
 pub when_ok : {T E P : Type 0} (r : Result T E) → is_err r ≡ false → OnOk r P → P

@@ -10,13 +10,13 @@ returns-clause-step g c =
     let n = c.args.work.now.number in
     let told = c.self.inside.told.items in
     let runs = ap (λ (d : DeskView g.row.O.Denot). running d.core n) c.self.view_is ∙ c.requires in
-    subst (λ (d : DeskView g.row.O.Denot). (c.self.inside.core ≡ d.core) × (c.self.inside.held.items ≡ d.held) × (c.note_heard.new.told.items ≡ d.told ++ heard_of (running d.core n))) c.self.view_is
-    (refl, refl, c.note_heard.ensures ∙ ap (λ xs. xs ++ heard_of (Some c.args.work.now)) c.reserve.ensures.items ∙ ap (λ o. told ++ heard_of o) (sym runs))
+    subst (λ (d : DeskView g.row.O.Denot). (c.self.inside.core ≡ d.core) × (c.self.inside.held.items ≡ d.held) × (c.note_heard.new.told.items ≡ d.told ++ heard_of (running d.core n)) × (c.reserve-2.new.self.items ≡ d.kept)) c.self.view_is
+    (refl, refl, c.note_heard.ensures ∙ ap (λ xs. xs ++ heard_of (Some c.args.work.now)) c.reserve.ensures.items ∙ ap (λ o. told ++ heard_of o) (sym runs), c.reserve-2.ensures.items)
 
 pub returns-clause-has : goal.returns-clause-has
 returns-clause-has g c =
     subst (λ (d : DeskView g.row.O.Denot). is_some c.in_ok-object.object ≡ has_object d.core c.args.work.now.instance) c.self.view_is
-    (c.in_ok-object.ensures.has ∙ ap (λ xs. is_holder xs c.args.work.now.instance) c.as_slice.ensures.value ∙ c.self.invariant.objects c.args.work.now.instance)
+    (c.in_ok-object.ensures.has ∙ ap (λ xs. is_holder xs c.args.work.now.instance) c.as_slice.ensures.value ∙ c.self.invariant.0.objects c.args.work.now.instance)
 
 pub returns-clause-own : goal.returns-clause-own
 returns-clause-own g c =

@@ -2,6 +2,7 @@ use Rattle.std.proofs.Common.{refl, subst, Ok, Err, None}
 use Rattle.scr_world.specs.declared.reply.CoreFault.TheVariants.{JournalFull, OutOfMemory}
 use Rattle.scr_requests.specs.Cores.{CoreView}
 use Rattle.platform_hall.specs.Platforms.{Begins, BeginsTurn}
+use Rattle.platform_hall.proofs.Answered.{taken_answered}
 use Rattle.platform_hall.proofs.Seen.{core_same}
 use Rattle.platform_hall.proofs.platform.Platform.begin.Goals as goal
 use Rattle.platform_hall.proofs.platform.Platform.begin.Goals.{in-Ok-Some, in-Ok-None, in-Err-JournalFull, in-Err-OutOfMemory}
@@ -21,3 +22,7 @@ returns g c = elim c.match-take.branch [
   | in-Err-OutOfMemory w ↦ rw w.result-is (
       subst (λ (p : CoreView). BeginsTurn p (Err OutOfMemory) c.take.new.self.core) c.self.view_is (core_same (rw w.in-Err-OutOfMemory.field-0-is at w.in-Err-OutOfMemory.ensures.step)))
 ]
+
+pub invariant_of-self : goal.invariant_of-self
+invariant_of-self g c =
+    (tt, taken_answered g.K.Kinds.made g.K.Kinds.hears g.K.Kinds.refuses c.self.inside.desk c.take.new.self c.take.result c.take.ensures.step c.self.invariant.1)

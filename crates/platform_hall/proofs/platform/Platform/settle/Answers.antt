@@ -10,9 +10,11 @@ use Rattle.platform_hall.proofs.platform.Platform.settle.Goals as goal
 pub invariant_of-self : goal.invariant_of-self
 invariant_of-self g c =
     let desk = c.self.inside.desk in
-    let left = c.settle_desk.new.desk in
-    kept_on desk.core.journal left.core.journal c.self.inside.servlets
-    (settled_grows g.K.Kinds.refuses _ desk.core c.settle_desk.result left.core c.settle_desk.ensures.settles) c.self.invariant
+    let left = c.settle_desk.new.desk in (
+      kept_on desk.core.journal left.core.journal c.self.inside.servlets
+          (settled_grows g.K.Kinds.refuses _ desk.core c.settle_desk.result left.core c.settle_desk.ensures.settles) c.self.invariant.0,
+      c.settle_desk.ensures.answered c.self.invariant.1,
+    )
 
 pub returns-clause-settles : goal.returns-clause-settles
 returns-clause-settles g c =
