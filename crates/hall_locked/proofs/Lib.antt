@@ -9,3 +9,7 @@ pub mod Counts
 mod Told
 pub mod Turning
 pub mod Placed
+mod Generations
+mod Awaiting
+mod Gates
+mod Calls

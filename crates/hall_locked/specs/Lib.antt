@@ -1,4 +1,6 @@
 pub mod Cores
 pub mod Owned
+pub mod OwnedCores
+pub mod Moving
 pub mod Locks
 pub mod Parts
