@@ -45,7 +45,7 @@ refused_same limit old new command FactoryClash takes = takes.1
 refused_same limit old new command (ActivationFailed i) takes = takes.1
 refused_same limit old new command (ActivationNoMemory i) takes = takes.1
 refused_same limit old new command JournalFull takes = takes.1
-refused_same limit old new command OutOfMemory takes = takes
+refused_same limit old new command OutOfMemory takes = takes.1
 
 -- ---- the owners beside it
 

@@ -13,3 +13,9 @@ mod Generations
 mod Awaiting
 mod Gates
 mod Calls
+pub use Rattle.platform_hall.proofs.Desks
+pub use Rattle.platform_hall.proofs.Lists
+pub use Rattle.platform_hall.proofs.Settlings
+pub use Rattle.platform_hall.proofs.Starts
+pub use Rattle.platform_hall.proofs.Steps
+pub use Rattle.platform_hall.proofs.Turns

@@ -4,3 +4,4 @@ pub mod OwnedCores
 pub mod Moving
 pub mod Locks
 pub mod Parts
+pub use Rattle.platform_hall.specs.Platforms

@@ -120,7 +120,6 @@ impl<O: Drop> Locked<O> {
     }
 
     /// For contracts alone: what the keeper knows of the gates of living instances.
-    #[tactic(auto, using(crate::proofs::Calls::knows_now))]
     pub fn note_locked(&self)
         ensures { KnowsGates (world self.now.core) self.now.keeper }
     {
@@ -142,7 +141,6 @@ impl<O: Drop> Locked<O> {
     ///
     /// # Errors
     /// Those of [`scr_core::Core::command`]. A refused command leaves all as it was.
-    #[tactic(auto, using(crate::proofs::Calls::opens_by, crate::proofs::Calls::gates_by, crate::proofs::Calls::owed_now))]
     pub fn command(
         &mut self,
         alloc: Global,
@@ -177,7 +175,6 @@ impl<O: Drop> Locked<O> {
     ///
     /// # Errors
     /// Only want of memory: what is owed comes back, and all is as it was.
-    #[tactic(auto, using(crate::proofs::Calls::awaited_now, crate::proofs::Calls::posts_gates, crate::proofs::Calls::owed_now, crate::proofs::Gates::put_back))]
     pub fn post(
         &mut self,
         alloc: Global,
@@ -219,7 +216,6 @@ impl<O: Drop> Locked<O> {
     /// # Errors
     /// `JournalFull` exactly where a turn is due and the journal has no room for it; otherwise only want of memory.
     /// All is then as it was.
-    #[tactic(auto, using(crate::proofs::Gates::begun_gates))]
     pub fn take(&mut self, alloc: Global, owner: u64) -> Result<Option<u64>, CoreFault>
         ensures answer { BeginsTurn self.old.core result self.new.core }
         ensures appended { AppendsFor owner self.old self.new }
@@ -240,7 +236,6 @@ impl<O: Drop> Locked<O> {
     ///
     /// # Errors
     /// Only want of memory: what the turn came to comes back, and all is as it was.
-    #[tactic(auto, using(crate::proofs::Calls::ends_reopen, crate::proofs::Calls::ends_open, crate::proofs::Calls::ends_gates, crate::proofs::Calls::owed_now))]
     pub fn done(
         &mut self,
         alloc: Global,

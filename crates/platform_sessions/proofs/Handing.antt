@@ -6,9 +6,9 @@ use Rattle.callback_orders.specs.declared.callback.Outcome.TheVariants.{NoMemory
 use Rattle.callback_orders.specs.Grammar.{is_create}
 use Rattle.hall_locked.specs.Locks.{IsLocked, LockedView}
 use Rattle.hall_locked.specs.declared.part.Part.{Part}
-use Rattle.platform_hall.specs.Platforms.{has_object, running}
-use Rattle.platform_hall.proofs.Desks.{running_fits}
-use Rattle.platform_hall.proofs.Settlings.{HasLegal}
+use Rattle.hall_locked.specs.Platforms.{has_object, running}
+use Rattle.hall_locked.proofs.Desks.{running_fits}
+use Rattle.hall_locked.proofs.Settlings.{HasLegal}
 use Rattle.platform_sessions.specs.Works.{IsTask}
 use Rattle.platform_sessions.proofs.Mine.{count_step, counted}
 use Rattle.prop_map.specs.Words.{one_if}

@@ -14,7 +14,7 @@ use Rattle.hall_locked.specs.Owned.{as_kept, turn_thing, without_turn}
 use Rattle.hall_locked.specs.Parts.{has_begun, with_begun}
 use Rattle.hall_locked.proofs.Counts.{count_mapped}
 use Rattle.hall_locked.proofs.Placed.{one_at_most}
-use Rattle.platform_hall.specs.Platforms.{world}
+use Rattle.hall_locked.specs.Platforms.{world}
 use Rattle.platform_sessions.specs.Works.{IsOneMore}
 use Rattle.platform_sessions.proofs.Things.{but_kept, halves, under_it}
 use Rattle.prop_map.specs.Words.{one_if}

@@ -12,7 +12,7 @@ use Rattle.hall_locked.specs.Owned.{entries_in}
 use Rattle.hall_locked.specs.declared.owed.Owed.{Owed}
 use Rattle.journal_core.specs.declared.entry.Entry.{Entry}
 use Rattle.journal_core.specs.declared.entry.GateKey.{GateKey}
-use Rattle.platform_hall.specs.Platforms.{CoreTakes, has_drain}
+use Rattle.hall_locked.specs.Platforms.{CoreTakes, has_drain}
 use Rattle.platform_sessions.specs.Commands.{Appended, IsDrain, IsOwed, Posts, Refused, TookCommand, Unchanged}
 use Rattle.platform_sessions.specs.Halls.{View}
 use Rattle.platform_sessions.proofs.Stretches.{core_is, journal_is, journal_was, longer_by_one, looked, near, none_more, one_more, went_by}
@@ -150,7 +150,7 @@ module _ {O : Type 0} (p q : View) (before after : LockedView O) (kept : List (�
     refused_so (ActivationFailed i) t = by_refusal (ActivationFailed i) (ActivationFailed i) t.0 t.0 t.1
     refused_so (ActivationNoMemory i) t = by_refusal (ActivationNoMemory i) (ActivationNoMemory i) t.0 t.0 t.1
     refused_so JournalFull t = by_refusal JournalFull JournalFull t.0 t.0 t.1
-    refused_so OutOfMemory stays = looked p q before after kept apart goes same (none_more p q before after kept apart goes same a stays)
+    refused_so OutOfMemory t = looked p q before after kept apart goes same (none_more p q before after kept apart goes same a t.1)
 
     -- what the core answered, for the pass
     pub took : (answer : Result (Accepted × Option Owed) CoreFault) → Answered before after command answer → TookCommand limits p q command answer (length q.seen)

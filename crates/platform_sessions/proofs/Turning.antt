@@ -15,9 +15,9 @@ use Rattle.hall_locked.specs.Parts.{with_begun}
 use Rattle.hall_locked.specs.declared.owed.Owed.{Owed}
 use Rattle.journal_core.specs.declared.entry.Entry.{Entry}
 use Rattle.kind_trait.specs.Meanings.{Told}
-use Rattle.platform_hall.specs.Platforms.{Begins, BeginsTurn, Ends, has_drain, running, world}
-use Rattle.platform_hall.proofs.Settlings.{HasLegal}
-use Rattle.platform_hall.proofs.Turns.{begins_next, is_begin}
+use Rattle.hall_locked.specs.Platforms.{Begins, BeginsTurn, Ends, has_drain, running, world}
+use Rattle.hall_locked.proofs.Settlings.{HasLegal}
+use Rattle.hall_locked.proofs.Turns.{begins_next, is_begin}
 use Rattle.platform_sessions.specs.Commands.{IsOwed}
 use Rattle.platform_sessions.specs.Halls.{KeepsPass, Own, View, core_seen, core_up_to}
 use Rattle.platform_sessions.specs.Works.{BeginsOne, HandsOut, HasBegun, HasEnded, IsBeginOf, IsEndOf, IsMine, IsRunFor, IsTold, begun_of, things_but}

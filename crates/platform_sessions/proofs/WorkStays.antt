@@ -15,12 +15,12 @@ use Rattle.component_state.specs.declared.origin.Choice.{Choice}
 use Rattle.component_state.specs.declared.origin.Origin.{Origin}
 use Rattle.component_state.proofs.Apart.{any_found, any_from, in_cases, in_either, in_first, in_none, in_rest, kept_was}
 use Rattle.journal_core.specs.declared.entry.Entry.{Entry}
-use Rattle.platform_hall.specs.Platforms.{running, world}
-use Rattle.platform_hall.proofs.Lists.{any_not_found}
-use Rattle.platform_hall.proofs.Settlings.{HasLegal}
-use Rattle.platform_hall.proofs.Starts.{runs_as}
-use Rattle.platform_hall.proofs.Steps.{IsAfter}
-use Rattle.platform_hall.proofs.Turns.{AreTold, one_turn, turn_told, turns_legal}
+use Rattle.hall_locked.specs.Platforms.{running, world}
+use Rattle.hall_locked.proofs.Lists.{any_not_found}
+use Rattle.hall_locked.proofs.Settlings.{HasLegal}
+use Rattle.hall_locked.proofs.Starts.{runs_as}
+use Rattle.hall_locked.proofs.Steps.{IsAfter}
+use Rattle.hall_locked.proofs.Turns.{AreTold, one_turn, turn_told, turns_legal}
 use Rattle.prop_map.specs.declared.properties.Property.{Property}
 use Rattle.hall_locked.specs.Cores.{CoreView}
 use Rattle.scr_laws.proofs.Activated.{none_outstanding}

@@ -6,7 +6,7 @@ use Rattle.hall_goings.proofs.Chains.{front_stays, longer, went_nowhere, went_on
 use Rattle.hall_locked.specs.Owned.{entries_in, turn_thing}
 use Rattle.hall_locked.specs.declared.owed.Owed.{Owed}
 use Rattle.kind_trait.specs.Meanings.{Told}
-use Rattle.platform_hall.specs.Platforms.{has_drain, running}
+use Rattle.hall_locked.specs.Platforms.{has_drain, running}
 use Rattle.platform_sessions.specs.Commands.{AreDrains, IsDrain, IsOwed, IsPosted, PostsOwed}
 use Rattle.platform_sessions.specs.Halls.{KeepsPass, KeepsSeat, Own, View}
 use Rattle.platform_sessions.specs.Works.{AllEnd, AllPosted, AllTold, AreTurnSteps, BeginsOne, EndsIn, EndsOne, HasBegun, HasEnd, HasEnded, IsBeginOf, IsEndOf, IsPostedBehind, IsPostedFor, IsOneMore, IsTold, IsTurnStep, RanSoMany, RunsDue, Works, begins_in, things_but}

@@ -3,7 +3,7 @@ use Rattle.std.specs.Prelude.{◌≡◌, ℕ, ◌+◌, ◌≤◌, ◌⊎◌, [],
 use Rattle.hall_goings.specs.Went.{Went}
 use Rattle.hall_locked.specs.declared.owed.Owed.{Owed}
 use Rattle.journal_core.specs.declared.entry.Entry.{Entry}
-use Rattle.platform_hall.specs.Platforms.{has_drain, world}
+use Rattle.hall_locked.specs.Platforms.{has_drain, world}
 use Rattle.platform_sessions.specs.Halls.{Own, View, core_seen, core_up_to}
 use Rattle.scr_world.specs.Replies.{Replies, changes}
 use Rattle.scr_world.specs.declared.command.Command.{Command}

@@ -8,7 +8,7 @@ use Rattle.hall_locked.specs.Owned.{turn_thing}
 use Rattle.hall_locked.specs.declared.part.Part.{Part}
 use Rattle.journal_core.specs.declared.entry.Entry.{Entry}
 use Rattle.kind_trait.specs.Meanings.{Told}
-use Rattle.platform_hall.specs.Platforms.{BeginsTurn, has_drain, has_due, running}
+use Rattle.hall_locked.specs.Platforms.{BeginsTurn, has_drain, has_due, running}
 use Rattle.platform_sessions.specs.Commands.{AreDrains}
 use Rattle.platform_sessions.specs.Halls.{Own, View, core_seen, core_up_to}
 use Rattle.prop_map.specs.declared.properties.Property.{Property}

@@ -1,5 +1,5 @@
 //! What a turn that has begun takes outside the lock, and how it runs there.
-ghost use Rattle.platform_hall.specs.Platforms.{running};
+ghost use Rattle.hall_locked.specs.Platforms.{running};
 ghost use Rattle.platform_sessions.specs.Works.{IsOwn, IsTask, object_kept};
 ghost use Rattle.std.specs.Arc.{arc_value};
 ghost use Rattle.std.specs.List.{find};

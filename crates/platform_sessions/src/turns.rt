@@ -3,7 +3,7 @@ ghost use Rattle.hall_goings.specs.Went.{Went};
 ghost use Rattle.hall_locked.specs.Locks.{AppendsFor};
 ghost use Rattle.hall_locked.specs.Owned.{turn_thing};
 ghost use Rattle.hall_locked.specs.Parts.{with_begun};
-ghost use Rattle.platform_hall.specs.Platforms.{BeginsTurn};
+ghost use Rattle.hall_locked.specs.Platforms.{BeginsTurn};
 ghost use Rattle.platform_sessions.specs.Commands.{IsOwed};
 ghost use Rattle.platform_sessions.specs.Halls.{IsOf, KeepsPass, KeepsSeat};
 ghost use Rattle.platform_sessions.specs.Works.{BeginsOne, HandsOut, HasEnded, IsMine, IsOneMore, IsOwn, IsRunFor, begun_of, things_but};

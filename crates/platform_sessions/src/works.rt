@@ -1,6 +1,6 @@
 //! Turns that are run.
 ghost use Rattle.hall_locked.specs.Owned.{turn_thing};
-ghost use Rattle.platform_hall.specs.Platforms.{running};
+ghost use Rattle.hall_locked.specs.Platforms.{running};
 ghost use Rattle.platform_sessions.specs.Halls.{IsOf, KeepsPass, KeepsSeat, core_seen};
 ghost use Rattle.platform_sessions.specs.Works.{EndsOne, IsMine, IsTask, RunsDue, Works, things_but};
 ghost use Rattle.std.specs.Prelude.{◌≡◌, Some};

@@ -1,5 +1,5 @@
 use Rattle.std.proofs.Common.{ap, ◌∙◌}
-use Rattle.platform_hall.specs.Platforms.{running}
+use Rattle.hall_locked.specs.Platforms.{running}
 use Rattle.platform_sessions.proofs.Handing.{task_is}
 use Rattle.hall_locked.specs.Cores.{CoreView}
 use Rattle.platform_sessions.proofs.tasks.task_of.Goals as goal
