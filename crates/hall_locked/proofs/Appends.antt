@@ -2,7 +2,7 @@
 use Rattle.std.proofs.Common.{◌≡◌, ◌⊎◌, ℕ, ◌+◌, List, [], ◌∷◌, ◌++◌, length, ap, sym, ◌∙◌, inl, inr, Bool, true, false, Err, arith}
 use Rattle.std.proofs.lemmas.List.{append-nil, length-append}
 use Rattle.journal_core.specs.declared.entry.Entry.{Entry}
-use Rattle.hall_locked.specs.Locks.{AppendsFor, LockedView}
+use Rattle.hall_locked.specs.OwnedCores.{AppendsOwned, OwnedView}
 use Rattle.hall_locked.specs.Owned.{owned, owners_up_to}
 use Rattle.hall_locked.proofs.Logs.{owned_more, up_to_more, up_to_same}
 use Rattle.scr_world.specs.Calls.{Commands, Grown, GrownIf}
@@ -66,21 +66,21 @@ module _ (owner : ℕ) (old new : List (Entry Step)) (owners : List ℕ) (same :
 
 -- ---- what is appended
 
-module _ {O : Type 0} (owner : ℕ) (before after : LockedView O) where
-  pub appends_none : after.core.journal ≡ before.core.journal → after.owners ≡ before.owners → AppendsFor owner before after
+module _ {O : Type 0} (owner : ℕ) (before after : OwnedView O) where
+  pub appends_none : after.core.journal ≡ before.core.journal → after.owners ≡ before.owners → AppendsOwned owner before after
   appends_none journal owners = record {
     entries = [];
     journal = journal ∙ sym (append-nil before.core.journal);
     log = ap (λ os. owned os after.core.journal) owners ∙ ap (λ es. owned before.owners es) journal ∙ sym (append-nil (owned before.owners before.core.journal));
   }
 
-  appends_one : length before.owners ≡ length before.core.journal → (entry : Entry Step) → after.core.journal ≡ before.core.journal ++ entry ∷ [] → after.owners ≡ before.owners ++ owner ∷ [] → AppendsFor owner before after
+  appends_one : length before.owners ≡ length before.core.journal → (entry : Entry Step) → after.core.journal ≡ before.core.journal ++ entry ∷ [] → after.owners ≡ before.owners ++ owner ∷ [] → AppendsOwned owner before after
   appends_one same entry journal owners = record {
     entries = entry ∷ [];
     journal = journal;
     log = ap (λ os. owned os after.core.journal) owners ∙ ap (λ es. owned (before.owners ++ owner ∷ []) es) journal ∙ owned_more before.owners before.core.journal owner entry same;
   }
 
-  pub appends_for : length before.owners ≡ length before.core.journal → after.owners ≡ owners_up_to (length after.core.journal) owner before.owners → GrowsByOne before.core.journal after.core.journal → AppendsFor owner before after
+  pub appends_for : length before.owners ≡ length before.core.journal → after.owners ≡ owners_up_to (length after.core.journal) owner before.owners → GrowsByOne before.core.journal after.core.journal → AppendsOwned owner before after
   appends_for same owners (inl stays) = appends_none stays (owners ∙ owners_same owner before.core.journal after.core.journal before.owners same stays)
   appends_for same owners (inr (entry, grew)) = appends_one same entry grew (owners ∙ owners_more owner before.core.journal after.core.journal before.owners same entry grew)

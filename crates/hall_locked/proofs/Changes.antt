@@ -1,27 +1,19 @@
 -- What commands and drains leave.
-use Rattle.std.proofs.Common.{◌≡◌, ℕ, List, sym, refl, subst, Bool, true, false, Ok, Some, None, Option}
-use Rattle.std.specs.Prelude.{find, option_map}
-use Rattle.std.specs.List.{list_any}
-use Rattle.component_state.proofs.Apart.{any_from}
+use Rattle.std.proofs.Common.{◌≡◌, ℕ, List, sym, subst, Bool, true, false, Ok}
 use Rattle.journal_core.specs.declared.entry.Entry.{Entry}
 use Rattle.journal_core.specs.declared.entry.GateKey.{GateKey}
 use Rattle.hall_locked.proofs.Appends.{GrowsByOne, grown_by_one, grown_if_by_one}
 use Rattle.hall_locked.proofs.Sites.{SitesStay, commanded_sites, drained_sites, sites_stay_itself}
-use Rattle.platform_hall.proofs.Draining.{none_awaits}
 use Rattle.platform_hall.proofs.Steps.{grown_after}
 use Rattle.platform_hall.proofs.Stops.{IsAlike, drained_alike}
-use Rattle.scr_laws.proofs.InstanceLemmas.{found_was}
-use Rattle.scr_world.specs.Calls.{Commands, Drains, GrownIf, next_drain, world_at}
-use Rattle.scr_world.specs.Consequences.{gate_of}
-use Rattle.scr_world.specs.Legal.{IsLegal, awaits_drain}
+use Rattle.scr_world.specs.Calls.{Commands, Drains, GrownIf, world_at}
+use Rattle.scr_world.specs.Legal.{IsLegal}
 use Rattle.scr_world.specs.Replies.{changes}
 use Rattle.scr_world.specs.Steps.{history_of}
 use Rattle.scr_world.specs.declared.command.Command.{Command}
-use Rattle.scr_world.specs.declared.instance.Instance.{Instance}
 use Rattle.scr_world.specs.declared.reply.Accepted.{Accepted}
 use Rattle.scr_world.specs.declared.step.Step.{Step}
 use Rattle.scr_world.specs.declared.step.Step.TheVariants.{Command as Commanded, Drained}
-use Rattle.scr_world.specs.declared.world.World.{World}
 
 module _ (limit : ℕ) (old new : List (Entry Step)) where
   pub same_sites : new ≡ old → SitesStay (world_at old) (world_at new)
@@ -49,19 +41,3 @@ module _ (limit : ℕ) (old new : List (Entry Step)) where
 
   pub drain_sites : (key : GateKey) → IsLegal limit (history_of old) → Drains limit old key new → SitesStay (world_at old) (world_at new)
   drain_sites key legal (i, found, grown) = drained_sites limit old new i.number legal grown
-
--- ---- what is owed
-
-module _ (w : World) where
-  some_awaits : (o : Option Instance) → find (awaits_drain w) w.instances ≡ o → (key : GateKey) → option_map gate_of o ≡ Some key → list_any (awaits_drain w) w.instances ≡ true
-  some_awaits None found key is = cc
-  some_awaits (Some i) found key is =
-      let there = found_was (awaits_drain w) w.instances i found in
-      any_from (awaits_drain w) w.instances i there.0 there.1
-
-  -- a drain is awaited where there is a next one
-  pub owed_some : (key : GateKey) → next_drain w ≡ Some key → true ≡ list_any (awaits_drain w) w.instances
-  owed_some key is = sym (some_awaits (find (awaits_drain w) w.instances) refl key is)
-
-  pub owed_none : next_drain w ≡ None → false ≡ list_any (awaits_drain w) w.instances
-  owed_none is = sym (none_awaits w is)

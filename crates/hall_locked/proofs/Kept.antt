@@ -6,7 +6,7 @@ use Rattle.component_state.proofs.Apart.{in_none}
 use Rattle.journal_core.specs.declared.entry.Entry.{Entry}
 use Rattle.prop_map.specs.Words.{one_if}
 use Rattle.hall_locked.specs.declared.part.Part.{Part}
-use Rattle.hall_locked.specs.Locks.{IsLocked, LockedView, parts_of}
+use Rattle.hall_locked.specs.OwnedCores.{IsOwned, OwnedView, parts_of}
 use Rattle.hall_locked.specs.Owned.{turn_numbers}
 use Rattle.hall_locked.proofs.Sites.{SitesStay}
 use Rattle.platform_hall.specs.Desks.{tokens_of}
@@ -32,8 +32,8 @@ unfolding world_of
 none_made core n empty = ap (λ (j : List (Entry Step)). has_object (record core { journal = j }) n) empty
 
 module _ {O : Type 0} where
-  pub empty_locked : (l : LockedView O) → l.core.journal ≡ [] → l.owners ≡ [] → l.turns ≡ [] → l.parts ≡ [] → IsLocked l
-  empty_locked l journal owners turns parts = record {
+  pub empty_owned : (l : OwnedView O) → l.core.journal ≡ [] → l.owners ≡ [] → l.turns ≡ [] → l.parts ≡ [] → IsOwned l
+  empty_owned l journal owners turns parts = record {
     owners = ap length owners ∙ sym (ap length journal);
     tokens = λ n. ap (λ ts. tokens_of (turn_numbers ts) n) turns ∙ sym (ap one_if (ap (λ j. is_under_way (world_at j) n) journal ∙ none_begun n));
     parts = λ n. ap (λ (ps : List (Part O)). parts_of ps n) parts ∙ sym (ap one_if (none_made l.core n journal));
@@ -41,9 +41,9 @@ module _ {O : Type 0} where
   }
 
   -- a change that leaves turns, objects and sites alone
-  pub locked_alike : (before : LockedView O) (core : CoreView) (owners : List ℕ) → length owners ≡ length core.journal → IsAlike (world before.core) (world core) → SitesStay (world before.core) (world core) → IsLocked before
-      → IsLocked (record { core = core; owners = owners; turns = before.turns; parts = before.parts })
-  locked_alike before core owners many alike stay locked = record {
+  pub owned_alike : (before : OwnedView O) (core : CoreView) (owners : List ℕ) → length owners ≡ length core.journal → IsAlike (world before.core) (world core) → SitesStay (world before.core) (world core) → IsOwned before
+      → IsOwned (record { core = core; owners = owners; turns = before.turns; parts = before.parts })
+  owned_alike before core owners many alike stay locked = record {
     owners = many;
     tokens = λ n. locked.tokens n ∙ ap one_if (sym (alike.under_way n));
     parts = λ n. locked.parts n ∙ ap one_if (sym (alike.objects n));

@@ -9,6 +9,10 @@ pub mod Counts
 mod Told
 pub mod Turning
 pub mod Placed
+mod Generations
+mod Awaiting
+mod Gates
+mod Calls
 pub use Rattle.platform_hall.proofs.Desks
 pub use Rattle.platform_hall.proofs.Lists
 pub use Rattle.platform_hall.proofs.Settlings

@@ -5,7 +5,7 @@ use Rattle.std.specs.Prelude.{◌==◌, insert, remove}
 use Rattle.std.specs.List.{count_by, position}
 use Rattle.std.proofs.lemmas.Bool.{eqb-true}
 use Rattle.hall_locked.specs.declared.part.Part.{Part}
-use Rattle.hall_locked.specs.Locks.{parts_of}
+use Rattle.hall_locked.specs.OwnedCores.{parts_of}
 use Rattle.hall_locked.specs.Owned.{turn_numbers, without_turn}
 use Rattle.hall_locked.specs.Parts.{parts_told}
 use Rattle.hall_locked.proofs.Counts.{count_mapped, none_placed, only_placed, put_back, some_placed}

@@ -6,9 +6,13 @@ use denote.Struct.Declared.{shape}
 use Rattle.std.proofs.Crossing.{Arc-send, Vec-send}
 use Rattle.scr_core.proofs.Sends.{core_send}
 use Rattle.turn_work.proofs.site.Site.TheSendSync as site
+use Rattle.hall_locked.specs.contracts.owned_core.OwnedCore as OwnedCore
+use Rattle.hall_locked.specs.contracts.owned_core.OwnedCore.TheInside as Inside
 use Rattle.hall_locked.specs.contracts.locked.Locked as Locked
-use Rattle.hall_locked.specs.contracts.locked.Locked.TheInside as Inside
+use Rattle.hall_locked.specs.contracts.locked.Locked.TheInside as LockedInside
 use Rattle.hall_locked.specs.contracts.part.Part as Part
+use Rattle.call_gate.proofs.gate.CallGate.TheSendSync as gates
+use Rattle.gate_keeper.proofs.keeper.Keeper.TheSendSync as keeper
 
 module _ (O : RattleType) (sends : IsSend O) (syncs : IsSync O) where
   part_send : IsSend (Part.the_row O)
@@ -26,5 +30,13 @@ module _ (O : RattleType) (sends : IsSend O) (syncs : IsSync O) where
         ),
       ))
 
+  owned_send : IsSend (OwnedCore.the_row O)
+  owned_send = view_send _ _ _ _ _ inside_send
+
+  locked_inside_send : IsSend (LockedInside.the_row O)
+  locked_inside_send =
+      recorded_send _ _ _ (LockedInside.the_type O).to_one
+      (struct_send (shape (LockedInside.the_type O)) (owned_send, (search (gates.the_send, sendable), (search (keeper.the_send, sendable), tt))))
+
   pub locked_send : IsSend (Locked.the_row O)
-  locked_send = view_send _ _ _ _ _ inside_send
+  locked_send = view_send _ _ _ _ _ locked_inside_send

@@ -7,7 +7,7 @@ use Rattle.component_dto.specs.declared.description.Description.{Description}
 use Rattle.component_state.specs.declared.component.Component.{Component}
 use Rattle.journal_core.specs.declared.entry.Entry.{Entry}
 use Rattle.prop_map.specs.declared.properties.Property.{Property}
-use Rattle.hall_locked.specs.Locks.{site_told}
+use Rattle.hall_locked.specs.OwnedCores.{site_told}
 use Rattle.platform_hall.proofs.Steps.{grown_after, history_append}
 use Rattle.scr_laws.proofs.InstanceLemmas.{mapped_was}
 use Rattle.scr_promises.proofs.InstanceComponents.{component_kept}

@@ -9,7 +9,7 @@ use Rattle.callback_orders.specs.Sequences.{is_outstanding}
 use Rattle.component_state.specs.declared.origin.Choice.{Choice}
 use Rattle.component_state.proofs.Apart.{in_cases, in_either, in_none, in_rest, kept_was}
 use Rattle.journal_core.specs.declared.entry.Entry.{Entry}
-use Rattle.hall_locked.specs.Locks.{site_told}
+use Rattle.hall_locked.specs.OwnedCores.{site_told}
 use Rattle.hall_locked.proofs.Sites.{IsLike, SitesStay, WasTold, likes_stay, site_stays}
 use Rattle.platform_hall.proofs.Steps.{grown_after}
 use Rattle.platform_hall.proofs.Turns.{AreTold, begins_next, is_begin, same_number, turn_told}

@@ -8,7 +8,7 @@ use Rattle.callback_orders.specs.Grammar.{is_create, is_destroy}
 use Rattle.component_state.proofs.Apart.{in_cases, in_either, in_none, in_rest, kept_was}
 use Rattle.hall_locked.specs.declared.part.Part.{Part}
 use Rattle.front_lock.specs.Keepings.{kept_under}
-use Rattle.hall_locked.specs.Locks.{AppendsFor, IsLocked, IsSiteOf, LockedView, parts_of, site_told, turns_kept}
+use Rattle.hall_locked.specs.OwnedCores.{AppendsOwned, IsOwned, IsSiteOf, OwnedView, parts_of, site_told, turns_owned}
 use Rattle.hall_locked.specs.Owned.{as_kept, owners_up_to, turn_numbers, without_turn}
 use Rattle.hall_locked.specs.Parts.{ArePartsLeft, ArePartsWith, has_begun, parts_begun, parts_but, parts_by, parts_told, with_begun}
 use Rattle.hall_locked.proofs.Appends.{GrowsByOne, appends_for, appends_none, as_many, grown_by_one}
@@ -63,14 +63,14 @@ pub begins_grows : (before after : CoreView) (work : TurnWork) → Begins before
 begins_grows before after work (limits, number, (step, is, named, grown)) = grown_by_one before.limits.journal before.journal after.journal step grown
 
 -- what the beginning of a turn leaves
-pub record HasBegun {O : Type 0} (owner turn : ℕ) (before after : LockedView O) : Type 0 where
-  pub locked : IsLocked after
-  pub appends : AppendsFor owner before after
+pub record HasBegun {O : Type 0} (owner turn : ℕ) (before after : OwnedView O) : Type 0 where
+  pub locked : IsOwned after
+  pub appends : AppendsOwned owner before after
   pub answer : BeginsTurn before.core (Ok (Some turn)) after.core
   pub turns : after.turns ≡ with_begun owner (Ok (Some turn)) before.turns
   pub parts : after.parts ≡ parts_begun after.core (Ok (Some turn)) before.parts
 
-module _ {O : Type 0} (before : LockedView O) (core : CoreView) (work : TurnWork) (legal : HasLegal before.core) (locked : IsLocked before) (begins : Begins before.core work core) where
+module _ {O : Type 0} (before : OwnedView O) (core : CoreView) (work : TurnWork) (legal : HasLegal before.core) (locked : IsOwned before) (begins : Begins before.core work core) where
   abbrev told : Part O → Part O
   told p = cond (p.instance == work.instance) (record p { site = work.site }) p
 
@@ -108,8 +108,8 @@ module _ {O : Type 0} (before : LockedView O) (core : CoreView) (work : TurnWork
       let was = mapped_was told before.parts part h in
       subst (λ (x : Part O). IsSiteOf (world core) x) was.2 (site_then was.0 was.1 (was.0.instance == work.instance) refl)
 
-  begun_locked : (owner : ℕ) (owners : List ℕ) → length owners ≡ length core.journal → IsLocked (record { core = core; owners = owners; turns = before.turns ++ (owner, work.number) ∷ []; parts = map told before.parts })
-  begun_locked owner owners many =
+  begun_owned : (owner : ℕ) (owners : List ℕ) → length owners ≡ length core.journal → IsOwned (record { core = core; owners = owners; turns = before.turns ++ (owner, work.number) ∷ []; parts = map told before.parts })
+  begun_owned owner owners many =
       let is = begins_as before.core core work legal begins in
       record {
         owners = many;
@@ -128,7 +128,7 @@ module _ {O : Type 0} (before : LockedView O) (core : CoreView) (work : TurnWork
       let is = begins_as before.core core work legal begins in
       let grows = begins_grows before.core core work begins in
       record {
-        locked = begun_locked owner owners (ap length named ∙ as_many owner before.core.journal core.journal before.owners locked.owners grows);
+        locked = begun_owned owner owners (ap length named ∙ as_many owner before.core.journal core.journal before.owners locked.owners grows);
         appends = appends_for owner before _ locked.owners named grows;
         answer = (work, refl, begins, is.running);
         turns = refl;
@@ -203,15 +203,15 @@ others_kept n turn (t ∷ ts) none =
     go false other rest = ap (λ (l : List (ℕ × ℕ)). cond (n == t.0) (as_kept t ∷ l) l) rest
 
 -- what the end of a turn leaves
-pub record HasEnded {O A : Type 0} (shared : A → O) (owner turn : ℕ) (outcome : Outcome) (made : Option A) (before after : LockedView O) : Type 0 where
-  pub locked : IsLocked after
-  pub appends : AppendsFor owner before after
+pub record HasEnded {O A : Type 0} (shared : A → O) (owner turn : ℕ) (outcome : Outcome) (made : Option A) (before after : OwnedView O) : Type 0 where
+  pub locked : IsOwned after
+  pub appends : AppendsOwned owner before after
   pub ended : Ends before.core turn outcome after.core
   pub turns : after.turns ≡ without_turn turn before.turns
-  pub others : (n : ℕ) → has_begun n turn before.turns ≡ false → kept_under n (turns_kept after) ≡ kept_under n (turns_kept before)
+  pub others : (n : ℕ) → has_begun n turn before.turns ≡ false → kept_under n (turns_owned after) ≡ kept_under n (turns_owned before)
   pub parts : ArePartsLeft shared (running before.core turn) made before.parts after.parts
 
-module _ {O A : Type 0} (shared : A → O) (before : LockedView O) (core : CoreView) (turn : ℕ) (outcome : Outcome) (work : TurnWork) (made : Option A) (legal : HasLegal before.core) (locked : IsLocked before)
+module _ {O A : Type 0} (shared : A → O) (before : OwnedView O) (core : CoreView) (turn : ℕ) (outcome : Outcome) (work : TurnWork) (made : Option A) (legal : HasLegal before.core) (locked : IsOwned before)
     (is : running before.core turn ≡ Some work) (ends : Ends before.core turn outcome core) (makes : is_some made ≡ makes_object work outcome) where
   are : AreTold (world before.core)
   are = turns_legal before.core.limits.journal (history_of before.core.journal) legal
@@ -313,9 +313,9 @@ module _ {O A : Type 0} (shared : A → O) (before : LockedView O) (core : CoreV
   left_there all true part h = (kept_was (λ (p : Part O). not (p.instance == work.instance)) all part h).0
   left_there all false part h = h
 
-  ended_locked : (owners : List ℕ) (turns : List (ℕ × ℕ)) (parts : List (Part O)) → length owners ≡ length core.journal → turns ≡ without_turn turn before.turns → ArePartsLeft shared (Some work) made before.parts parts
-      → IsLocked (record { core = core; owners = owners; turns = turns; parts = parts })
-  ended_locked owners turns parts many rest (all, more, left) = record {
+  ended_owned : (owners : List ℕ) (turns : List (ℕ × ℕ)) (parts : List (Part O)) → length owners ≡ length core.journal → turns ≡ without_turn turn before.turns → ArePartsLeft shared (Some work) made before.parts parts
+      → IsOwned (record { core = core; owners = owners; turns = turns; parts = parts })
+  ended_owned owners turns parts many rest (all, more, left) = record {
     owners = many;
     tokens = λ n. ap (λ ts. tokens_of (turn_numbers ts) n) rest ∙ ended_tokens n;
     parts = λ n. ap (λ (ps : List (Part O)). parts_of ps n) left ∙ left_count all more (is_destroy work.callback) n ∙ as_object n;
@@ -327,7 +327,7 @@ module _ {O A : Type 0} (shared : A → O) (before : LockedView O) (core : CoreV
   ended owner owners turns parts named rest left =
       let grows = ends_grows before.core core turn outcome ends in
       record {
-        locked = ended_locked owners turns parts (ap length named ∙ as_many owner before.core.journal core.journal before.owners locked.owners grows) rest left;
+        locked = ended_owned owners turns parts (ap length named ∙ as_many owner before.core.journal core.journal before.owners locked.owners grows) rest left;
         appends = appends_for owner before _ locked.owners named grows;
         ended = ends;
         turns = rest;
@@ -337,23 +337,23 @@ module _ {O A : Type 0} (shared : A → O) (before : LockedView O) (core : CoreV
 
 -- ---- the token of a turn that is under way
 
-pub one_token : {O : Type 0} (l : LockedView O) (turn : ℕ) (work : TurnWork) → HasLegal l.core → IsLocked l → running l.core turn ≡ Some work → tokens_of (turn_numbers l.turns) turn ≡ 1
+pub one_token : {O : Type 0} (l : OwnedView O) (turn : ℕ) (work : TurnWork) → HasLegal l.core → IsOwned l → running l.core turn ≡ Some work → tokens_of (turn_numbers l.turns) turn ≡ 1
 one_token l turn work legal locked is = locked.tokens turn ∙ ap one_if (running_under_way l.core turn work legal is)
 
 -- ---- nothing changes
 
 -- what is left where no turn begins, with what is answered
-pub record HasStayed {O : Type 0} (owner : ℕ) (answer : Result (Option ℕ) CoreFault) (before after : LockedView O) : Type 0 where
-  pub locked : IsLocked after
-  pub appends : AppendsFor owner before after
+pub record HasStayed {O : Type 0} (owner : ℕ) (answer : Result (Option ℕ) CoreFault) (before after : OwnedView O) : Type 0 where
+  pub locked : IsOwned after
+  pub appends : AppendsOwned owner before after
   pub answer_is : BeginsTurn before.core answer after.core
   pub turns : after.turns ≡ with_begun owner answer before.turns
   pub parts : after.parts ≡ parts_begun after.core answer before.parts
   pub same : after ≡ before
 
-module _ {O : Type 0} (owner : ℕ) (before : LockedView O) (core : CoreView) (owners : List ℕ) (turns : List (ℕ × ℕ)) (parts : List (Part O)) (locked : IsLocked before) (limits : core.limits ≡ before.core.limits)
+module _ {O : Type 0} (owner : ℕ) (before : OwnedView O) (core : CoreView) (owners : List ℕ) (turns : List (ℕ × ℕ)) (parts : List (Part O)) (locked : IsOwned before) (limits : core.limits ≡ before.core.limits)
     (named : owners ≡ before.owners) (turned : turns ≡ before.turns) (parted : parts ≡ before.parts) where
-  abbrev after : LockedView O
+  abbrev after : OwnedView O
   after = record { core = core; owners = owners; turns = turns; parts = parts }
 
   pub same_whole : core.journal ≡ before.core.journal → after ≡ before
@@ -363,15 +363,15 @@ module _ {O : Type 0} (owner : ℕ) (before : LockedView O) (core : CoreView) (o
       ∙ ap (λ (ts : List (ℕ × ℕ)). record { core = before.core; owners = before.owners; turns = ts; parts = parts }) turned
       ∙ ap (λ (ps : List (Part O)). record { core = before.core; owners = before.owners; turns = before.turns; parts = ps }) parted
 
-  pub still_locked : core.journal ≡ before.core.journal → IsLocked after
-  still_locked journal = subst (λ (l : LockedView O). IsLocked l) (sym (same_whole journal)) locked
+  pub still_owned : core.journal ≡ before.core.journal → IsOwned after
+  still_owned journal = subst (λ (l : OwnedView O). IsOwned l) (sym (same_whole journal)) locked
 
-  pub none_appended : core.journal ≡ before.core.journal → AppendsFor owner before after
+  pub none_appended : core.journal ≡ before.core.journal → AppendsOwned owner before after
   none_appended journal = appends_none owner before after journal named
 
   pub idle_stays : IsIdle before.core.journal core.journal → HasStayed owner (Ok None) before after
   idle_stays (none, same) = record {
-    locked = still_locked same;
+    locked = still_owned same;
     appends = none_appended same;
     answer_is = idle_step before.core core limits (none, same);
     turns = turned;
@@ -381,7 +381,7 @@ module _ {O : Type 0} (owner : ℕ) (before : LockedView O) (core : CoreView) (o
 
   pub full_stays : FindsNoRoom before.core.limits.journal before.core.journal core.journal → HasStayed owner (Err JournalFull) before after
   full_stays (step, is, full, same) = record {
-    locked = still_locked same;
+    locked = still_owned same;
     appends = none_appended same;
     answer_is = full_step before.core core limits (step, is, full, same);
     turns = turned;
@@ -391,7 +391,7 @@ module _ {O : Type 0} (owner : ℕ) (before : LockedView O) (core : CoreView) (o
 
   pub memory_stays : core.journal ≡ before.core.journal → HasStayed owner (Err OutOfMemory) before after
   memory_stays same = record {
-    locked = still_locked same;
+    locked = still_owned same;
     appends = none_appended same;
     answer_is = same_view core before.core limits same;
     turns = turned;

@@ -1,12 +1,14 @@
 //! What lies under the lock of a hall: the core with the owner of each entry, the tokens of the turns under way, and
-//! the object and the site of each living instance that was made.
+//! the object and the site of each living instance that was made, and the keeper of the instances' gates.
 //!
 //! A [`Locked`] is changed in stretches at the lock alone. Each change says which entries it appends, and under which
 //! owner, the number of the pass that made it; and the turns that other passes began are as they were.
 #![tactic(auto)]
 
 mod locked;
+mod moving;
 mod owed;
+mod owned_core;
 mod owners;
 mod part;
 mod parts;

@@ -1,9 +1,10 @@
 //! The value under the lock.
 ghost use Rattle.front_lock.specs.Keepings.{kept_under};
-ghost use Rattle.hall_locked.specs.Locks.{AppendsFor, IsLocked, IsRefusedUnder, PostsOne, turns_kept};
+ghost use Rattle.hall_locked.specs.Locks.{AppendsFor, IsLocked, KnowsGates, PostsOne, turns_kept};
 ghost use Rattle.hall_locked.specs.Owned.{without_turn};
+ghost use Rattle.hall_locked.specs.OwnedCores.{IsRefusedUnder};
 ghost use Rattle.hall_locked.specs.Parts.{ArePartsLeft, has_begun, parts_begun, with_begun};
-ghost use Rattle.platform_hall.specs.Platforms.{BeginsTurn, CoreTakes, Ends, has_drain, running};
+ghost use Rattle.platform_hall.specs.Platforms.{BeginsTurn, CoreTakes, Ends, has_drain, running, world};
 ghost use Rattle.scr_core.specs.Cores.{AreWithinGreatest};
 ghost use Rattle.scr_world.specs.Legal.{IsLegal};
 ghost use Rattle.scr_world.specs.Steps.{history_of};
@@ -14,46 +15,53 @@ ghost use Rattle.std.specs.Option.{option_copied};
 ghost use Rattle.std.specs.Prelude.{◌≡◌, ◌==◌, ◌&&◌, ℕ, [], Ok, Err, IfErr, IfOk, MatchResult, OnErr, OnOk, false, is_some, length, nat_lt};
 ghost use Rattle.turn_runner.specs.Outcomes.{IsRunOf};
 
+use crate::moving::move_gates;
 use crate::owed::{Owed, owed_by, owed_since};
-use crate::owners::note_owner;
+use crate::owned_core::OwnedCore;
 use crate::part::Part;
-use crate::parts::{keep, part_of, tell_site};
-use crate::room::{let_go, room_in};
-use crate::turns::{put_again, take_out};
+use crate::room::let_go;
+use call_gate::CallGate;
 use front_lock::Grows;
+use gate_keeper::Keeper;
 use journal_core::{Entry, Journal};
 use prop_map::OutOfMemory;
-use scr_core::{Accepted, Command, Core, CoreFault, Limits, Step, Taken, Turn};
-use std::alloc::{AllocError, Global};
+use scr_core::{Accepted, Command, Core, CoreFault, Limits, Step};
+use std::alloc::Global;
 use std::marker::Model;
 use turn_runner::Ran;
 
+// The slots of the gates: no instance has a slot above.
+const SLOTS: u32 = 70_000;
+
 /// What lies under the lock of a hall. Contracts see what they see of the core, the owner of each entry, the turns
-/// under way, each with its owner, and what is kept for the instances.
+/// under way, each with its owner, what is kept for the instances, and the keeper of their gates.
 ///
 /// Its journal is legal, and has as many owners as entries. A token is kept for each turn under way and none for any
 /// other, and a part for each living instance that was made, with the class and the properties that it was told at
-/// its Create or its last Modified, and for no other.
+/// its Create or its last Modified, and for no other. The gate of each slot is as far as the journal has it: open,
+/// shut or closed, and a shut one is closed already where its drain is on the shelf. No seat was handed out, so nobody
+/// is inside, and the drain of each shut gate is there.
 #[derive(Drop)]
 pub struct Locked<O> {
-    core: Core,
-    owners: Vec<u64>,
-    turns: Vec<(u64, Turn)>,
-    parts: Vec<Part<O>>,
+    own: OwnedCore<O>,
+    gate: CallGate,
+    keeper: Keeper,
 }
 
 impl<O> Model for Locked<O> {
-    ghost use Rattle.hall_locked.specs.Locks.{LockedView, IsLocked};
+    ghost use Rattle.hall_locked.specs.Locks.{HasGates, LockedView};
     ghost use Rattle.ldap_filter.specs.TreeCodes.{tree_code};
+    ghost use Rattle.platform_hall.specs.Platforms.{world};
     ghost use Rattle.std.specs.Coded.{codes};
+    ghost use Rattle.std.specs.Prelude.{◌≡◌};
 
     ghost Value = { LockedView O };
 
     ghost coded = { Prim.hlevel (codes, tree_code) };
 
-    ghost view = { λ l. record { core = l.core; owners = l.owners.items; turns = l.turns.items; parts = l.parts.items } };
+    ghost view = { λ l. record { core = l.own.core; owners = l.own.owners; turns = l.own.turns; parts = l.own.parts; keeper = l.keeper } };
 
-    ghost invariant = { λ l. IsLocked (record { core = l.core; owners = l.owners.items; turns = l.turns.items; parts = l.parts.items }) };
+    ghost invariant = { λ l. HasGates (world l.own.core) l.keeper × (l.keeper.gate ≡ l.gate) };
 }
 
 impl<O> Grows for Locked<O> {
@@ -68,27 +76,30 @@ impl<O> Grows for Locked<O> {
     ghost tie = { λ l. limits_code l.core.limits };
 
     fn length(&self) -> u64 {
-        self.core.journal().length()
+        self.own.length()
     }
 }
 
 impl<O: Drop> Locked<O> {
-    /// A core with an empty journal, and nothing beside it. The limits have to be at most 4,194,304 entries and
-    /// 1,000,000 turns.
+    /// A core with an empty journal, closed gates, and nothing beside them. The limits have to be at most 4,194,304
+    /// entries and 1,000,000 turns.
     ///
     /// # Errors
     /// Only want of memory.
     pub fn new(alloc: Global, limits: Limits) -> Result<Locked<O>, CoreFault>
         requires within { AreWithinGreatest limits }
-        ensures ok { IfOk result (λ l. l ≡ record { core = record { limits = limits; journal = [] }; owners = []; turns = []; parts = [] }) }
+        ensures ok { IfOk result (λ l. l ≡ record { core = record { limits = limits; journal = [] }; owners = []; turns = []; parts = []; keeper = l.keeper }) }
+        ensures shelf { IfOk result (λ l. l.keeper.shelf ≡ []) }
         ensures err { IfErr result (λ fault. fault ≡ NoMemory) }
     {
-        Ok(Locked {
-            core: Core::new(alloc, limits)?,
-            owners: Vec::new(alloc),
-            turns: Vec::new(alloc),
-            parts: Vec::new(alloc),
-        })
+        let own = OwnedCore::new(alloc, limits)?;
+        match Keeper::new(alloc, SLOTS) {
+            Ok((gate, keeper)) => Ok(Locked { own, gate, keeper }),
+            Err(_) => {
+                let_go(own);
+                Err(CoreFault::OutOfMemory)
+            }
+        }
     }
 
     /// The core, to look at: it is legal.
@@ -96,8 +107,7 @@ impl<O: Drop> Locked<O> {
         ensures core { result.now ≡ self.now.core }
         ensures legal { IsLegal self.now.core.limits.journal (history_of self.now.core.journal) }
     {
-        self.core.note_legal();
-        &self.core
+        self.own.look()
     }
 
     /// For contracts alone: what every such value keeps.
@@ -105,7 +115,17 @@ impl<O: Drop> Locked<O> {
         ensures legal { IsLegal self.now.core.limits.journal (history_of self.now.core.journal) }
         ensures kept { IsLocked self.now }
     {
-        self.core.note_legal();
+        self.own.note_kept();
+        let _gate = &self.gate;
+        let _keeper = &self.keeper;
+    }
+
+    /// For contracts alone: what the keeper knows of the gates of living instances.
+    pub fn note_locked(&self)
+        ensures { KnowsGates (world self.now.core) self.now.keeper }
+    {
+        self.own.note_kept();
+        self.keeper.note_orderly();
     }
 
     /// What is kept for an instance: `None` where nothing is. Its object can be shared with whoever tells it of a
@@ -113,11 +133,12 @@ impl<O: Drop> Locked<O> {
     pub fn part(&self, instance: u64) -> Option<&Part<O>>
         ensures { option_copied result ≡ find (λ part. part.instance == instance) self.now.parts }
     {
-        part_of(self.parts.as_slice(), instance)
+        self.own.part(instance)
     }
 
     /// Takes a command for this owner, and answers as the core does. The entry of a command that changes something is
-    /// the owner's, and then drains may be owed; a command that changes nothing owes none.
+    /// the owner's, the gates of the instances that begin to end then are shut, and drains may be owed; a command that
+    /// changes nothing owes none.
     ///
     /// # Errors
     /// Those of [`scr_core::Core::command`], and want of memory for the owner of its entry, which hides any other. A refused
@@ -136,23 +157,23 @@ impl<O: Drop> Locked<O> {
         ensures refused { OnErr result (self.new ≡ self.old) }
         ensures limits { self.new.core.limits ≡ self.old.core.limits }
     {
-        if self.owners.reserve(1).is_err() {
-            let_go(command);
-            return Err(CoreFault::OutOfMemory);
-        }
-        self.core.note_legal();
-        let entries = self.core.journal().length();
-        match self.core.command(alloc, command) {
+        self.own.note_kept();
+        self.keeper.note_orderly();
+        let entries = self.own.look().journal().length();
+        match self.own.command(alloc, owner, command) {
             Ok(accepted) => {
-                note_owner(&self.core, &mut self.owners, owner);
-                Ok((accepted, owed_since(&self.core, entries)))
+                self.keeper.shut_all(&self.gate, accepted.shut.as_slice());
+                self.own.note_kept();
+                self.keeper.note_orderly();
+                let owed = owed_since(self.own.look(), &self.keeper, entries);
+                Ok((accepted, owed))
             }
             Err(fault) => Err(fault),
         }
     }
 
-    /// Posts the first drain that is awaited, for this owner, and answers what is owed then. Where none is awaited,
-    /// since another pass posted it, all stays as it is.
+    /// Posts the drain that is first on the shelf, for this owner, and answers what is owed then. Where the shelf is
+    /// empty, since another pass posted what was there, all stays as it is.
     ///
     /// # Errors
     /// Only want of memory: what is owed comes back, and all is as it was.
@@ -162,7 +183,7 @@ impl<O: Drop> Locked<O> {
         owner: u64,
         owed: Owed,
     ) -> Result<Option<Owed>, (Owed, OutOfMemory)>
-        ensures posted { IfOk result (λ left. PostsOne self.old.core self.new.core) }
+        ensures posted { IfOk result (λ left. PostsOne self.old self.new) }
         ensures appended { AppendsFor owner self.old self.new }
         ensures turns { self.new.turns ≡ self.old.turns }
         ensures parts { self.new.parts ≡ self.old.parts }
@@ -170,27 +191,29 @@ impl<O: Drop> Locked<O> {
         ensures err { OnErr result (self.new ≡ self.old) }
         ensures limits { self.new.core.limits ≡ self.old.core.limits }
     {
-        if self.owners.reserve(1).is_err() {
-            return Err((owed, AllocError));
-        }
-        self.core.note_legal();
-        let Some(key) = self.core.next_drain() else {
+        self.own.note_kept();
+        self.keeper.note_orderly();
+        let Some(drain) = self.keeper.take_drain() else {
             owed.spend();
             return Ok(None);
         };
-        match self.core.drained(alloc, key) {
+        match self.own.post(alloc, owner, drain) {
             Ok(()) => {
                 owed.spend();
-                note_owner(&self.core, &mut self.owners, owner);
-                Ok(owed_by(&self.core))
+                self.own.note_kept();
+                self.keeper.note_orderly();
+                Ok(owed_by(&self.keeper))
             }
-            Err(error) => Err((owed, error)),
+            Err((drain, error)) => {
+                self.keeper.put_back(drain);
+                Err((owed, error))
+            }
         }
     }
 
     /// Begins the first due turn for this owner, and answers its number: `None` exactly where none is due. Its work
     /// is what the core says of the turn. The part of its instance, if there is one, has the site of that work then;
-    /// the other parts, and the other turns, are as they were.
+    /// the other parts, the other turns, and the gates are as they were.
     ///
     /// # Errors
     /// `JournalFull` exactly where a turn is due and the journal has no room for it; otherwise only want of memory.
@@ -200,30 +223,18 @@ impl<O: Drop> Locked<O> {
         ensures appended { AppendsFor owner self.old self.new }
         ensures turns { self.new.turns ≡ with_begun owner result self.old.turns }
         ensures parts { self.new.parts ≡ parts_begun self.new.core result self.old.parts }
+        ensures keeper { self.new.keeper ≡ self.old.keeper }
         ensures refused { OnErr result (self.new ≡ self.old) }
         ensures limits { self.new.core.limits ≡ self.old.core.limits }
     {
-        if room_in(&mut self.owners, &mut self.turns).is_err() {
-            return Err(CoreFault::OutOfMemory);
-        }
-        self.core.note_legal();
-        match self.core.take_turn(alloc) {
-            Ok(Taken::Turn(token, work)) => {
-                let number = work.number;
-                self.turns.push_reserved((owner, token));
-                note_owner(&self.core, &mut self.owners, owner);
-                tell_site(&mut self.parts, work);
-                Ok(Some(number))
-            }
-            Ok(Taken::Idle) => Ok(None),
-            Err(CoreFault::JournalFull) => Err(CoreFault::JournalFull),
-            Err(CoreFault::OutOfMemory) => Err(CoreFault::OutOfMemory),
-            Err(_) => unreachable!(),
-        }
+        self.own.note_kept();
+        let _keeper = &self.keeper;
+        self.own.take(alloc, owner)
     }
 
     /// Ends a turn that is under way with what it came to, whoever began it, and answers what is owed then. The entry
-    /// is this owner's. The object that the turn made is kept, and that of an instance that was destroyed is let go.
+    /// is this owner's. The object that the turn made is kept, and that of an instance that was destroyed is let go. The
+    /// gate of an instance whose Activate is done is opened, and then those of the instances that begin to end are shut.
     ///
     /// # Errors
     /// Only want of memory: what the turn came to comes back, and all is as it was.
@@ -245,47 +256,35 @@ impl<O: Drop> Locked<O> {
         ensures back { IfErr result (λ e. e.0 ≡ ran) }
         ensures limits { self.new.core.limits ≡ self.old.core.limits }
     {
-        if room_in(&mut self.owners, &mut self.parts).is_err() {
-            return Err((ran, AllocError));
-        }
-        self.core.note_legal();
-        let work = match self.core.turn_work(alloc, turn) {
-            Ok(Some(work)) => work,
-            Ok(None) => unreachable!(),
-            Err(error) => return Err((ran, error)),
-        };
-        let out = take_out(&mut self.turns, turn);
-        match self.core.done(alloc, out.turn, ran.outcome) {
+        self.own.note_kept();
+        self.keeper.note_orderly();
+        match self.own.done(alloc, owner, turn, ran) {
             Ok(ended) => {
+                move_gates(
+                    &mut self.keeper,
+                    &self.gate,
+                    ended.reopened,
+                    ended.shut.as_slice(),
+                );
                 let_go(ended);
-                note_owner(&self.core, &mut self.owners, owner);
-                keep(&mut self.parts, work, ran.made);
-                Ok(owed_by(&self.core))
+                self.own.note_kept();
+                self.keeper.note_orderly();
+                Ok(owed_by(&self.keeper))
             }
-            Err((token, error)) => {
-                let_go(work);
-                put_again(&mut self.turns, out.place, out.owner, token);
-                Err((ran, error))
-            }
+            Err(back) => Err(back),
         }
     }
 
-    /// The journal, with the owner of each entry. The tokens and the parts are let go. It takes no memory.
+    /// The journal, with the owner of each entry. The tokens, the parts and the gates are let go. It takes no memory.
     pub fn into_journal(self) -> (Journal<Step>, Vec<u64>)
         ensures entries { (result.0.entries ≡ self.core.journal) × (result.1.items ≡ self.owners) }
         ensures limit { result.0.limit ≡ self.core.limits.journal }
         ensures many { length result.1.items ≡ length result.0.entries }
         ensures legal { IsLegal self.core.limits.journal (history_of self.core.journal) }
     {
-        self.core.note_legal();
-        let Locked {
-            core,
-            owners,
-            turns,
-            parts,
-        } = self;
-        let_go(turns);
-        let_go(parts);
-        (core.into_journal(), owners)
+        let Locked { own, gate, keeper } = self;
+        let_go(gate);
+        let_go(keeper);
+        own.into_journal()
     }
 }

@@ -1,5 +1,5 @@
 //! The parts of instances.
-ghost use Rattle.hall_locked.specs.Locks.{parts_of};
+ghost use Rattle.hall_locked.specs.OwnedCores.{parts_of};
 ghost use Rattle.hall_locked.specs.Parts.{ArePartsLeft, ArePartsWith, parts_but, parts_told};
 ghost use Rattle.std.specs.Arc.{arc_value};
 ghost use Rattle.std.specs.List.{find, position};

@@ -7,17 +7,18 @@ use Rattle.std.proofs.lemmas.List.{length-append}
 use Rattle.front_lock.specs.Histories.{Distinct, Extends}
 use Rattle.front_lock.specs.Passes.{names_of}
 use Rattle.hall_goings.specs.Went.{up_to}
-use Rattle.hall_locked.specs.Locks.{AppendsFor, IsLocked, IsRefusedUnder, LockedView, PostsAt, PostsOne, log_of}
+use Rattle.hall_locked.specs.Locks.{AppendsFor, IsLocked, LockedView, PostsAt, PostsOne, first_key, log_of}
 use Rattle.hall_locked.specs.Owned.{entries_in}
+use Rattle.hall_locked.specs.OwnedCores.{IsRefusedUnder}
 use Rattle.hall_locked.specs.declared.owed.Owed.{Owed}
 use Rattle.journal_core.specs.declared.entry.Entry.{Entry}
 use Rattle.journal_core.specs.declared.entry.GateKey.{GateKey}
-use Rattle.hall_locked.specs.Platforms.{CoreTakes, has_drain, world}
+use Rattle.hall_locked.specs.Platforms.{CoreTakes, has_drain}
 use Rattle.platform_sessions.specs.Commands.{Appended, IsDrain, IsOwed, Posts, Refused, TookCommand, Unchanged}
 use Rattle.platform_sessions.specs.Halls.{View}
 use Rattle.platform_sessions.proofs.Stretches.{core_is, journal_is, journal_was, longer_by_one, looked, near, none_more, one_more, went_by}
 use Rattle.hall_locked.specs.Cores.{CoreView}
-use Rattle.scr_world.specs.Calls.{Commands, GrownIf, next_drain, world_at}
+use Rattle.scr_world.specs.Calls.{Commands, GrownIf, world_at}
 use Rattle.scr_world.specs.Refusals.{refusal, refuse_if}
 use Rattle.scr_world.specs.Replies.{Replies, answer, changes, has_effect, reply}
 use Rattle.scr_world.specs.Room.{has_room}
@@ -173,8 +174,8 @@ module _ {O : Type 0} (p q : View) (before after : LockedView O) (kept : List (�
       let more = one_more p q before after kept apart goes same a entry grew in
       ((length (log_of before), entry) ∷ [], went_by p q before after kept apart goes same (entry ∷ []) more, (subst IsDrain (sym step) tt, tt))
 
-  pub posted : PostsOne before.core after.core → Posts p q
-  posted posts = posted_at (next_drain (world before.core)) posts
+  pub posted : PostsOne before after → Posts p q
+  posted posts = posted_at (first_key before.keeper.shelf) posts.0
 
   pub posted_none : after ≡ before → Posts p q
   posted_none stays = ([], looked p q before after kept apart goes same (ap (λ (l : LockedView O). log_of l) stays), tt)
@@ -186,6 +187,6 @@ module _ {O : Type 0} (p q : View) (before after : LockedView O) (kept : List (�
   owed_left limits its stay (Err error) is = tt
 
   -- what posting answers, for the pass
-  pub drains_of : {X Y : Type 0} (answer : Result X Y) → IfOk answer (λ left. PostsOne before.core after.core) → OnErr answer (after ≡ before) → Posts p q
+  pub drains_of : {X Y : Type 0} (answer : Result X Y) → IfOk answer (λ left. PostsOne before after) → OnErr answer (after ≡ before) → Posts p q
   drains_of (Ok left) posts stays = posted posts
   drains_of (Err error) posts stays = posted_none stays

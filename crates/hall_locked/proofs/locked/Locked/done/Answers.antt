@@ -1,139 +1,52 @@
-use Rattle.std.proofs.Common.{List, ap, sym, ◌∙◌, subst, Some}
-use Rattle.std.specs.Arc.{arc_value}
-use Rattle.std.specs.Prelude.{insert, is_some, length}
-use Rattle.front_lock.specs.Keepings.{kept_under}
-use Rattle.hall_locked.specs.declared.part.Part.{Part}
-use Rattle.hall_locked.specs.Locks.{AppendsFor, LockedView, turns_kept}
-use Rattle.hall_locked.specs.Owned.{owners_up_to}
-use Rattle.hall_locked.specs.Parts.{ArePartsLeft}
-use Rattle.hall_locked.proofs.Turning.{HasEnded, ended, none_appended, one_token, same_whole, still_locked}
+use Rattle.std.proofs.Common.{ap, ◌∙◌, is_some, subst, sym}
+use Rattle.hall_locked.specs.Locks.{AppendsFor, HasGates, LockedView}
+use Rattle.hall_locked.specs.OwnedCores.{OwnedView}
+use Rattle.hall_locked.proofs.Calls.{ends_keep, ends_open_keys, ends_reopen, owed_now}
 use Rattle.platform_hall.specs.Platforms.{running, world}
-use Rattle.platform_hall.proofs.Desks.{running_under_way}
-use Rattle.scr_world.specs.Calls.{Grown}
-use Rattle.scr_world.specs.Legal.{is_under_way}
-use Rattle.scr_world.specs.declared.step.Step.TheVariants.{End}
 use Rattle.turn_runner.specs.Outcomes.{IsRunOf}
 use Rattle.hall_locked.proofs.locked.Locked.done.Goals as goal
 
-pub take_out-out-requires : goal.take_out-out-requires
-take_out-out-requires g c =
-    let before : LockedView g.row.O.Denot = record { core = c.self.inside.core; owners = c.self.inside.owners.items; turns = c.self.inside.turns.items; parts = c.self.inside.parts.items } in
-    let is = sym (rw c.in-Ok-Some.field-0-is at c.in-Ok-Some.ensures) in
-    one_token before c.args.turn c.in-Ok-Some.work c.note_legal.ensures c.self.invariant is
-
 pub done-requires : goal.done-requires
-done-requires g c =
-    let is = sym (rw c.in-Ok-Some.field-0-is at c.in-Ok-Some.ensures) in
-    ap (is_under_way (world c.self.inside.core)) c.take_out-out.ensures.turn ∙ running_under_way c.self.inside.core c.args.turn c.in-Ok-Some.work c.note_legal.ensures is
+done-requires g c = record {
+  run = subst (λ (l : LockedView g.row.O.Denot). IsRunOf (running l.core c.args.turn) c.args.ran.outcome (is_some c.args.ran.made)) (sym c.self.view_is) c.requires.run;
+}
 
-pub invariant_of-self-in-Ok : goal.invariant_of-self-in-Ok
-invariant_of-self-in-Ok g c =
-    let before : LockedView g.row.O.Denot = record { core = c.self.inside.core; owners = c.self.inside.owners.items; turns = c.self.inside.turns.items; parts = c.self.inside.parts.items } in
-    let is = sym (rw c.in-Ok-Some.field-0-is at c.in-Ok-Some.ensures) in
-    let core = c.done.new.self in
-    let outcome = c.args.ran.outcome in
-    let grown = subst (λ t. Grown before.core.limits.journal before.core.journal (End t outcome) core.journal) c.take_out-out.ensures.turn c.in-Ok.ensures.ok.0 in
-    let makes = subst (λ o. IsRunOf o outcome (is_some c.args.ran.made)) (ap (λ (l : LockedView g.row.O.Denot). running l.core c.args.turn) (sym c.self.view_is) ∙ is) c.requires.run in
-    let has = ended arc_value before core c.args.turn outcome c.in-Ok-Some.work c.args.ran.made c.note_legal.ensures c.self.invariant is (c.in-Ok.ensures.limits, grown) makes
-    c.args.owner c.note_owner.new.owners.items c.take_out-out.new.turns.items c.keep.new.parts.items
-    (c.note_owner.ensures ∙ ap (λ os. owners_up_to (length core.journal) c.args.owner os) c.room_in.ensures.one)
-    c.take_out-out.ensures.left
-    (subst (λ (ps : List (Part g.row.O.Denot)). ArePartsLeft arc_value (Some c.in-Ok-Some.work) c.args.ran.made ps c.keep.new.parts.items) c.room_in.ensures.other c.keep.ensures) in
-    has.locked
+pub move_gates-requires : goal.move_gates-requires
+move_gates-requires g c = record {
+  own = c.self.invariant.1;
+  can = ends_reopen c.self.inside.own.core c.done.new.self.core c.args.turn c.args.ran.outcome c.in-Ok.ended c.note_kept.ensures.legal c.note_kept.ensures.within c.in-Ok.ensures.ended c.in-Ok.ensures.gates c.self.inside.keeper c.note_orderly.ensures c.self.invariant.0;
+  «open» = ends_open_keys c.self.inside.own.core c.done.new.self.core c.args.turn c.args.ran.outcome c.in-Ok.ended c.note_kept.ensures.legal c.note_kept.ensures.within c.in-Ok.ensures.ended c.in-Ok.ensures.gates c.self.inside.keeper c.note_orderly.ensures c.self.invariant.0
+      c.as_slice.result.now c.as_slice.ensures;
+}
 
-pub returns-in-Ok-clause-ended : goal.returns-in-Ok-clause-ended
-returns-in-Ok-clause-ended g c =
-    let before : LockedView g.row.O.Denot = record { core = c.self.inside.core; owners = c.self.inside.owners.items; turns = c.self.inside.turns.items; parts = c.self.inside.parts.items } in
-    let is = sym (rw c.in-Ok-Some.field-0-is at c.in-Ok-Some.ensures) in
-    let core = c.done.new.self in
-    let outcome = c.args.ran.outcome in
-    let grown = subst (λ t. Grown before.core.limits.journal before.core.journal (End t outcome) core.journal) c.take_out-out.ensures.turn c.in-Ok.ensures.ok.0 in
-    let makes = subst (λ o. IsRunOf o outcome (is_some c.args.ran.made)) (ap (λ (l : LockedView g.row.O.Denot). running l.core c.args.turn) (sym c.self.view_is) ∙ is) c.requires.run in
-    let has = ended arc_value before core c.args.turn outcome c.in-Ok-Some.work c.args.ran.made c.note_legal.ensures c.self.invariant is (c.in-Ok.ensures.limits, grown) makes
-    c.args.owner c.note_owner.new.owners.items c.take_out-out.new.turns.items c.keep.new.parts.items
-    (c.note_owner.ensures ∙ ap (λ os. owners_up_to (length core.journal) c.args.owner os) c.room_in.ensures.one)
-    c.take_out-out.ensures.left
-    (subst (λ (ps : List (Part g.row.O.Denot)). ArePartsLeft arc_value (Some c.in-Ok-Some.work) c.args.ran.made ps c.keep.new.parts.items) c.room_in.ensures.other c.keep.ensures) in
-    (subst (λ (l : LockedView g.row.O.Denot). HasEnded arc_value c.args.owner c.args.turn c.args.ran.outcome c.args.ran.made l (record { core = c.done.new.self; owners = c.note_owner.new.owners.items; turns = c.take_out-out.new.turns.items; parts = c.keep.new.parts.items })) c.self.view_is has).ended
+pub invariant_of-self : goal.invariant_of-self
+invariant_of-self g c =
+    ends_keep c.self.inside.own.core c.done.new.self.core c.args.turn c.args.ran.outcome c.in-Ok.ended c.note_kept.ensures.legal c.note_kept.ensures.within c.in-Ok.ensures.ended c.in-Ok.ensures.gates c.self.inside.keeper c.note_orderly.ensures c.self.invariant.0
+    c.move_gates.new.keeper c.as_slice.result.now c.self.inside.gate c.self.invariant.1 c.as_slice.ensures c.move_gates.ensures.shut c.move_gates.ensures.alone
 
 pub returns-in-Ok-clause-appended : goal.returns-in-Ok-clause-appended
 returns-in-Ok-clause-appended g c =
-    let before : LockedView g.row.O.Denot = record { core = c.self.inside.core; owners = c.self.inside.owners.items; turns = c.self.inside.turns.items; parts = c.self.inside.parts.items } in
-    let is = sym (rw c.in-Ok-Some.field-0-is at c.in-Ok-Some.ensures) in
-    let core = c.done.new.self in
-    let outcome = c.args.ran.outcome in
-    let grown = subst (λ t. Grown before.core.limits.journal before.core.journal (End t outcome) core.journal) c.take_out-out.ensures.turn c.in-Ok.ensures.ok.0 in
-    let makes = subst (λ o. IsRunOf o outcome (is_some c.args.ran.made)) (ap (λ (l : LockedView g.row.O.Denot). running l.core c.args.turn) (sym c.self.view_is) ∙ is) c.requires.run in
-    let has = ended arc_value before core c.args.turn outcome c.in-Ok-Some.work c.args.ran.made c.note_legal.ensures c.self.invariant is (c.in-Ok.ensures.limits, grown) makes
-    c.args.owner c.note_owner.new.owners.items c.take_out-out.new.turns.items c.keep.new.parts.items
-    (c.note_owner.ensures ∙ ap (λ os. owners_up_to (length core.journal) c.args.owner os) c.room_in.ensures.one)
-    c.take_out-out.ensures.left
-    (subst (λ (ps : List (Part g.row.O.Denot)). ArePartsLeft arc_value (Some c.in-Ok-Some.work) c.args.ran.made ps c.keep.new.parts.items) c.room_in.ensures.other c.keep.ensures) in
-    (subst (λ (l : LockedView g.row.O.Denot). HasEnded arc_value c.args.owner c.args.turn c.args.ran.outcome c.args.ran.made l (record { core = c.done.new.self; owners = c.note_owner.new.owners.items; turns = c.take_out-out.new.turns.items; parts = c.keep.new.parts.items })) c.self.view_is has).appends
+    let own = c.done.new.self in
+    subst (λ (l : LockedView g.row.O.Denot). AppendsFor c.args.owner l (record { core = own.core; owners = own.owners; turns = own.turns; parts = own.parts; keeper = c.move_gates.new.keeper })) c.self.view_is c.in-Ok.ensures.appended
 
-pub returns-in-Ok-clause-turns : goal.returns-in-Ok-clause-turns
-returns-in-Ok-clause-turns g c =
-    let before : LockedView g.row.O.Denot = record { core = c.self.inside.core; owners = c.self.inside.owners.items; turns = c.self.inside.turns.items; parts = c.self.inside.parts.items } in
-    let is = sym (rw c.in-Ok-Some.field-0-is at c.in-Ok-Some.ensures) in
-    let core = c.done.new.self in
-    let outcome = c.args.ran.outcome in
-    let grown = subst (λ t. Grown before.core.limits.journal before.core.journal (End t outcome) core.journal) c.take_out-out.ensures.turn c.in-Ok.ensures.ok.0 in
-    let makes = subst (λ o. IsRunOf o outcome (is_some c.args.ran.made)) (ap (λ (l : LockedView g.row.O.Denot). running l.core c.args.turn) (sym c.self.view_is) ∙ is) c.requires.run in
-    let has = ended arc_value before core c.args.turn outcome c.in-Ok-Some.work c.args.ran.made c.note_legal.ensures c.self.invariant is (c.in-Ok.ensures.limits, grown) makes
-    c.args.owner c.note_owner.new.owners.items c.take_out-out.new.turns.items c.keep.new.parts.items
-    (c.note_owner.ensures ∙ ap (λ os. owners_up_to (length core.journal) c.args.owner os) c.room_in.ensures.one)
-    c.take_out-out.ensures.left
-    (subst (λ (ps : List (Part g.row.O.Denot)). ArePartsLeft arc_value (Some c.in-Ok-Some.work) c.args.ran.made ps c.keep.new.parts.items) c.room_in.ensures.other c.keep.ensures) in
-    (subst (λ (l : LockedView g.row.O.Denot). HasEnded arc_value c.args.owner c.args.turn c.args.ran.outcome c.args.ran.made l (record { core = c.done.new.self; owners = c.note_owner.new.owners.items; turns = c.take_out-out.new.turns.items; parts = c.keep.new.parts.items })) c.self.view_is has).turns
+pub returns-in-Ok-clause-owed : goal.returns-in-Ok-clause-owed
+returns-in-Ok-clause-owed g c =
+    let kept =
+    ends_keep c.self.inside.own.core c.done.new.self.core c.args.turn c.args.ran.outcome c.in-Ok.ended c.note_kept.ensures.legal c.note_kept.ensures.within c.in-Ok.ensures.ended c.in-Ok.ensures.gates c.self.inside.keeper c.note_orderly.ensures c.self.invariant.0
+    c.move_gates.new.keeper c.as_slice.result.now c.self.inside.gate c.self.invariant.1 c.as_slice.ensures c.move_gates.ensures.shut c.move_gates.ensures.alone in
+    c.owed_by.ensures ∙ owed_now c.done.new.self.core c.note_kept-in-Ok.ensures.legal c.move_gates.new.keeper c.note_orderly-in-Ok.ensures kept.0
 
-pub returns-in-Ok-clause-others : goal.returns-in-Ok-clause-others
-returns-in-Ok-clause-others g c =
-    let before : LockedView g.row.O.Denot = record { core = c.self.inside.core; owners = c.self.inside.owners.items; turns = c.self.inside.turns.items; parts = c.self.inside.parts.items } in
-    let is = sym (rw c.in-Ok-Some.field-0-is at c.in-Ok-Some.ensures) in
-    let core = c.done.new.self in
-    let outcome = c.args.ran.outcome in
-    let grown = subst (λ t. Grown before.core.limits.journal before.core.journal (End t outcome) core.journal) c.take_out-out.ensures.turn c.in-Ok.ensures.ok.0 in
-    let makes = subst (λ o. IsRunOf o outcome (is_some c.args.ran.made)) (ap (λ (l : LockedView g.row.O.Denot). running l.core c.args.turn) (sym c.self.view_is) ∙ is) c.requires.run in
-    let has = ended arc_value before core c.args.turn outcome c.in-Ok-Some.work c.args.ran.made c.note_legal.ensures c.self.invariant is (c.in-Ok.ensures.limits, grown) makes
-    c.args.owner c.note_owner.new.owners.items c.take_out-out.new.turns.items c.keep.new.parts.items
-    (c.note_owner.ensures ∙ ap (λ os. owners_up_to (length core.journal) c.args.owner os) c.room_in.ensures.one)
-    c.take_out-out.ensures.left
-    (subst (λ (ps : List (Part g.row.O.Denot)). ArePartsLeft arc_value (Some c.in-Ok-Some.work) c.args.ran.made ps c.keep.new.parts.items) c.room_in.ensures.other c.keep.ensures) in
-    (subst (λ (l : LockedView g.row.O.Denot). HasEnded arc_value c.args.owner c.args.turn c.args.ran.outcome c.args.ran.made l (record { core = c.done.new.self; owners = c.note_owner.new.owners.items; turns = c.take_out-out.new.turns.items; parts = c.keep.new.parts.items })) c.self.view_is has).others
+pub invariant_of-self-in-Err : goal.invariant_of-self-in-Err
+invariant_of-self-in-Err g c = (
+  subst (λ (l : OwnedView g.row.O.Denot). HasGates (world l.core) c.self.inside.keeper) (sym c.in-Err.ensures.err) c.self.invariant.0,
+  c.self.invariant.1,
+)
 
-pub returns-in-Ok-clause-parts : goal.returns-in-Ok-clause-parts
-returns-in-Ok-clause-parts g c =
-    let before : LockedView g.row.O.Denot = record { core = c.self.inside.core; owners = c.self.inside.owners.items; turns = c.self.inside.turns.items; parts = c.self.inside.parts.items } in
-    let is = sym (rw c.in-Ok-Some.field-0-is at c.in-Ok-Some.ensures) in
-    let core = c.done.new.self in
-    let outcome = c.args.ran.outcome in
-    let grown = subst (λ t. Grown before.core.limits.journal before.core.journal (End t outcome) core.journal) c.take_out-out.ensures.turn c.in-Ok.ensures.ok.0 in
-    let makes = subst (λ o. IsRunOf o outcome (is_some c.args.ran.made)) (ap (λ (l : LockedView g.row.O.Denot). running l.core c.args.turn) (sym c.self.view_is) ∙ is) c.requires.run in
-    let has = ended arc_value before core c.args.turn outcome c.in-Ok-Some.work c.args.ran.made c.note_legal.ensures c.self.invariant is (c.in-Ok.ensures.limits, grown) makes
-    c.args.owner c.note_owner.new.owners.items c.take_out-out.new.turns.items c.keep.new.parts.items
-    (c.note_owner.ensures ∙ ap (λ os. owners_up_to (length core.journal) c.args.owner os) c.room_in.ensures.one)
-    c.take_out-out.ensures.left
-    (subst (λ (ps : List (Part g.row.O.Denot)). ArePartsLeft arc_value (Some c.in-Ok-Some.work) c.args.ran.made ps c.keep.new.parts.items) c.room_in.ensures.other c.keep.ensures) in
-    (subst (λ (l : LockedView g.row.O.Denot). HasEnded arc_value c.args.owner c.args.turn c.args.ran.outcome c.args.ran.made l (record { core = c.done.new.self; owners = c.note_owner.new.owners.items; turns = c.take_out-out.new.turns.items; parts = c.keep.new.parts.items })) c.self.view_is has).parts
+pub returns-in-Err-clause-appended : goal.returns-in-Err-clause-appended
+returns-in-Err-clause-appended g c =
+    let own = c.done.new.self in
+    subst (λ (l : LockedView g.row.O.Denot). AppendsFor c.args.owner l (record { core = own.core; owners = own.owners; turns = own.turns; parts = own.parts; keeper = c.self.inside.keeper })) c.self.view_is c.in-Err.ensures.appended
 
-pub invariant_of-self-in-Err-done : goal.invariant_of-self-in-Err-done
-invariant_of-self-in-Err-done g c =
-    let before : LockedView g.row.O.Denot = record { core = c.self.inside.core; owners = c.self.inside.owners.items; turns = c.self.inside.turns.items; parts = c.self.inside.parts.items } in
-    still_locked c.args.owner before c.done.new.self c.room_in.new.one.items c.put_again.new.turns.items c.room_in.new.other.items c.self.invariant c.in-Err-done.ensures.limits c.room_in.ensures.one (c.put_again.ensures ∙ ap (λ t. insert c.take_out-out.new.turns.items c.take_out-out.result.place (c.take_out-out.result.owner, t)) c.in-Err-done.ensures.back ∙ c.take_out-out.ensures.back) c.room_in.ensures.other c.in-Err-done.ensures.err
-
-pub returns-in-Err-done-clause-appended : goal.returns-in-Err-done-clause-appended
-returns-in-Err-done-clause-appended g c =
-    let before : LockedView g.row.O.Denot = record { core = c.self.inside.core; owners = c.self.inside.owners.items; turns = c.self.inside.turns.items; parts = c.self.inside.parts.items } in
-    subst (λ (l : LockedView g.row.O.Denot). AppendsFor c.args.owner l (record { core = c.done.new.self; owners = c.room_in.new.one.items; turns = c.put_again.new.turns.items; parts = c.room_in.new.other.items })) c.self.view_is
-    (none_appended c.args.owner before c.done.new.self c.room_in.new.one.items c.put_again.new.turns.items c.room_in.new.other.items c.self.invariant c.in-Err-done.ensures.limits c.room_in.ensures.one (c.put_again.ensures ∙ ap (λ t. insert c.take_out-out.new.turns.items c.take_out-out.result.place (c.take_out-out.result.owner, t)) c.in-Err-done.ensures.back ∙ c.take_out-out.ensures.back) c.room_in.ensures.other c.in-Err-done.ensures.err)
-
-pub returns-in-Err-done-clause-others : goal.returns-in-Err-done-clause-others
-returns-in-Err-done-clause-others g c = λ n none.
-    let before : LockedView g.row.O.Denot = record { core = c.self.inside.core; owners = c.self.inside.owners.items; turns = c.self.inside.turns.items; parts = c.self.inside.parts.items } in
-    let same = same_whole c.args.owner before c.done.new.self c.room_in.new.one.items c.put_again.new.turns.items c.room_in.new.other.items c.self.invariant c.in-Err-done.ensures.limits c.room_in.ensures.one (c.put_again.ensures ∙ ap (λ t. insert c.take_out-out.new.turns.items c.take_out-out.result.place (c.take_out-out.result.owner, t)) c.in-Err-done.ensures.back ∙ c.take_out-out.ensures.back) c.room_in.ensures.other c.in-Err-done.ensures.err in
-    ap (λ (l : LockedView g.row.O.Denot). kept_under n (turns_kept l)) (same ∙ c.self.view_is)
-
-pub returns-in-Err-done-clause-err : goal.returns-in-Err-done-clause-err
-returns-in-Err-done-clause-err g c =
-    let before : LockedView g.row.O.Denot = record { core = c.self.inside.core; owners = c.self.inside.owners.items; turns = c.self.inside.turns.items; parts = c.self.inside.parts.items } in
-    same_whole c.args.owner before c.done.new.self c.room_in.new.one.items c.put_again.new.turns.items c.room_in.new.other.items c.self.invariant c.in-Err-done.ensures.limits c.room_in.ensures.one (c.put_again.ensures ∙ ap (λ t. insert c.take_out-out.new.turns.items c.take_out-out.result.place (c.take_out-out.result.owner, t)) c.in-Err-done.ensures.back ∙ c.take_out-out.ensures.back) c.room_in.ensures.other c.in-Err-done.ensures.err ∙ c.self.view_is
+pub returns-in-Err-clause-err : goal.returns-in-Err-clause-err
+returns-in-Err-clause-err g c =
+    ap (λ (l : OwnedView g.row.O.Denot). record { core = l.core; owners = l.owners; turns = l.turns; parts = l.parts; keeper = c.self.inside.keeper }) c.in-Err.ensures.err ∙ c.self.view_is

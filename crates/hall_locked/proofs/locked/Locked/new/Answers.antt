@@ -1,9 +1,13 @@
-use Rattle.std.proofs.Common.{ap}
-use Rattle.scr_core.specs.Cores.{CoreView}
-use Rattle.hall_locked.proofs.Kept.{empty_locked}
+use Rattle.std.proofs.Common.{ap, refl}
+use Rattle.gate_keeper.specs.Keepers.{KeeperView}
+use Rattle.hall_locked.specs.OwnedCores.{OwnedView}
+use Rattle.hall_locked.proofs.Gates.{first_gates}
 use Rattle.hall_locked.proofs.locked.Locked.new.Goals as goal
 
 pub invariant_of-result : goal.invariant_of-result
 invariant_of-result g c =
-    empty_locked (record { core = c.in_ok-new.field-0; owners = c.new-2.result.items; turns = c.new-3.result.items; parts = c.new-4.result.items })
-    (ap (λ (p : CoreView). p.journal) c.in_ok-new.ensures.ok) c.new-2.ensures.items c.new-3.ensures.items c.new-4.ensures.items
+    let own = c.in_ok-own.own in
+    let made = c.in-Ok.ensures in (
+      first_gates own.core (ap (λ (l : OwnedView g.row.O.Denot). l.core.journal) c.in_ok-own.ensures.ok) 70000 c.in-Ok.gate c.in-Ok.keeper refl made.0 made.1,
+      ap (λ (k : KeeperView). k.gate) made.1,
+    )

@@ -2,11 +2,11 @@ use Rattle.std.proofs.Common.{List, ap, ◌∙◌}
 use Rattle.std.specs.List.{find}
 use Rattle.std.specs.Prelude.{◌==◌}
 use Rattle.hall_locked.specs.declared.part.Part.{Part}
-use Rattle.hall_locked.specs.Locks.{LockedView}
-use Rattle.hall_locked.proofs.locked.Locked.part.Goals as goal
+use Rattle.hall_locked.specs.OwnedCores.{OwnedView}
+use Rattle.hall_locked.proofs.owned_core.OwnedCore.part.Goals as goal
 
 pub returns : goal.returns
 returns g c =
     c.part_of.ensures
     ∙ ap (λ (ps : List (Part g.row.O.Denot)). find (λ (p : Part g.row.O.Denot). p.instance == c.args.instance) ps) c.as_slice.ensures.value
-    ∙ ap (λ (l : LockedView g.row.O.Denot). find (λ (p : Part g.row.O.Denot). p.instance == c.args.instance) l.parts) c.self.view_is
+    ∙ ap (λ (l : OwnedView g.row.O.Denot). find (λ (p : Part g.row.O.Denot). p.instance == c.args.instance) l.parts) c.self.view_is
