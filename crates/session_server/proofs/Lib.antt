@@ -1,1 +1,4 @@
 pub mod Holding
+pub mod Turning
+pub mod Joining
+pub mod Serving
