@@ -1,2 +1,5 @@
 pub mod Goings
 pub mod Holding
+pub mod Turning
+pub mod Joining
+pub mod Serving
