@@ -1,11 +1,9 @@
 //! Doors in memory, served one connection after the other.
-ghost use Rattle.session_shell.specs.Halls.{IsOf};
+ghost use Rattle.session_server.specs.Halls.{IsOf};
 
 use crate::samples::{doors, new_hall};
 use fault_count::{MemorySink, MemorySource};
-use session_doors::{Doors, Finished, MemoryDoors};
-use session_server::{DoorEnd, serve_door};
-use session_shell::SessionEnd;
+use session_server::{DoorEnd, Doors, Finished, MemoryDoors, SessionEnd, serve_door};
 use std::alloc::Global;
 use std::sync::Wait;
 

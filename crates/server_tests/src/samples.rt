@@ -5,8 +5,7 @@ ghost use Rattle.std.specs.Prelude.{◌≡◌, IfSome};
 use demonstration_kinds::Demonstration;
 use fault_count::{MemorySink, MemorySource};
 use scr_world::Limits;
-use session_doors::MemoryDoors;
-use session_shell::{Hall, HallPass};
+use session_server::{Hall, HallPass, MemoryDoors};
 use std::alloc::Global;
 
 pub(crate) type DemoHall = Hall<Demonstration>;

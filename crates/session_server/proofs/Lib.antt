@@ -1,4 +1,3 @@
-pub mod Goings
 pub mod Holding
 pub mod Turning
 pub mod Joining
