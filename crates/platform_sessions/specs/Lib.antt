@@ -3,3 +3,4 @@ pub mod Halls
 pub mod Commands
 pub mod Reads
 pub mod Works
+pub use Rattle.hall_locked.specs.Platforms

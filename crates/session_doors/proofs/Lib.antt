@@ -1,0 +1,3 @@
+pub use Rattle.session_shell.proofs.SessionGoings
+pub use Rattle.session_shell.proofs.Stretches
+pub use Rattle.session_shell.proofs.Working

@@ -1,2 +1,4 @@
-pub mod Goings
 pub mod Holding
+pub mod Turning
+pub mod Joining
+pub mod Serving

@@ -7,3 +7,4 @@ pub mod Goings
 pub mod Sends
 pub mod SessionGoings
 pub use Rattle.platform_sessions.proofs.Stretches
+pub use Rattle.platform_sessions.proofs.Working
