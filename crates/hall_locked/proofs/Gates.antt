@@ -218,9 +218,6 @@ nothing_opens key is = cc
 
 module _ (limit : ℕ) (old new : List (Entry Step)) (command : Command) (accepted : Accepted) (legal : IsLegal limit (history_of old)) (takes : Commands limit old command (Ok accepted) new) (k : KeeperView) (orderly : IsOrderly k)
     (gates : HasGates (world_at old) k) where
-  abbrev shut : List GateKey
-  shut = shut_between (world_at old) (world_at new)
-
   shut_none : new ≡ old → shut_between (world_at old) (world_at new) ≡ []
   shut_none same = ap (λ (j : List (Entry Step)). shut_between (world_at old) (world_at j)) same ∙ none_shut (world_at old)
 

@@ -46,7 +46,10 @@ module _ (w : World) (n : ℕ) (low : (slot : ℕ) → get_or w.generations slot
 
 pub generations_low : (past : History) (slot : ℕ) → get_or (world_of past).generations slot 0 ≤ length past
 unfolding world_of world_after_entry world_after_step
-generations_low [] slot = omega arith
+generations_low [] slot = least
+  where
+    least : 0 ≤ 0
+    least = omega arith
 generations_low (entry ∷ past) slot =
     subst (λ m. get_or (world_of (entry ∷ past)).generations slot 0 ≤ m) (longer (length past)) (step_low (world_of past) (length past) (generations_low past) entry.step slot)
   where

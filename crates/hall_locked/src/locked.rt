@@ -88,7 +88,7 @@ impl<O: Drop> Locked<O> {
     /// Only want of memory.
     pub fn new(alloc: Global, limits: Limits) -> Result<Locked<O>, CoreFault>
         requires within { AreWithinGreatest limits }
-        ensures ok { IfOk result (λ l. l ≡ record { core = record { limits = limits; journal = [] }; owners = []; turns = []; parts = []; keeper = l.keeper }) }
+        ensures ok { IfOk result (λ l. (l.core ≡ record { limits = limits; journal = [] }) × (l.owners ≡ []) × (l.turns ≡ []) × (l.parts ≡ [])) }
         ensures shelf { IfOk result (λ l. l.keeper.shelf ≡ []) }
         ensures err { IfErr result (λ fault. fault ≡ NoMemory) }
     {
