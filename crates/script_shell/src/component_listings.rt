@@ -119,13 +119,15 @@ fn description_line(
 ) -> Result<DescriptionLine, OutOfMemory>
     ensures { IfOk result (λ line. line ≡ description_line (world core.now) contents.now (index, description.now)) }
 {
+    let name = description.name.copy(alloc)?;
+    let pids = description.configuration_pids.copy(alloc)?;
     let numbers = core.described_numbers(alloc, contents.bundle, index as u64)?;
     Ok(DescriptionLine {
-        name: description.name.copy(alloc)?,
+        name,
         enabled: is_enabled_at(contents.enabled.as_slice(), index),
         immediate: description.immediate,
         policy: description.configuration_policy,
-        pids: description.configuration_pids.copy(alloc)?,
+        pids,
         numbers,
     })
 }
