@@ -4,7 +4,7 @@ ghost use Rattle.platform_hall.specs.Platforms.{world};
 ghost use Rattle.script_shell.specs.Carries.{CarriesReading};
 ghost use Rattle.script_shell.specs.ComponentListings.{description_line, description_lines, descriptions_reply, descriptions_told, details_reply, listed_line, listed_lines};
 ghost use Rattle.prop_map.specs.Words.{with_places};
-ghost use Rattle.std.specs.Prelude.{◌≡◌, IfOk, false, get_or, map};
+ghost use Rattle.std.specs.Prelude.{◌≡◌, IfOk, false, map, slice_index_or};
 
 use crate::readings::no_component;
 use component_dto::Description;
@@ -133,10 +133,7 @@ fn description_line(
 }
 
 fn is_enabled_at(enabled: &[bool], index: usize) -> bool
-    ensures { result ≡ get_or enabled.now index false }
+    ensures { result ≡ slice_index_or enabled.now index false }
 {
-    match enabled.get(index) {
-        Some(flag) => *flag,
-        None => false,
-    }
+    index < enabled.len() && enabled[index]
 }
