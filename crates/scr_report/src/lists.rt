@@ -1,11 +1,12 @@
-//! Numbers and lists as JSON values.
+//! Numbers, texts and lists as JSON values.
 ghost use Rattle.scr_report.specs.ReportData.{list_of, number_or_null, numbers, text_or_null};
-ghost use Rattle.serde_json.specs.View.{view};
+ghost use Rattle.serde_json.specs.Data.{put as with_member, string};
+ghost use Rattle.serde_json.specs.View.{members_view, view};
 ghost use Rattle.std.specs.Option.{option_copied};
-ghost use Rattle.std.specs.Prelude.{◌≡◌, IfOk, map};
+ghost use Rattle.std.specs.Prelude.{◌≡◌, IfOk, OnOk, map};
 
 use prop_map::{OutOfMemory, Str};
-use serde_json::Value;
+use serde_json::{Map, Value, put};
 use std::alloc::Global;
 
 /// A list of values.
@@ -44,4 +45,16 @@ pub(crate) fn text_or_null(alloc: Global, text: Option<&Str>) -> Result<Value, O
         Some(text) => Value::try_from_str(alloc, text.as_str()),
         None => Ok(Value::Null),
     }
+}
+
+/// Puts a text under a key.
+pub(crate) fn put_text(
+    alloc: Global,
+    members: &mut Map<String, Value>,
+    key: &str,
+    text: &str,
+) -> Result<(), OutOfMemory>
+    ensures { OnOk result (members_view members.new.entries ≡ with_member key.now (string text.now) (members_view members.old.entries)) }
+{
+    put(members, alloc, key, Value::try_from_str(alloc, text)?)
 }

@@ -1,13 +1,14 @@
 //! References with what is in effect for them, as JSON (OSGi Compendium 8, chapter 112, "ReferenceDTO",
 //! "SatisfiedReferenceDTO", "UnsatisfiedReferenceDTO").
 ghost use Rattle.scr_report.specs.DetailData.{cardinality_text, policy_option_text, policy_text, reference_data, satisfied_details, unsatisfied_details};
-ghost use Rattle.serde_json.specs.View.{view};
-ghost use Rattle.std.specs.Prelude.{◌≡◌, IfOk};
+ghost use Rattle.scr_report.specs.DetailMembers.{with_reference, with_services, with_words};
+ghost use Rattle.serde_json.specs.View.{members_view, view};
+ghost use Rattle.std.specs.Prelude.{◌≡◌, IfOk, OnOk};
 
-use crate::lists::{list_of, numbers, text_or_null};
+use crate::lists::{list_of, numbers, put_text, text_or_null};
 use prop_map::{Cardinality, OutOfMemory, Policy, PolicyOption};
-use scr_readers::ReferenceDetails;
-use serde_json::{Value, json};
+use scr_readers::{ReferenceDetails, ReferenceState};
+use serde_json::{Map, Value, put};
 use std::alloc::Global;
 
 /// Those with their minimum of targets, in order.
@@ -45,20 +46,79 @@ pub(crate) fn unsatisfied_details(
 fn reference_value(alloc: Global, reference: &ReferenceDetails) -> Result<Value, OutOfMemory>
     ensures { IfOk result (λ value. view value ≡ reference_data reference.now) }
 {
-    let bound = numbers(alloc, reference.state.bound.as_slice())?;
-    let target = text_or_null(alloc, reference.state.target.as_ref())?;
-    let targets = numbers(alloc, reference.state.targets.as_slice())?;
-    json!(in alloc; {
-        "boundServices": bound,
-        "cardinality": cardinality_text(reference.cardinality),
-        "interfaceName": reference.interface_name.as_str(),
-        "minimum": reference.minimum,
-        "name": reference.state.name.as_str(),
-        "policy": policy_text(reference.policy),
-        "policyOption": policy_option_text(reference.policy_option),
-        "target": target,
-        "targetServices": targets
-    })
+    let mut members = Map::new(alloc);
+    put_members(alloc, &mut members, reference)?;
+    Ok(Value::Object(members))
+}
+
+fn put_members(
+    alloc: Global,
+    members: &mut Map<String, Value>,
+    reference: &ReferenceDetails,
+) -> Result<(), OutOfMemory>
+    ensures { OnOk result (members_view members.new.entries ≡ with_reference reference.now (members_view members.old.entries)) }
+{
+    put_words(alloc, members, reference)?;
+    put_services(alloc, members, &reference.state)
+}
+
+// What the reference asks for.
+fn put_words(
+    alloc: Global,
+    members: &mut Map<String, Value>,
+    reference: &ReferenceDetails,
+) -> Result<(), OutOfMemory>
+    ensures { OnOk result (members_view members.new.entries ≡ with_words reference.now (members_view members.old.entries)) }
+{
+    put_text(
+        alloc,
+        members,
+        "cardinality",
+        cardinality_text(reference.cardinality),
+    )?;
+    put_text(
+        alloc,
+        members,
+        "interfaceName",
+        reference.interface_name.as_str(),
+    )?;
+    put(members, alloc, "minimum", Value::from(reference.minimum))?;
+    put_text(alloc, members, "policy", policy_text(reference.policy))?;
+    put_text(
+        alloc,
+        members,
+        "policyOption",
+        policy_option_text(reference.policy_option),
+    )
+}
+
+// Its name, its target, what it can take and what is bound to it.
+fn put_services(
+    alloc: Global,
+    members: &mut Map<String, Value>,
+    state: &ReferenceState,
+) -> Result<(), OutOfMemory>
+    ensures { OnOk result (members_view members.new.entries ≡ with_services state.now (members_view members.old.entries)) }
+{
+    put(
+        members,
+        alloc,
+        "boundServices",
+        numbers(alloc, state.bound.as_slice())?,
+    )?;
+    put_text(alloc, members, "name", state.name.as_str())?;
+    put(
+        members,
+        alloc,
+        "target",
+        text_or_null(alloc, state.target.as_ref())?,
+    )?;
+    put(
+        members,
+        alloc,
+        "targetServices",
+        numbers(alloc, state.targets.as_slice())?,
+    )
 }
 
 fn cardinality_text(cardinality: Cardinality) -> &'static str

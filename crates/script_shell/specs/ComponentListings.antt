@@ -1,7 +1,7 @@
 -- What the lines `list`, `details` and `descriptions` ask: component configurations with what they wait for, all that is
 -- told of one, and the descriptions of a bundle. Our own form; OSGi Compendium 8, chapter 112,
 -- "ComponentConfigurationDTO", "ComponentDescriptionDTO".
-use Rattle.std.specs.Prelude.{ℕ, List, false, get_or, map}
+use Rattle.std.specs.Prelude.{ℕ, List, false, map, slice_index_or}
 use Rattle.std.specs.Fmt.{decimal}
 use Rattle.std.specs.Option.{option_map_or}
 use Rattle.component_dto.specs.declared.description.Description.{Description}
@@ -32,7 +32,7 @@ listed_lines w = map listed_line (listed_components w)
 abbrev pub description_line : World → Contents → (ℕ × Description) → DescriptionLine
 description_line w c d = record {
   name = d.1.name;
-  enabled = get_or c.enabled d.0 false;
+  enabled = slice_index_or c.enabled d.0 false;
   immediate = d.1.immediate;
   policy = d.1.configuration_policy;
   pids = d.1.configuration_pids;

@@ -4,7 +4,7 @@ ghost use Rattle.platform_hall.specs.Platforms.{world};
 ghost use Rattle.script_shell.specs.Carries.{CarriesReading};
 ghost use Rattle.script_shell.specs.ComponentListings.{description_line, description_lines, descriptions_reply, descriptions_told, details_reply, listed_line, listed_lines};
 ghost use Rattle.prop_map.specs.Words.{with_places};
-ghost use Rattle.std.specs.Prelude.{◌≡◌, IfOk, false, get_or, map};
+ghost use Rattle.std.specs.Prelude.{◌≡◌, IfOk, false, map, slice_index_or};
 
 use crate::readings::no_component;
 use component_dto::Description;
@@ -119,22 +119,21 @@ fn description_line(
 ) -> Result<DescriptionLine, OutOfMemory>
     ensures { IfOk result (λ line. line ≡ description_line (world core.now) contents.now (index, description.now)) }
 {
+    let name = description.name.copy(alloc)?;
+    let pids = description.configuration_pids.copy(alloc)?;
     let numbers = core.described_numbers(alloc, contents.bundle, index as u64)?;
     Ok(DescriptionLine {
-        name: description.name.copy(alloc)?,
+        name,
         enabled: is_enabled_at(contents.enabled.as_slice(), index),
         immediate: description.immediate,
         policy: description.configuration_policy,
-        pids: description.configuration_pids.copy(alloc)?,
+        pids,
         numbers,
     })
 }
 
 fn is_enabled_at(enabled: &[bool], index: usize) -> bool
-    ensures { result ≡ get_or enabled.now index false }
+    ensures { result ≡ slice_index_or enabled.now index false }
 {
-    match enabled.get(index) {
-        Some(flag) => *flag,
-        None => false,
-    }
+    index < enabled.len() && enabled[index]
 }

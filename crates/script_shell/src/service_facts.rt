@@ -40,22 +40,35 @@ fn facts_reply(alloc: Global, view: &ServiceView) -> Result<ShellReply, SettleFa
 fn service_facts(alloc: Global, view: &ServiceView) -> Result<Vec<ServiceFact>, OutOfMemory>
     ensures { IfOk result (λ v. v.items ≡ service_facts view.now) }
 {
-    let mut others = use_facts(alloc, view.uses.as_slice())?;
-    add_holders(alloc, &mut others, view.holders.as_slice())?;
-    let mut facts = own_facts(alloc, view)?;
-    facts.append(&mut others)?;
+    let mut facts = Vec::new(alloc);
+    add_facts(alloc, &mut facts, view)?;
     Ok(facts)
 }
 
-// The service itself, its component configuration and its properties.
-fn own_facts(alloc: Global, view: &ServiceView) -> Result<Vec<ServiceFact>, OutOfMemory>
-    ensures { IfOk result (λ v. v.items ≡ own_facts view.now) }
+fn add_facts(
+    alloc: Global,
+    facts: &mut Vec<ServiceFact>,
+    view: &ServiceView,
+) -> Result<(), OutOfMemory>
+    ensures { OnOk result (facts.new.items ≡ facts.old.items ++ service_facts view.now) }
 {
-    let mut facts = Vec::new(alloc);
+    add_own_facts(alloc, facts, view)?;
+    add_uses(facts, view.uses.as_slice())?;
+    add_holders(alloc, facts, view.holders.as_slice())
+}
+
+// The service itself, its component configuration and its properties.
+fn add_own_facts(
+    alloc: Global,
+    facts: &mut Vec<ServiceFact>,
+    view: &ServiceView,
+) -> Result<(), OutOfMemory>
+    ensures { OnOk result (facts.new.items ≡ facts.old.items ++ own_facts view.now) }
+{
     facts.push(ServiceFact::Row(view.row.copy(alloc)?))?;
     facts.push(provider_fact(view.provider))?;
     facts.push(properties_fact(alloc, &view.row)?)?;
-    Ok(facts)
+    Ok(())
 }
 
 fn provider_fact(provider: Option<u64>) -> ServiceFact
@@ -75,14 +88,13 @@ fn properties_fact(alloc: Global, row: &ServiceRow) -> Result<ServiceFact, OutOf
 }
 
 // The bundles that use it.
-fn use_facts(alloc: Global, uses: &[ServiceUse]) -> Result<Vec<ServiceFact>, OutOfMemory>
-    ensures { IfOk result (λ v. v.items ≡ map use_fact uses.now) }
+fn add_uses(facts: &mut Vec<ServiceFact>, uses: &[ServiceUse]) -> Result<(), OutOfMemory>
+    ensures { OnOk result (facts.new.items ≡ facts.old.items ++ map use_fact uses.now) }
 {
-    let mut facts = Vec::new(alloc);
     for row in uses {
         facts.push(use_fact(row))?;
     }
-    Ok(facts)
+    Ok(())
 }
 
 fn use_fact(row: &ServiceUse) -> ServiceFact

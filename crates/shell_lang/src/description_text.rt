@@ -65,9 +65,16 @@ fn policy_word(policy: ConfigurationPolicy) -> &'static str
 fn array_text(alloc: Global, texts: &[Str]) -> Result<String, OutOfMemory>
     ensures { IfOk result (λ text. string_bytes text ≡ compact_text (text_array texts.now)) }
 {
-    let value = Value::Array(text_values(alloc, texts)?);
+    let value = array_value(alloc, texts)?;
     let text = value.to_string(alloc)?;
     Ok(text)
+}
+
+fn array_value(alloc: Global, texts: &[Str]) -> Result<Value, OutOfMemory>
+    ensures { IfOk result (λ value. view value ≡ text_array texts.now) }
+{
+    let values = text_values(alloc, texts)?;
+    Ok(Value::Array(values))
 }
 
 fn text_values(alloc: Global, texts: &[Str]) -> Result<Vec<Value>, OutOfMemory>
