@@ -67,6 +67,7 @@ pub(crate) fn serve_beside<
 }
 
 // Serves the doors, and closes the hall.
+#[tactic(auto, using(crate::proofs::Serving::beside_none))]
 fn serve_and_close<
     R: Threads + Wait + Sync,
     K: Kinds<Work: Send> + Sync + Drop,
