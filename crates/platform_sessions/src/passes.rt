@@ -1,5 +1,5 @@
 //! Passes that are split off and joined.
-ghost use Rattle.front_lock.specs.Histories.{Extends, In, Owners, places};
+ghost use Rattle.front_lock.specs.Histories.{Distinct, Extends, In, Owners, places};
 ghost use Rattle.front_lock.specs.Passes.{ended_of, longer, names_of};
 ghost use Rattle.platform_sessions.specs.Halls.{IsOf};
 ghost use Rattle.std.specs.Prelude.{◌≡◌, ◌+◌, ◌-◌, ◌<◌, ◌++◌, ◌||◌, ℕ, [], IfErr, IfOk};
@@ -40,11 +40,12 @@ impl<K: Kinds + Drop> Hall<K> {
 
     /// Joins a pass into another, which keeps its number and gets the other's spare and one more. It has then seen the
     /// longer beginning of the two, in which the entries of both are all that there are. The other's number gets no
-    /// further entry. It waits for its turn at the lock.
+    /// further entry, and none of its names is one of the first's. It waits for its turn at the lock.
     pub fn join<R: Wait>(&self, rt: &R, pass: HallPass, other: HallPass) -> HallPass
         requires of { IsOf self.now pass × IsOf self.now other }
         ensures joined { result.front ≡ record pass.front { joined = pass.front.joined ++ ended_of other.front; seen = longer pass.front.seen other.front.seen; kept = pass.front.kept ++ other.front.kept; spare = pass.front.spare + other.front.spare + 1; entered = pass.front.entered + other.front.entered } }
         ensures closed { result.closed ≡ (pass.closed || other.closed) }
+        ensures distinct { Distinct (names_of result.front) }
         ensures this { Extends (names_of pass.front) pass.front.seen result.front.seen }
         ensures that { Extends (names_of other.front) other.front.seen result.front.seen }
         ensures mine { (n : ℕ) → In n (names_of pass.front) → places n result.front.seen ≡ places n pass.front.seen }

@@ -1,7 +1,7 @@
 -- Passes that are split off, have threads of their own, and are joined back.
 use Rattle.std.proofs.Common.{◌≡◌, ◌<◌, ◌+◌, ◌-◌, ℕ, List, [], ◌∷◌, ◌++◌, ap, sym, subst, refl, ◌∙◌, append_assoc, inl, inr, None, Some, arith}
 use Rattle.std.proofs.lemmas.List.{append-nil}
-use Rattle.front_lock.specs.Histories.{Extends, In, numbers}
+use Rattle.front_lock.specs.Histories.{Distinct, Extends, In, numbers}
 use Rattle.front_lock.specs.Passes.{ended_of, longer, names_of}
 use Rattle.front_lock.proofs.Histories.{extends_all, in_left, names_join, owners_append, owners_map}
 use Rattle.hall_goings.specs.Went.{Went}
@@ -23,6 +23,10 @@ module _ {E : Type 0} where
 pub went_extends : (a b : View) (own : Own) → Went a b own → Extends (numbers a.joined) a.seen b.seen
 went_extends a b own went = record { rest = went.more; is = went.seen; foreign = went.others }
 
+distinct_right : (xs ys : List ℕ) → Distinct (xs ++ ys) → Distinct ys
+distinct_right [] ys apart = apart
+distinct_right (x ∷ xs) ys apart = distinct_right xs ys apart.1
+
 pub only_in : (m : ℕ) (ms : List ℕ) → In m ms → (n : ℕ) → In n (m ∷ []) → In n ms
 only_in m ms here n (inl same) = subst (λ k. In k ms) (sym same) here
 only_in m ms here n (inr none) = absurd none
@@ -43,7 +47,7 @@ same_by r p lock number kept spare tie =
     ∙ ap (λ x. record r { lock = p.lock; number = p.number; kept = p.kept; spare = p.spare; tie = x }) tie
 
 pub back_nowhere : (pass : View) → IsBack pass pass []
-back_nowhere pass = record { joined = sym (append-nil (numbers pass.joined)); seen = extends_all (names_of pass) pass.seen; same = refl }
+back_nowhere pass = record { joined = sym (append-nil (numbers pass.joined)); apart = tt; seen = extends_all (names_of pass) pass.seen; same = refl }
 
 pub back_keeps : (before after : View) (ns : List ℕ) → IsBack before after ns → KeepsPass before after
 back_keeps before after ns back =
@@ -57,6 +61,7 @@ pub record IsJoined (rest lent result : View) : Type 0 where
   pub joined : result ≡ joined_by rest lent
   pub this : Extends (names_of rest) rest.seen result.seen
   pub that : Extends (names_of lent) lent.seen result.seen
+  pub distinct : Distinct (names_of result)
 
 -- a pass that was split off, went on, and is joined back
 module _ (pass second lent rest result : View) (own : Own) (split : IsSplit pass (record pass { spare = pass.spare - 1 }) second) (went : Went second lent own) (is : IsJoined rest lent result) where
@@ -67,6 +72,7 @@ module _ (pass second lent rest result : View) (own : Own) (split : IsSplit pass
   lent_back = record {
     begins = split.begins;
     later = split.later;
+    fresh = split.fresh;
     stands = subst (λ ns. Extends ns lent.seen result.seen) lent_names is.that;
   }
 
@@ -80,13 +86,18 @@ module _ (pass second lent rest result : View) (own : Own) (split : IsSplit pass
   names_within ns back n (inl same) = inl (same ∙ sym (ap (λ (v : View). v.number) back.same))
   names_within ns back n (inr joined) = inr (subst (λ ms. In n ms) (sym back.joined) (in_left n (numbers pass.joined) ns joined))
 
+  all_joined : (ns : List ℕ) → IsBack (record pass { spare = pass.spare - 1 }) rest ns → numbers result.joined ≡ numbers pass.joined ++ (ns ++ second.number ∷ [])
+  all_joined ns back =
+      ap (λ (v : View). numbers v.joined) is.joined
+      ∙ names_join None rest.joined (Some lent.number) lent.seen lent.joined
+      ∙ ap (λ ms. ms ++ names_of lent) back.joined
+      ∙ ap (λ ms. (numbers pass.joined ++ ns) ++ ms) lent_names
+      ∙ append_assoc (numbers pass.joined) ns (second.number ∷ [])
+
   pub all_back : (ns : List ℕ) → KeepsPass second lent → IsBack (record pass { spare = pass.spare - 1 }) rest ns → IsBack pass result (ns ++ second.number ∷ [])
   all_back ns keeps back = record {
-    joined = ap (λ (v : View). numbers v.joined) is.joined
-        ∙ names_join None rest.joined (Some lent.number) lent.seen lent.joined
-        ∙ ap (λ ms. ms ++ names_of lent) back.joined
-        ∙ ap (λ ms. (numbers pass.joined ++ ns) ++ ms) lent_names
-        ∙ append_assoc (numbers pass.joined) ns (second.number ∷ []);
+    joined = all_joined ns back;
+    apart = distinct_right (numbers pass.joined) (ns ++ second.number ∷ []) (subst (λ ms. Distinct ms) (all_joined ns back) is.distinct.1);
     seen = extends_on (names_of pass) (names_of rest) pass.seen rest.seen result.seen (names_within ns back) back.seen is.this;
     same = same_by result pass
         (ap (λ (v : View). v.lock) is.joined ∙ ap (λ (v : View). v.lock) back.same)

@@ -1,7 +1,7 @@
 -- Doors that are served beside each other, and turns that are run meanwhile.
 use Rattle.std.proofs.Common.{◌≡◌, ◌<◌, ◌+◌, ◌-◌, ◌*◌, ℕ, List, [], ◌∷◌, ◌++◌, length, ap, sym, subst, refl, ◌∙◌, append_assoc, inl, inr, arith}
 use Rattle.std.proofs.lemmas.List.{append-nil, length-append}
-use Rattle.front_lock.specs.Histories.{Extends, In, numbers}
+use Rattle.front_lock.specs.Histories.{Distinct, Extends, In, numbers}
 use Rattle.front_lock.specs.Passes.{names_of}
 use Rattle.front_lock.proofs.Histories.{in_left, in_right}
 use Rattle.hall_goings.specs.Went.{Went}
@@ -35,12 +35,13 @@ lent_on : (before between after from to : View) (ms : List ℕ) → In from.numb
 lent_on before between after from to ms named more lent = record {
   begins = lent.begins;
   later = lent.later;
+  fresh = lent.fresh;
   stands = extends_on (from.number ∷ []) ms to.seen between.seen after.seen (only_in from.number ms named) lent.stands more;
 }
 
 -- and it doesn't matter how many more passes its holder can have
 lent_before : (pass after from to : View) (spare : ℕ) → IsLent (record pass { spare = spare }) after from to → IsLent pass after from to
-lent_before pass after from to spare lent = record { begins = lent.begins; later = lent.later; stands = lent.stands }
+lent_before pass after from to spare lent = record { begins = lent.begins; later = lent.later; fresh = lent.fresh; stands = lent.stands }
 
 module _ (s : Setting) where
   all_ran_on : (before between after : View) (ms : List ℕ) (stays : List (Stay TurnsEnd)) → ((n : ℕ) → In n (numbers_in stays) → In n ms) → Extends ms between.seen after.seen → AllRan s before between stays → AllRan s before after stays
@@ -112,10 +113,10 @@ module _ {D I O : Type 0} (v : Serving D I O) where
 
   -- the last door was served by a pass that was split off, the others over what was left, and the pass is joined back
   pub one_more_door : (pass first second lent rest result : View) (ds es bs bs' : List D) (ends end : DoorEnd) → IsSplit pass first second → KeepsPass second lent → ServesOnly v second lent bs bs' end → ServesDoors v first rest ds es ends
-      → result ≡ joined_by rest lent → Extends (names_of rest) rest.seen result.seen → Extends (names_of lent) lent.seen result.seen → ServesDoors v pass result (ds ++ bs) (es ++ bs') (both_ends ends end)
-  one_more_door pass first second lent rest result ds es bs bs' ends end split keeps only served joined this that =
+      → result ≡ joined_by rest lent → Extends (names_of rest) rest.seen result.seen → Extends (names_of lent) lent.seen result.seen → Distinct (names_of result) → ServesDoors v pass result (ds ++ bs) (es ++ bs') (both_ends ends end)
+  one_more_door pass first second lent rest result ds es bs bs' ends end split keeps only served joined this that distinct =
       only_last pass second lent rest result ds es bs bs' ends end (subst (λ (w : View). IsSplit pass w second) split.left split) keeps only (subst (λ (w : View). ServesDoors v w rest ds es ends) split.left served)
-      (record { joined = joined; this = this; that = that })
+      (record { joined = joined; this = this; that = that; distinct = distinct })
 
   -- ---- turns beside them
 
@@ -154,11 +155,11 @@ module _ {D I O : Type 0} (v : Serving D I O) where
 
   -- one more thread ran turns by a pass that was split off, all else was done over what was left, and the pass is joined back
   pub one_more_thread : (threads fewer : ℕ) (pass first second lent rest result : View) (ds es : List D) (end : DoorEnd) (turns_end : TurnsEnd) → threads ≡ fewer + 1 → IsSplit pass first second → KeepsPass second lent → RunsTurns v.setting second lent turns_end
-      → ServesBeside v fewer first rest ds es end → result ≡ joined_by rest lent → Extends (names_of rest) rest.seen result.seen → Extends (names_of lent) lent.seen result.seen → ServesBeside v threads pass result ds es end
-  one_more_thread threads fewer pass first second lent rest result ds es end turns_end many split keeps runs served joined this that =
+      → ServesBeside v fewer first rest ds es end → result ≡ joined_by rest lent → Extends (names_of rest) rest.seen result.seen → Extends (names_of lent) lent.seen result.seen → Distinct (names_of result) → ServesBeside v threads pass result ds es end
+  one_more_thread threads fewer pass first second lent rest result ds es end turns_end many split keeps runs served joined this that distinct =
       subst (λ n. ServesBeside v n pass result ds es end) (sym many)
       (thread_last fewer pass second lent rest result ds es end turns_end (subst (λ (w : View). IsSplit pass w second) split.left split) keeps runs (subst (λ (w : View). ServesBeside v fewer w rest ds es end) split.left served)
-      (record { joined = joined; this = this; that = that }))
+      (record { joined = joined; this = this; that = that; distinct = distinct }))
 
   pub beside_keeps : (threads : ℕ) (before after : View) (ds es : List D) (end : DoorEnd) → ServesBeside v threads before after ds es end → KeepsPass before after
   beside_keeps threads before after ds es end served = back_keeps before after (numbers_in served.stays ++ numbers_in served.turns) served.back

@@ -1,6 +1,6 @@
 -- Passes that threads are handed: split off, and put into a closure that takes them out. Our own.
 use Rattle.std.specs.Prelude.{◌≡◌, ◌<◌, ◌≤◌, ◌-◌, ℕ, List, [], Option, Some, None}
-use Rattle.front_lock.specs.Histories.{In}
+use Rattle.front_lock.specs.Histories.{In, Owners}
 use Rattle.front_lock.specs.Passes.{names_of}
 use Rattle.session_doors.specs.Halls.{HallPassView, HallView, IsOf, View}
 use Rattle.session_server.specs.declared.door_loop.DoorEnd.{DoorEnd}
@@ -12,6 +12,7 @@ pub record IsSplit (before rest lent : View) : Type 0 where
   pub left : rest ≡ record before { spare = before.spare - 1 }
   pub begins : lent ≡ record before { number = lent.number; joined = []; kept = []; spare = 0; entered = 0 }
   pub later : (n : ℕ) → In n (names_of before) → n < lent.number
+  pub fresh : Owners (λ n. n < lent.number) before.seen
 
 -- a pass of this hall is there, and so many can be split from it
 abbrev pub MayServe : HallView → Option HallPassView → ℕ → Type 0

@@ -1,7 +1,7 @@
 -- A server of doors: each is served by a thread with a pass of its own, while other threads run turns, in one history. Our own.
 use Rattle.std.specs.Prelude.{◌≡◌, ◌<◌, ◌*◌, ℕ, List, [], ◌∷◌, ◌++◌, length, map, Option, true, false}
 use Rattle.fault_count.specs.Steps.{Rose}
-use Rattle.front_lock.specs.Histories.{Extends, In, numbers}
+use Rattle.front_lock.specs.Histories.{Distinct, Extends, In, Owners, numbers}
 use Rattle.front_lock.specs.Passes.{names_of}
 use Rattle.hall_goings.specs.Went.{Went}
 use Rattle.session_doors.specs.Platforms.{has_due, has_room}
@@ -45,17 +45,20 @@ pub record Stay (X : Type 0) : Type 0 where
 abbrev pub numbers_in : {X : Type 0} → List (Stay X) → List ℕ
 numbers_in stays = map (λ stay. stay.from.number) stays
 
--- A pass was split from another one, and joined back into it. It began with all that the other had seen, under a number above its names. What it
--- has seen last is a beginning of what the other has seen then, which has no further entry under that number.
+-- A pass was split from another one, and joined back into it. It began with all that the other had seen, under a number above its names and
+-- above the owner of each entry there. What it has seen last is a beginning of what the other has seen then, which has no further entry under
+-- that number.
 pub record IsLent (before after from to : View) : Type 0 where
   pub begins : from ≡ record before { number = from.number; joined = []; kept = []; spare = 0; entered = 0 }
   pub later : (n : ℕ) → In n (names_of before) → n < from.number
+  pub fresh : Owners (λ n. n < from.number) before.seen
   pub stands : Extends (from.number ∷ []) to.seen after.seen
 
--- Passes of these numbers were split from a pass, and are joined back into it. It has its number and its spare, the same is kept for it, and
--- nothing was appended under its names meanwhile.
+-- Passes of these numbers, each another one, were split from a pass, and are joined back into it. It has its number and its spare, the same is
+-- kept for it, and nothing was appended under its names meanwhile.
 pub record IsBack (before after : View) (ns : List ℕ) : Type 0 where
   pub joined : numbers after.joined ≡ numbers before.joined ++ ns
+  pub apart : Distinct ns
   pub seen : Extends (names_of before) before.seen after.seen
   pub same : after ≡ record before { joined = after.joined; seen = after.seen; entered = after.entered }
 

@@ -14,7 +14,11 @@ use std::thread::{Threads, join_mut};
 
 // Serves the doors, each by a thread of its own with a pass that is split from this one and joined back into it. Where a
 // thread can't be had, this one does its work behind that of the others.
-pub(crate) fn serve_doors<R: Threads + Wait + Sync, K: Kinds + Sync + Drop, D: Doors + Send>(
+pub(crate) fn serve_doors<
+    R: Threads + Wait + Sync,
+    K: Kinds<Work: Send> + Sync + Drop,
+    D: Doors<In: Send, Out: Send> + Send,
+>(
     rt: &R,
     alloc: Global,
     hall: &Hall<K>,

@@ -46,7 +46,11 @@ pub enum ServerEnd {
 ///
 /// Its end is `NoMemory` where memory was wanting for a turn to begin at last. Else it is `AcceptFault` exactly where
 /// accepting failed at a door, by which that door's count of faults rose, or stood at the greatest number of 64 bits.
-pub fn serve_shells<R: Threads + Wait + Sync, K: Kinds + Sync + Drop, D: Doors + Send>(
+pub fn serve_shells<
+    R: Threads + Wait + Sync,
+    K: Kinds<Work: Send> + Sync + Drop,
+    D: Doors<In: Send, Out: Send> + Send,
+>(
     rt: &R,
     alloc: Global,
     hall: &Hall<K>,

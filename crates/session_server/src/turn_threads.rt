@@ -16,7 +16,11 @@ use std::thread::{Threads, join_mut};
 // Serves the doors while so many threads run turns, each with a pass that is split from this one and joined back into it.
 // Once the doors have ended it closes the hall, so that these threads end. Where a thread can't be had, this one does its
 // work behind the doors'.
-pub(crate) fn serve_beside<R: Threads + Wait + Sync, K: Kinds + Sync + Drop, D: Doors + Send>(
+pub(crate) fn serve_beside<
+    R: Threads + Wait + Sync,
+    K: Kinds<Work: Send> + Sync + Drop,
+    D: Doors<In: Send, Out: Send> + Send,
+>(
     rt: &R,
     alloc: Global,
     hall: &Hall<K>,
@@ -63,7 +67,12 @@ pub(crate) fn serve_beside<R: Threads + Wait + Sync, K: Kinds + Sync + Drop, D: 
 }
 
 // Serves the doors, and closes the hall.
-fn serve_and_close<R: Threads + Wait + Sync, K: Kinds + Sync + Drop, D: Doors + Send>(
+#[tactic(auto, using(crate::proofs::Serving::beside_none))]
+fn serve_and_close<
+    R: Threads + Wait + Sync,
+    K: Kinds<Work: Send> + Sync + Drop,
+    D: Doors<In: Send, Out: Send> + Send,
+>(
     rt: &R,
     alloc: Global,
     hall: &Hall<K>,
