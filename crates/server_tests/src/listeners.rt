@@ -1,9 +1,8 @@
 //! Doors of listeners: over memory, and at the loopback of the system.
 
 use crate::samples::{doors, new_hall};
-use session_server::{
-    DoorEnd, Doors, ListenStop, Listens, MemoryListens, TcpDoors, TcpListens, serve_door,
-};
+use session_doors::{Doors, ListenStop, Listens, MemoryListens, TcpDoors, TcpListens};
+use session_server::{DoorEnd, serve_door};
 use std::alloc::Global;
 use std::io;
 use std::io::{Read, Write};

@@ -1,4 +1,1 @@
 pub mod Holding
-pub mod Turning
-pub mod Joining
-pub mod Serving

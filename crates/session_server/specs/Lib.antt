@@ -1,4 +1,1 @@
 pub mod Holding
-pub mod Serving
-pub mod Passes
-pub use Rattle.session_doors.specs.Halls
