@@ -7,16 +7,17 @@ ghost use Rattle.scr_world.specs.Calls.{Grown, world_at};
 ghost use Rattle.scr_world.specs.Consequences.{shut_between};
 ghost use Rattle.scr_world.specs.Legal.{MayCome};
 ghost use Rattle.scr_world.specs.Room.{has_room, needed_by};
-ghost use Rattle.std.specs.Prelude.{◌≡◌, ◌+◌, IfOk, OnErr, OnOk, true};
+ghost use Rattle.std.specs.Prelude.{◌≡◌, IfOk, OnErr, OnOk, true};
 
 use crate::generic::let_go;
 use journal_core::{GateKey, Journal};
 use kept_wirings::{KeptWirings, WiringChange, wiring_change};
 use prop_map::{List, OutOfMemory};
 use scr_growth::grow;
+use scr_judgements::next_bundle;
 use scr_state::{Draft, State};
-use scr_world::{Step, World};
-use std::alloc::{AllocError, Global};
+use scr_world::Step;
+use std::alloc::Global;
 
 /// Appends the entry of a step whose draft this is, and answers which gates are shut with it. A manifest that comes with it is
 /// read before, and kept with the entry.
@@ -43,7 +44,8 @@ pub(crate) fn grow_wired(
     ensures as_before { OnErr result (journal.new ≡ journal.old) }
     ensures wirings { AreKept state.new.world.documents wirings.new }
 {
-    let change = match prepare(alloc, &state.world, wirings, &step) {
+    let next = next_bundle(journal, state);
+    let change = match prepare(alloc, next, wirings, &step) {
         Ok(change) => change,
         Err(error) => {
             let_go(step);
@@ -63,19 +65,19 @@ pub(crate) fn grow_wired(
     }
 }
 
-// What a step makes of the needs and offers that are kept. The memory for it is taken, and they are as they were.
+// What a step makes of the needs and offers that are kept, where the next bundle has this number. The memory for it is taken,
+// and they are as they were.
 fn prepare(
     alloc: Global,
-    world: &World,
+    next: u64,
     wirings: &mut KeptWirings,
     step: &Step,
 ) -> Result<WiringChange, OutOfMemory>
     ensures bundles { wirings.new.bundles.items ≡ wirings.old.bundles.items }
     ensures faults { wirings.new.faults.items ≡ wirings.old.faults.items }
-    ensures change { IfOk result (λ change. IsChangeBy step.now (world.now.bundles.numbered + 1) change) }
+    ensures change { IfOk result (λ change. IsChangeBy step.now next change) }
     ensures room { IfOk result (λ change. HasRoom change wirings.new) }
 {
-    let next = world.bundles.numbered().checked_add(1).ok_or(AllocError)?;
     let change = wiring_change(alloc, step, next)?;
     wirings.prepare(&change)?;
     Ok(change)

@@ -3,6 +3,7 @@ use Rattle.std.proofs.Common.{◌≡◌, ◌+◌, ◌<◌, ◌≤◌, ◌∙◌,
 use Rattle.std.specs.List.{All, AllPairs}
 use Rattle.std.specs.Option.{unwrap_or}
 use Rattle.std.specs.Prelude.{IsTrue}
+use Rattle.std.proofs.lemmas.List.{length-reverse}
 use Rattle.bundle_life.specs.declared.bundle.BundleLife.{BundleLife}
 use Rattle.bundle_life.specs.Lives.{BundleTable, is_stopping, state_is}
 use Rattle.component_state.specs.declared.open_period.OpenPeriod.{OpenPeriod}
@@ -13,13 +14,16 @@ use Rattle.journal_core.specs.declared.entry.Opened.{Opened}
 use Rattle.scr_consequences.specs.Ends.{draining_in}
 use Rattle.scr_consequences.specs.Gets.{HaveStood}
 use Rattle.scr_laws.specs.Following.{entry_of}
-use Rattle.scr_growth.specs.Growths.{HasEntered, HasSettled, IsBefore, IsRest, IsSettling, entry_with, passed_world, services_among, settled_world, with_listeners_told}
+use Rattle.scr_growth.specs.Growths.{HasEntered, HasFewInstances, HasSettled, IsBefore, IsRest, IsSettling, entry_with, passed_world, services_among, settled_world, with_listeners_told}
 use Rattle.scr_growth.specs.declared.settling.Lists.{Lists}
 use Rattle.scr_growth.specs.declared.settling.Rest.{Rest}
 use Rattle.scr_growth.proofs.GetsStood.{have_stood}
 use Rattle.scr_growth.proofs.Growing.{room_then, stopped_is_in}
 use Rattle.scr_growth.proofs.Settled.{reserved_is, settled_is, shut_is}
+use Rattle.scr_laws.proofs.CreatedLaws.{entries_of}
+use Rattle.scr_laws.proofs.FollowingEntries.{follows}
 use Rattle.scr_laws.proofs.Histories.{legal_is_asked}
+use Rattle.scr_laws.proofs.WithinLaws.{all_within}
 use Rattle.scr_laws.specs.Askeds.{IsAsked}
 use Rattle.scr_state.specs.declared.draft.Draft.{Draft}
 use Rattle.scr_state.specs.declared.state.State.{State}
@@ -30,6 +34,7 @@ use Rattle.scr_world.specs.Room.{reserved}
 use Rattle.scr_world.specs.Stepping.{world_after_step}
 use Rattle.scr_world.specs.Steps.{History, history_of}
 use Rattle.scr_world.specs.Tables.{bundles_by}
+use Rattle.scr_world.specs.declared.instance.Instance.{Instance}
 use Rattle.scr_world.specs.declared.step.Step.{Step}
 use Rattle.scr_world.specs.declared.world.World.{World}
 use Rattle.service_listeners.specs.Listening.{ListenerTable}
@@ -51,6 +56,28 @@ bundles_are step w now = refl
 bundles_after : (step : Step) (w : World) → (world_after_step step w).bundles ≡ bundles_by step w.bundles
 unfolding world_after_step
 bundles_after step w = refl
+
+entries_stay : (step : Step) (w : World) (now : List OpenPeriod) → (passed_world step w now).entries ≡ w.entries
+unfolding world_after_step
+entries_stay step w now = refl
+
+instances_are : (entry : Entry Step) (past : History) (now : List OpenPeriod) → (world_of (entry ∷ past)).instances ≡ (passed_world entry.step (world_of past) now).instances
+unfolding world_of world_after_entry
+instances_are entry past now = refl
+
+-- the numbers that settling counts are small
+module _ (j : JournalRows Step) (step : Step) (s : State) (undo : Draft) (open_then : List OpenPeriod) (lists : Lists) (draining_ones : List ℕ) (so : IsSettling j step s undo open_then lists draining_ones) where
+  pub counted_for : s.world.entries ≡ length j.entries
+  counted_for = ap (λ (w : World). w.entries) so.world ∙ entries_stay step (world_at j.entries) so.pass.open_now ∙ entries_of (history_of j.entries) ∙ length-reverse j.entries
+
+  pub few_for : HasFewInstances s.world
+  few_for =
+      let past = history_of j.entries in
+      let entry = entry_of step so.pass (world_of past) in
+      let it = follows j.limit past so.grows.legal step so.grows.may so.grows.room so.pass so.passed in
+      let within = all_within j.limit (entry ∷ past) (it, so.grows.legal) in
+      let same = ap (λ (is : List Instance). length is) (instances_are entry past so.pass.open_now ∙ ap (λ (w : World). w.instances) (sym so.world)) in
+      omega (arith, within.instances, same)
 
 module _ (j : JournalRows Step) (step : Step) (s : State) (undo : Draft) (open_then : List OpenPeriod) (lists : Lists) (draining_ones : List ℕ) (so : IsSettling j step s undo open_then lists draining_ones)
     (rest : Rest) (given : Step) (given_is : given ≡ step) (found : (was : World) → IsBefore was s.world undo open_then → HaveStood given was s.world → draining_ones ≡ draining_in was → IsRest was s.world rest) where

@@ -56,6 +56,10 @@ with_listeners_told step was w = record w { listeners = listeners_by step (after
 abbrev pub reserved_with_tokens : World → ℕ → ℕ
 reserved_with_tokens w tokens = sum (map reserved_for (all_instances w)) + tokens
 
+-- as few instances as a platform has at most
+abbrev pub HasFewInstances : World → Type 0
+HasFewInstances w = length w.instances ≤ 66048
+
 -- what settles after a pass
 abbrev pub settled_world : Rest → List ℕ → World → World
 settled_world r stopped w = record w {

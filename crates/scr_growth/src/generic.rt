@@ -3,7 +3,7 @@
 //! one go.
 ghost use Rattle.std.specs.Prelude.{◌≡◌, ◌+◌, ◌≤◌, ◌++◌, ◌∷◌, [], OnErr, OnOk, length};
 
-use journal_core::{Entry, Journal};
+use journal_core::{Entry, Journal, JournalFault};
 use prop_map::OutOfMemory;
 use std::alloc::AllocError;
 
@@ -39,10 +39,11 @@ pub(crate) fn append_reserving<S: Drop>(
     set_reserved(journal, reserved);
     match journal.append(entry) {
         Ok(()) => Ok(()),
-        Err(_) => {
+        Err((_, JournalFault::OutOfMemory)) => {
             set_reserved(journal, before);
             Err(AllocError)
         }
+        Err((_, JournalFault::Full)) => unreachable!(),
     }
 }
 
@@ -58,6 +59,6 @@ pub(crate) fn set_reserved<S: Drop>(journal: &mut Journal<S>, reserved: u64)
     }
     match journal.reserve(reserved - before) {
         Ok(()) => {}
-        Err(_) => {}
+        Err(_) => unreachable!(),
     }
 }

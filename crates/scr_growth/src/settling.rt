@@ -3,14 +3,14 @@
 ghost use Rattle.prop_map.specs.Words.{one_if};
 ghost use Rattle.scr_consequences.specs.Ends.{draining_in};
 ghost use Rattle.scr_consequences.specs.Gets.{HaveStood, tokens_left, uses_left};
-ghost use Rattle.scr_growth.specs.Growths.{AreCached, HasBefore, HasEntered, HasSettled, IsBefore};
+ghost use Rattle.scr_growth.specs.Growths.{AreCached, HasBefore, HasEntered, HasFewInstances, HasSettled, IsBefore};
 ghost use Rattle.scr_growth.specs.Growths.{IsRest, IsSettling, reserved_with_tokens, services_among, settled_world, with_listeners_told};
 ghost use Rattle.bundle_life.specs.Lives.{is_stopping, state_is};
 ghost use Rattle.scr_world.specs.Room.{reserved_for};
 ghost use Rattle.scr_world.specs.declared.world.World.{World};
 ghost use Rattle.service_listeners.specs.Numbers.{AreNumbered};
 ghost use Rattle.std.specs.List.{All, AllPairs};
-ghost use Rattle.std.specs.Prelude.{◌≡◌, ◌+◌, ◌<◌, ◌≤◌, ℕ, IfOk, IsTrue, OnErr, OnOk, length, map, sum};
+ghost use Rattle.std.specs.Prelude.{◌≡◌, ◌+◌, ◌*◌, ◌^◌, ◌<◌, ◌≤◌, ℕ, IfOk, IsTrue, OnErr, OnOk, length, map, sum};
 
 use crate::entering::{add_entry, take_entry};
 use crate::generic::{let_go, put};
@@ -26,7 +26,7 @@ use scr_consequences::{
 use scr_state::{Draft, State};
 use scr_world::{Instance, Step, Token, World};
 use service_registry::ServiceRow;
-use std::alloc::{AllocError, Global};
+use std::alloc::Global;
 
 /// The lists of an entry.
 #[derive(Drop)]
@@ -77,7 +77,17 @@ pub(crate) fn settle(
     note_bundles();
     note_stops();
     let _rows = state.world.registry.rows();
-    let ending = match ending_of(alloc, &state.world, undo, periods, &step, &lists, draining) {
+    let entries = journal.entries().len() as u64 + 1;
+    let ending = match ending_of(
+        alloc,
+        &state.world,
+        undo,
+        periods,
+        &step,
+        &lists,
+        draining,
+        entries,
+    ) {
         Ok(ending) => ending,
         Err(error) => {
             let_go(step);
@@ -115,12 +125,15 @@ fn ending_of(
     step: &Step,
     lists: &Lists,
     draining: &List<u64>,
+    entries: u64,
 ) -> Result<Ending, OutOfMemory>
+    requires few { HasFewInstances world.now }
+    requires entries { entries ≡ world.now.entries + 1 }
     ensures rest { IfOk result (λ e. (was : World) → IsBefore was world.now undo.now periods.now → HaveStood step.now was world.now
         → draining.now ≡ draining_in was → IsRest was world.now e.rest) }
     ensures stopped { IfOk result (λ e. e.stopped ≡ lists.now.stopped) }
 {
-    let rest = rest_of(alloc, world, undo, periods, step, draining)?;
+    let rest = rest_of(alloc, world, undo, periods, step, draining, entries)?;
     match copied(alloc, lists.stopped.as_slice()) {
         Ok(stopped) => Ok(Ending { rest, stopped }),
         Err(error) => {
@@ -137,7 +150,10 @@ fn rest_of(
     periods: &List<OpenPeriod>,
     step: &Step,
     draining: &List<u64>,
+    entries: u64,
 ) -> Result<Rest, OutOfMemory>
+    requires few { HasFewInstances world.now }
+    requires entries { entries ≡ world.now.entries + 1 }
     ensures { IfOk result (λ r. (was : World) → IsBefore was world.now undo.now periods.now → HaveStood step.now was world.now
         → draining.now ≡ draining_in was → IsRest was world.now r) }
 {
@@ -145,9 +161,9 @@ fn rest_of(
     let before = periods_before(periods, undo);
     let left = left_between(alloc, rows, before, world)?;
     let gets = gets_left(alloc, step, left.as_slice(), world)?;
-    let reserved = reserved(world, tokens_left(world, &gets))?;
+    let reserved = reserved(world, tokens_left(world, &gets));
     Ok(Rest {
-        entries: world.entries.checked_add(1).ok_or(AllocError)?,
+        entries,
         gets,
         unregistered_held: unregistered_held_between(alloc, left.as_slice(), world)?,
         shut: shut_since(alloc, world, draining.as_slice())?,
@@ -247,29 +263,31 @@ fn services_among(opened: &[Opened]) -> u64
 }
 
 // How many entries are reserved in a world, where these are the gets by token.
-fn reserved(world: &World, tokens: &[Token]) -> Result<u64, OutOfMemory>
-    ensures { IfOk result (λ n. n ≡ reserved_with_tokens world.now (length tokens.now)) }
+fn reserved(world: &World, tokens: &[Token]) -> u64
+    requires { HasFewInstances world.now }
+    ensures { result ≡ reserved_with_tokens world.now (length tokens.now) }
 {
-    let instances = reserved_for_all(world.instances.as_slice())?;
-    let all = reserved_for(&world.whiteboard)
-        .checked_add(instances)
-        .ok_or(AllocError)?;
-    all.checked_add(tokens.len() as u64).ok_or(AllocError)
+    let instances = reserved_for_all(world.instances.as_slice());
+    let all = reserved_for(&world.whiteboard) + instances;
+    all + tokens.len() as u64
 }
 
-fn reserved_for_all(instances: &[Instance]) -> Result<u64, OutOfMemory>
-    ensures { IfOk result (λ n. n ≡ sum (map reserved_for instances.now)) }
+fn reserved_for_all(instances: &[Instance]) -> u64
+    requires { 2 * length instances.now < 2 ^ 64 }
+    ensures value { result ≡ sum (map reserved_for instances.now) }
+    ensures small { result ≤ 2 * length instances.now }
 {
     let mut all: u64 = 0;
     for instance in instances {
-        all = all.checked_add(reserved_for(instance)).ok_or(AllocError)?;
+        all += reserved_for(instance);
     }
-    Ok(all)
+    all
 }
 
 // The entries that are reserved for an instance: the end of its turn, and its drain.
 fn reserved_for(instance: &Instance) -> u64
-    ensures { result ≡ reserved_for instance.now }
+    ensures value { result ≡ reserved_for instance.now }
+    ensures small { result ≤ 2 }
 {
     one_if(instance.callbacks.is_outstanding())
         + one_if(instance.callbacks.is_activated() && !instance.drained)

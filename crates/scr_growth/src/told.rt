@@ -25,7 +25,7 @@ pub(crate) struct Told {
 /// What is told of a step whose draft this is.
 ///
 /// # Errors
-/// Only want of memory. That a number is too high counts as such.
+/// Only want of memory. That a service has no number of 64 bits left counts as such.
 pub(crate) fn told_before(
     alloc: Global,
     state: &State,

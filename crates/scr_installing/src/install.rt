@@ -14,12 +14,11 @@ use crate::described::{Described, joined_copies, with_levels};
 use crate::documents::documents_with;
 use crate::drafting::documents_draft;
 use crate::names::namesake;
-use crate::numbering::next_number;
 use bundle_doc::BundleDoc;
 use bundle_life::Bundles;
 use journal_core::Journal;
 use prop_map::OutOfMemory;
-use scr_judgements::{Judgement, has_room_for_command};
+use scr_judgements::{Judgement, has_room_for_command, next_bundle};
 use scr_state::{Draft, State};
 use scr_world::{CoreFault, Reply, Step};
 use std::alloc::Global;
@@ -73,7 +72,7 @@ fn judge_new(
     if !has_room_for_command(journal, state) {
         return Err(CoreFault::JournalFull);
     }
-    let number = next_number(state)?;
+    let number = next_bundle(journal, state);
     let draft = install_draft(alloc, state, step, doc, number, described)?;
     Ok(Judgement::Changes {
         reply: Reply::Bundle(number),

@@ -8,7 +8,6 @@ mod drafting;
 mod idle;
 mod install;
 mod names;
-mod numbering;
 mod uninstall;
 mod update;
 

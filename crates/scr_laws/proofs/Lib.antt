@@ -31,6 +31,7 @@ pub mod Counting
 pub mod CreatedLaws
 pub mod GateKeyLaws
 pub mod InstanceLemmas
+pub mod FewNumbers
 pub mod Numbering
 pub mod SlotLaws
 pub mod AnswerLaws

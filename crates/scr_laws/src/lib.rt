@@ -38,7 +38,7 @@ pub use gates::{note_generations, note_nothing_shut};
 pub use journals::{note_failed, note_ready, note_same_steps, note_sound};
 pub use keys::note_keys;
 pub use limits::note_limits;
-pub use numbers::note_numbers;
+pub use numbers::{note_few_numbers, note_numbers};
 pub use open::{note_legal, note_open, note_opens, note_scratch};
 pub use owners::{note_owners, note_stop};
 pub use reserving::{note_gets_stand, note_reserved_by_entries};

@@ -1,7 +1,8 @@
 //! The numbers of bundles, services, listeners, turns and instances.
 ghost use Rattle.journal_core.specs.declared.entry.Entry.{Entry};
-ghost use Rattle.scr_laws.specs.Numbers.{AreNumbersOn, bundles_in, given, listeners_in, made_by, services_in, turns_by};
+ghost use Rattle.scr_laws.specs.Numbers.{AreNumbersOn, HasFewNumbers, bundles_in, given, listeners_in, made_by, services_in, turns_by};
 ghost use Rattle.scr_world.specs.Legal.{IsLegal};
+ghost use Rattle.scr_world.specs.Lists.{world_of};
 ghost use Rattle.scr_world.specs.Steps.{History};
 ghost use Rattle.scr_world.specs.declared.step.Step.{Step};
 ghost use Rattle.scr_world.specs.declared.world.World.{World};
@@ -16,4 +17,10 @@ pub fn note_numbers()
     ensures listeners { (limit : ℕ) → (journal : History) → IsLegal limit journal → AreNumbersOn (given (λ (entry : Entry Step). listeners_in entry.step) journal) }
     ensures turns { (limit : ℕ) → (journal : History) → IsLegal limit journal → AreNumbersOn (given (λ (entry : Entry Step) (w : World). turns_by entry.step) journal) }
     ensures instances { (limit : ℕ) → (journal : History) → IsLegal limit journal → AreNumbersOn (given (λ (entry : Entry Step) (w : World). made_by entry.step) journal) }
+{}
+
+/// For contracts alone: a legal journal gives no more numbers to bundles, to listeners, to turns and to instances than it has
+/// entries.
+pub fn note_few_numbers()
+    ensures { (limit : ℕ) → (journal : History) → IsLegal limit journal → HasFewNumbers (world_of journal) }
 {}

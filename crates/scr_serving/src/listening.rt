@@ -7,23 +7,21 @@ ghost use Rattle.scr_world.specs.declared.command.Command.TheVariants.{Listen};
 ghost use Rattle.scr_world.specs.declared.reply.CoreFault.TheVariants.{ListenersFull};
 ghost use Rattle.scr_world.specs.declared.step.Step.{Step};
 ghost use Rattle.scr_world.specs.declared.step.Step.TheVariants.{Command as Commanded};
-ghost use Rattle.std.specs.Prelude.{◌≡◌, ◌+◌, IfOk, length, nat_le};
+ghost use Rattle.std.specs.Prelude.{◌≡◌, ◌+◌, length, nat_le};
 
 use crate::active::refusal_of_inactive;
 use journal_core::Journal;
 use ldap_filter::Filter;
-use prop_map::OutOfMemory;
-use scr_judgements::{Judgement, TablesAfter, draft_with, has_room_for_command};
+use scr_judgements::{Judgement, TablesAfter, draft_with, has_room_for_command, next_length};
 use scr_state::State;
 use scr_world::{CoreFault, Reply, Step, World};
 use service_listeners::Listeners;
-use std::alloc::{AllocError, Global};
+use std::alloc::Global;
 
 /// What is said of a command that adds a listener: its number.
 ///
 /// # Errors
 /// `NoBundle`, then `WrongState` where the bundle isn't ACTIVE, `ListenersFull` where there are 64, `JournalFull`, and want of memory.
-/// That no number is left counts as such.
 pub fn judge_listen(
     alloc: Global,
     journal: &Journal<Step>,
@@ -42,7 +40,8 @@ pub fn judge_listen(
     if !has_room_for_command(journal, state) {
         return Err(CoreFault::JournalFull);
     }
-    let reply = Reply::Listener(next_listener(state)?);
+    let number = next_listener(journal, state);
+    let reply = Reply::Listener(number);
     let draft = draft_with(alloc, state, step, TablesAfter::none())?;
     Ok(Judgement::Changes { reply, draft })
 }
@@ -62,14 +61,12 @@ fn refusal_of_full(listeners: &Listeners) -> Option<CoreFault>
     Some(CoreFault::ListenersFull)
 }
 
-// The number of the next listener.
-fn next_listener(state: &State) -> Result<u64, OutOfMemory>
-    ensures { IfOk result (λ number. number ≡ state.now.world.listeners.numbered + 1) }
+// The number of the next listener. There is one, since no more were given than there are entries.
+fn next_listener(journal: &Journal<Step>, state: &State) -> u64
+    requires { Keeps journal.now state.now }
+    ensures { result ≡ state.now.world.listeners.numbered + 1 }
 {
-    state
-        .world
-        .listeners
-        .numbered()
-        .checked_add(1)
-        .ok_or(AllocError)
+    // This lets the proof know that one more than the entries is a number of 64 bits.
+    let _length = next_length(journal);
+    state.world.listeners.numbered() + 1
 }

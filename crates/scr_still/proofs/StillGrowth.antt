@@ -1,15 +1,16 @@
 -- The world and the state behind an entry without consequences.
-use Rattle.std.proofs.Common.{◌≡◌, ◌+◌, ◌-◌, ◌<◌, ◌∙◌, ◌++◌, ◌∷◌, [], ℕ, List, Bool}
-use Rattle.std.proofs.Common.{true, Option, Some, None, ap, append-nil, arith, cond, length, refl, subst, sym}
+use Rattle.std.proofs.Common.{◌≡◌, ◌+◌, ◌-◌, ◌<◌, ◌≤◌, ◌∙◌, ◌++◌, ◌∷◌, [], ℕ, List, Bool}
+use Rattle.std.proofs.Common.{true, false, Option, Some, None, ap, append-nil, arith, cond, length, refl, subst, sym}
 use Rattle.std.specs.Prelude.{◌==◌, ◌&&◌, filter, flat_map, map}
 use Rattle.std.specs.List.{list_any}
 use Rattle.std.specs.Option.{unwrap_or}
 use Rattle.std.proofs.Common.{inl, inr, not}
-use Rattle.std.proofs.lemmas.Bool.{eq-eqb, eqb-true, or_left, or_right}
+use Rattle.std.proofs.lemmas.Bool.{eq-eqb, eqb-true, leb-true, or_left, or_right}
 use Rattle.component_state.proofs.Among.{Among, filter_none}
-use Rattle.std.proofs.lemmas.List.{reverse-append}
+use Rattle.std.proofs.lemmas.List.{length-reverse, reverse-append}
 use Rattle.bundle_life.specs.declared.bundle.BundleLife.{BundleLife}
 use Rattle.bundle_life.specs.Lives.{BundleTable, resolved_among, stop_completed}
+use Rattle.callback_orders.specs.Grammar.{is_activate}
 use Rattle.component_state.specs.declared.component.Component.{Component}
 use Rattle.component_state.specs.declared.open_period.OpenPeriod.{OpenPeriod}
 use Rattle.component_state.specs.Components.{pass_order}
@@ -22,6 +23,7 @@ use Rattle.journal_core.specs.declared.entry.Entry.{Entry}
 use Rattle.prop_map.specs.Words.{has}
 use Rattle.scr_laws.specs.Following.{entry_of}
 use Rattle.scr_laws.specs.Reserving.{given_back_by, reserved_with}
+use Rattle.scr_laws.proofs.CreatedLaws.{entries_of}
 use Rattle.scr_laws.proofs.FollowingEntries.{follows}
 use Rattle.scr_laws.proofs.Reserved.{reserved_then}
 use Rattle.scr_laws.proofs.StandingGets.{none_dropped, tokens_left, uses_left}
@@ -105,6 +107,26 @@ released_one (End turn outcome) w is = absurd cc
 released_one (Drained instance) w is = (refl, refl)
 released_one (Got bundle service) w is = absurd cc
 released_one (Released place) w is = (refl, refl)
+
+begun_needs : (b : Bool) → cond b 3 2 ≡ cond b 2 1 + 1
+begun_needs true = refl
+begun_needs false = refl
+
+needed_more : (step : Step) → shuts_nothing step ≡ true → is_release step ≡ false → needed_by step ≡ reserved_with step + 1
+needed_more (Commanded command) shuts is = absurd cc
+needed_more (Begin turn instance configuration consumer callback chosen) shuts is = begun_needs (is_activate callback)
+needed_more (End turn outcome) shuts is = absurd cc
+needed_more (Drained instance) shuts is = absurd cc
+needed_more (Got bundle service) shuts is = refl
+needed_more (Released place) shuts is = absurd cc
+
+room_for : (limit : ℕ) (w : World) (more : ℕ) → has_room limit w more ≡ true → w.entries + reserved w + more ≤ limit
+unfolding has_room
+room_for limit w more room = leb-true (w.entries + reserved w + more) limit room
+
+-- a journal and its world count the same entries
+pub counted_in : (j : JournalRows Step) (s : State) → Keeps j s → s.world.entries ≡ length j.entries
+counted_in j s keeps = ap (λ (w : World). w.entries) keeps.world ∙ entries_of (history_of j.entries) ∙ length-reverse j.entries
 
 -- what they leave
 record Leaves (step : Step) (w : World) : Type 0 where
@@ -338,11 +360,18 @@ module _ (journal : JournalRows Step) (s : State) (keeps : Keeps journal s) (ste
   stepped_is : m ≡ world_after_step step (world_of (history_of journal.entries))
   stepped_is = step_in ∙ ap (world_after_step step) keeps.world
 
-  pub room_to_release : HasRoomLeft journal step
-  room_to_release is =
-      let some = room_left journal.limit (history_of journal.entries) keeps.legal step shuts may_come has_space is in
-      let same = keeps.reserved ∙ ap reserved keeps.world in
-      omega (arith, some, same)
+  pub room_to_add : HasRoomLeft journal step
+  room_to_add = record {
+    reserved = λ is.
+        let some = room_left journal.limit (history_of journal.entries) keeps.legal step shuts may_come has_space is in
+        let same = keeps.reserved ∙ ap reserved keeps.world in
+        omega (arith, some, same);
+    beside = λ is.
+        let some = room_for journal.limit s.world (needed_by step) room in
+        let more = needed_more step shuts is in
+        let counted = counted_in journal s keeps in
+        omega (arith, some, more, counted, keeps.reserved);
+  }
 
   entries_now : s.world.entries + 1 ≡ m.entries + 1
   entries_now = ap (λ n. n + 1) (sym (leaves step s.world shuts).entries) ∙ ap (λ (w : World). w.entries + 1) (sym step_in)

@@ -1,6 +1,6 @@
 -- Entries without consequences, as code adds them. Our own.
 use Rattle.std.specs.Prelude.{◌≡◌, ◌<◌, ◌+◌, ◌-◌, ◌++◌, ◌∷◌, [], List, Bool, true, false}
-use Rattle.journal_core.specs.Rooms.{JournalRows}
+use Rattle.journal_core.specs.Rooms.{HasRoom, JournalRows}
 use Rattle.scr_laws.specs.Reserving.{given_back_by, reserved_with}
 use Rattle.scr_laws.specs.Stills.{bare}
 use Rattle.scr_world.specs.declared.step.Step.{Step}
@@ -16,9 +16,10 @@ is_release (Drained instance) = true
 is_release (Got bundle service) = false
 is_release (Released place) = true
 
--- where it was, something is reserved
-abbrev pub HasRoomLeft : JournalRows Step → Step → Type 0
-HasRoomLeft j step = is_release step ≡ true → 0 < j.reserved
+-- where it was, something is reserved; where it wasn't, there is room for it and for what is reserved with it
+pub record HasRoomLeft (j : JournalRows Step) (step : Step) : Type 0 where
+  pub reserved : is_release step ≡ true → 0 < j.reserved
+  pub beside : is_release step ≡ false → HasRoom j (reserved_with step + 1)
 
 -- a journal with the bare entry of a step, and what is reserved after it
 abbrev pub with_bare : Step → World → JournalRows Step → JournalRows Step

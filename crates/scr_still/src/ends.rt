@@ -20,7 +20,8 @@ use std::alloc::Global;
 /// the end is one of those without consequences, as `is_still_end` tells.
 ///
 /// # Errors
-/// Only want of memory. That a number is too high counts as such. The journal and the state are as they were.
+/// Only want of memory. That the generation of a gate has no number of 64 bits left counts as such. The journal and the state are
+/// as they were.
 pub fn grow_still_end(
     alloc: Global,
     journal: &mut Journal<Step>,
@@ -68,7 +69,8 @@ fn grow_end(
     ensures as_before { OnErr result (journal.new ≡ journal.old) }
     ensures state { OnErr result (state.new ≡ state.old) }
 {
-    let leaving = leaving_of(alloc, &state.world, turn, outcome)?;
+    let entries = journal.entries().len() as u64 + 1;
+    let leaving = leaving_of(alloc, &state.world, turn, outcome, entries)?;
     swap_in(alloc, &mut state.world, undo);
     match enter(alloc, journal, &state.world, turn, outcome, &leaving) {
         Ok(lost) => Ok(take_over(alloc, &mut state.world, leaving, lost)),

@@ -1,4 +1,5 @@
 //! The entry of a step that has no consequences, and the state after it, or neither.
+ghost use Rattle.journal_core.specs.Rooms.{HasRoom};
 ghost use Rattle.scr_laws.specs.Reserving.{reserved_with};
 ghost use Rattle.scr_laws.specs.Gates.{shuts_nothing};
 ghost use Rattle.scr_state.specs.Keeps.{IsDraft, Keeps};
@@ -8,7 +9,7 @@ ghost use Rattle.scr_world.specs.Consequences.{shut_between};
 ghost use Rattle.scr_world.specs.Legal.{MayCome};
 ghost use Rattle.scr_world.specs.Room.{has_room, needed_by};
 ghost use Rattle.scr_world.specs.declared.world.World.{World};
-ghost use Rattle.std.specs.Prelude.{◌≡◌, ◌+◌, ◌++◌, ◌∷◌, [], IfOk, OnErr, OnOk, true};
+ghost use Rattle.std.specs.Prelude.{◌≡◌, ◌+◌, ◌++◌, ◌∷◌, [], OnErr, OnOk, true};
 
 use crate::generic::{append, append_reserved, let_go};
 use callback_orders::Callback;
@@ -16,13 +17,13 @@ use journal_core::{Entry, Journal};
 use prop_map::{List, OutOfMemory};
 use scr_state::{Draft, State, swap_in};
 use scr_world::Step;
-use std::alloc::{AllocError, Global};
+use std::alloc::Global;
 
 /// Appends the entry of a turn's beginning, a drain, a get by token or its release, whose draft this is. No pass runs, since
 /// none of them changes what one looks at; no gate is shut.
 ///
 /// # Errors
-/// Only want of memory. That a number is too high counts as such. The journal and the state are as they were.
+/// Only want of memory. The journal and the state are as they were.
 pub fn grow_still(
     alloc: Global,
     journal: &mut Journal<Step>,
@@ -42,14 +43,7 @@ pub fn grow_still(
     ensures as_before { OnErr result (journal.new ≡ journal.old) }
     ensures state { OnErr result (state.new ≡ state.old) }
 {
-    let entries = match one_more(state.world.entries) {
-        Ok(entries) => entries,
-        Err(error) => {
-            let_go(step);
-            let_go(draft);
-            return Err(error);
-        }
-    };
+    let entries = journal.entries().len() as u64 + 1;
     let mut undo = draft;
     let grown = grow_to(alloc, journal, state, step, &mut undo, entries);
     let_go(undo);
@@ -91,13 +85,6 @@ fn grow_to(
     }
 }
 
-/// One entry more. That there are too many counts as want of memory.
-pub(crate) fn one_more(entries: u64) -> Result<u64, OutOfMemory>
-    ensures { IfOk result (λ more. more ≡ entries + 1) }
-{
-    entries.checked_add(1).ok_or(AllocError)
-}
-
 // Adds the bare entry of a step.
 fn add_bare(alloc: Global, journal: &mut Journal<Step>, step: Box<Step>) -> Result<(), OutOfMemory>
     requires shuts { shuts_nothing step.value ≡ true }
@@ -121,17 +108,19 @@ fn add_bare(alloc: Global, journal: &mut Journal<Step>, step: Box<Step>) -> Resu
     Ok(())
 }
 
-// Adds an entry and reserves room for what it begins, or does neither.
+// Adds an entry and reserves room for what it begins, where there is room for both, or does neither.
 fn append_with<S: Drop>(
     journal: &mut Journal<S>,
     entry: Entry<S>,
     more: u64,
 ) -> Result<(), OutOfMemory>
+    requires { HasRoom journal.old (more + 1) }
     ensures ok { OnOk result (journal.new ≡ record journal.old { entries = journal.old.entries ++ entry ∷ []; reserved = journal.old.reserved + more }) }
     ensures err { OnErr result (journal.new ≡ journal.old) }
 {
-    if journal.reserve(more).is_err() {
-        return Err(AllocError);
+    match journal.reserve(more) {
+        Ok(()) => {}
+        Err(_) => unreachable!(),
     }
     match append(journal, entry) {
         Ok(()) => Ok(()),

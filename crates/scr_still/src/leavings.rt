@@ -8,10 +8,9 @@ ghost use Rattle.scr_world.specs.declared.instance.Instance.{Instance};
 ghost use Rattle.service_registry.specs.declared.row.ServiceRow.{ServiceRow};
 ghost use Rattle.std.specs.List.{list_any};
 ghost use Rattle.std.specs.Option.{option_copied};
-ghost use Rattle.std.specs.Prelude.{◌≡◌, ◌==◌, IfOk, filter, find, map, not, option_and_then};
+ghost use Rattle.std.specs.Prelude.{◌≡◌, ◌+◌, ◌==◌, IfOk, filter, find, map, not, option_and_then};
 
 use crate::callbacks::last_unbound;
-use crate::growth::one_more;
 use callback_orders::Outcome;
 use journal_core::GateKey;
 use prop_map::{List, OutOfMemory};
@@ -180,20 +179,22 @@ fn leave_out(alloc: Global, rows: &mut List<ServiceRow>, lost: Option<u64>)
     }
 }
 
-/// What is told of an end before it stands in the world.
+/// What is told of an end before it stands in the world, with which there are so many entries.
 ///
 /// # Errors
-/// Only want of memory. That a number is too high counts as such.
+/// Only want of memory. That the generation of a gate has no number of 64 bits left counts as such.
 pub(crate) fn leaving_of(
     alloc: Global,
     world: &World,
     turn: u64,
     outcome: Outcome,
+    entries: u64,
 ) -> Result<Leaving, OutOfMemory>
+    requires { entries ≡ world.now.entries + 1 }
     ensures { IfOk result (λ l. IsLeaving turn outcome world.now l) }
 {
     Ok(Leaving {
-        entries: one_more(world.entries)?,
+        entries,
         shut: shut_by_end(alloc, world, turn, outcome)?,
         unbound: unbound_by(world, turn),
         drain: gives_drain_back(world, turn, outcome),

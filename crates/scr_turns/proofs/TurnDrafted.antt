@@ -13,6 +13,7 @@ use Rattle.component_state.specs.declared.component.Component.{Component}
 use Rattle.component_state.specs.Components.{exists}
 use Rattle.component_state.specs.Marks.{exists_unchanged, failed_after}
 use Rattle.prop_map.specs.Words.{has}
+use Rattle.scr_laws.proofs.FewNumbers.{few_numbers}
 use Rattle.scr_laws.proofs.TurnCallbacks.{are_told_apart}
 use Rattle.scr_laws.proofs.Sounding.{legal_sound}
 use Rattle.scr_laws.proofs.TokenOrder.{tokens_spread}
@@ -65,6 +66,7 @@ known_of limit past legal =
       living = sound.living;
       places = (tokens_spread past).apart;
       counted = token_counted past;
+      few = few_numbers limit past legal;
     }
 
 pub known : (s : State) → IsKept s → AreKnown s.world

@@ -5,6 +5,7 @@ use Rattle.std.specs.Option.{unwrap_or}
 use Rattle.callback_orders.specs.declared.callback.Callback.{Callback}
 use Rattle.callback_orders.specs.Sequences.{begun}
 use Rattle.component_state.specs.Inside.Ready.{are_apart}
+use Rattle.scr_laws.specs.Numbers.{HasFewNumbers}
 use Rattle.scr_state.specs.Rows.{HasRoomAmong, with_change}
 use Rattle.scr_state.specs.declared.draft.Draft.{Draft}
 use Rattle.scr_turns.specs.declared.drafts.TurnChanges.{TurnChanges}
@@ -30,13 +31,14 @@ told_in w turn callback i = with_effect_of_begin (before_turn w) callback (recor
 abbrev pub HaveOwnNumbers : List Instance → Type 0
 HaveOwnNumbers is = are_apart (map (λ (i : Instance). i.number) is) ≡ true
 
--- each instance was told last by a turn of its own too, and lives on; each get by token has a place of its own, and is counted
+-- each instance was told last by a turn of its own too, and lives on; each get by token has a place of its own, and is counted; few numbers were given
 pub record AreKnown (w : World) : Type 0 where
   pub numbers : HaveOwnNumbers w.instances
   pub turns : are_apart (map (λ (i : Instance). i.turn) w.instances) ≡ true
   pub living : (i : Instance) → Contains w.instances i → lives_on i ≡ true
   pub places : are_apart (map (λ (t : Token). t.place) w.tokens) ≡ true
   pub counted : (t : Token) → Contains w.tokens t → 0 < holder_count ByToken t.bundle t.service w.uses
+  pub few : HasFewNumbers w
 
 -- what a step of a turn makes of the failures, of the instances, of the numbers given out and of the gets, each with room for a row that comes or goes
 pub record AreFailureChanges (step : Step) (w : World) (c : FailureChanges) : Type 0 where

@@ -1,11 +1,11 @@
 //! What a step of a turn makes of the numbers that are given out, and of the counts of the gates (our own).
 ghost use Rattle.scr_state.specs.Rows.{HasRoomAmong, with_change};
-ghost use Rattle.scr_turns.specs.TurnDrafts.{AreNumberChanges};
+ghost use Rattle.scr_turns.specs.TurnDrafts.{AreKnown, AreNumberChanges};
 ghost use Rattle.scr_world.specs.Instances.{becomes_active, has_turn};
 ghost use Rattle.scr_world.specs.Stepping.{begins_by, generations_by, makes_by};
 ghost use Rattle.scr_world.specs.declared.instance.Instance.{Instance};
 ghost use Rattle.std.specs.Option.{option_copied};
-ghost use Rattle.std.specs.Prelude.{◌≡◌, ◌+◌, ◌&&◌, IfOk, find};
+ghost use Rattle.std.specs.Prelude.{◌≡◌, ◌≤◌, ◌&&◌, IfOk, find};
 
 use crate::slots::{first_free_slot, reopened_for, with_room_for};
 use callback_orders::Outcome;
@@ -13,7 +13,7 @@ use prop_map::OutOfMemory;
 use scr_consequences::opens_gate;
 use scr_state::RowChange;
 use scr_world::{Instance, Step, World};
-use std::alloc::{AllocError, Global};
+use std::alloc::Global;
 
 /// What a step of a turn makes of the numbers that are given out, and of the counts of the gates.
 #[derive(Drop)]
@@ -26,16 +26,19 @@ pub(crate) struct NumberChanges {
 /// What a step of a turn makes of the numbers that are given out, and of the counts of the gates.
 ///
 /// # Errors
-/// Only want of memory. That a number is too high counts as such.
+/// Only want of memory. That the generation of a gate has no number of 64 bits left counts as such.
 pub(crate) fn number_changes(
     alloc: Global,
     world: &World,
     step: &Step,
 ) -> Result<NumberChanges, OutOfMemory>
+    requires { AreKnown world.now }
     ensures { IfOk result (λ changes. AreNumberChanges step.now world.now changes) }
 {
-    let instances_numbered = sum(world.instances_numbered, makes_by(step))?;
-    let turns_begun = sum(world.turns_begun, begins_by(step))?;
+    // This lets the proof know that the entries have a number of 64 bits, and so has each turn.
+    let _entries = world.entries;
+    let instances_numbered = world.instances_numbered + makes_by(step);
+    let turns_begun = world.turns_begun + begins_by(step);
     let generations = generations_after(alloc, world, step)?;
     Ok(NumberChanges {
         instances_numbered,
@@ -44,14 +47,9 @@ pub(crate) fn number_changes(
     })
 }
 
-fn sum(number: u64, more: u64) -> Result<u64, OutOfMemory>
-    ensures { IfOk result (λ n. n ≡ number + more) }
-{
-    number.checked_add(more).ok_or(AllocError)
-}
-
 fn makes_by(step: &Step) -> u64
-    ensures { result ≡ makes_by step.now }
+    ensures value { result ≡ makes_by step.now }
+    ensures small { result ≤ 1 }
 {
     match step {
         Step::Begin { callback, .. } if callback.is_create() => 1,
@@ -60,7 +58,8 @@ fn makes_by(step: &Step) -> u64
 }
 
 fn begins_by(step: &Step) -> u64
-    ensures { result ≡ begins_by step.now }
+    ensures value { result ≡ begins_by step.now }
+    ensures small { result ≤ 1 }
 {
     match step {
         Step::Begin { .. } => 1,

@@ -1,4 +1,4 @@
-use Rattle.std.proofs.Common.{◌+◌, ap, refl, subst}
+use Rattle.std.proofs.Common.{ℕ, ap, refl, subst}
 use Rattle.kept_wirings.specs.WiringChanges.{IsChangeBy}
 use Rattle.scr_core.proofs.WiredJournals.{changed_rows, kept_own, kept_still}
 use Rattle.scr_state.specs.declared.state.State.{State}
@@ -15,7 +15,8 @@ returns-in-Ok-grow-clause-wirings c =
     let s = c.args.state.now in
     let cs = s.world.documents in
     let kept = kept_still cs cs c.args.wirings.now c.prepare.new.wirings c.requires.wirings c.prepare.ensures.bundles c.prepare.ensures.faults refl in
-    let change = subst (λ (x : Step). IsChangeBy x (s.world.bundles.numbered + 1) c.in-Ok.change) c.deref.ensures c.in-Ok.ensures.change in
+    let change = subst (λ (n : ℕ). IsChangeBy c.args.step.value n c.in-Ok.change) c.next_bundle-next.ensures
+    (subst (λ (x : Step). IsChangeBy x c.next_bundle-next.result c.in-Ok.change) c.deref.ensures c.in-Ok.ensures.change) in
     c.make.ensures cs c.grow.new.state.world.documents kept (kept_own c.args.journal.now s c.requires.keeps)
     (changed_rows c.args.journal.now c.grow.new.journal s c.grow.new.state c.requires.keeps c.in-Ok-grow.ensures.keeps c.args.step.value c.in-Ok-grow.ensures.grown c.in-Ok.change change)
 

@@ -1,10 +1,22 @@
-use Rattle.std.proofs.Common.{◌∙◌, ap}
+use Rattle.std.proofs.Common.{◌∙◌, List, ap, arith, length}
+use Rattle.journal_core.specs.declared.entry.Entry.{Entry}
 use Rattle.scr_growth.specs.Growths.{services_among}
-use Rattle.scr_growth.proofs.SettleSteps.{before_for, numbered_for, rising_for, room_for, settled_so, state_back, stopping_for}
+use Rattle.scr_growth.proofs.SettleSteps.{before_for, counted_for, few_for, numbered_for, rising_for, room_for, settled_so, state_back, stopping_for}
 use Rattle.scr_state.specs.declared.state.State.{State}
 use Rattle.scr_world.specs.Calls.{world_at}
 use Rattle.scr_world.specs.Steps.{history_of}
+use Rattle.scr_world.specs.declared.step.Step.{Step}
 use Rattle.scr_growth.proofs.settling.settle.Goals as goal
+
+pub ending_of-requires-clause-few : goal.ending_of-requires-clause-few
+ending_of-requires-clause-few c =
+    few_for c.args.journal.now c.args.step.value c.args.state.now c.args.undo.now c.args.periods.now c.args.lists c.args.draining.now c.requires
+
+pub ending_of-requires-clause-entries : goal.ending_of-requires-clause-entries
+ending_of-requires-clause-entries c =
+    let counted = counted_for c.args.journal.now c.args.step.value c.args.state.now c.args.undo.now c.args.periods.now c.args.lists c.args.draining.now c.requires in
+    let all = ap (λ (es : List (Entry Step)). length es) c.entries.ensures in
+    omega (arith, counted, all)
 
 pub enter-requires-clause-room : goal.enter-requires-clause-room
 enter-requires-clause-room c =

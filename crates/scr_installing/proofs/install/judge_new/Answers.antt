@@ -16,15 +16,6 @@ returns-then-not-has_room_for_command c =
     let free = allowed_free c.args.state.now.world (Install c.args.doc.now) c.in_ok-described.described c.in_ok-described.ensures in
     record { judged = install_no_room c.args.journal.now.limit c.args.state.now c.args.doc.now c.requires.unknown free (sym c.has_room_for_command.ensures ∙ c.if-not-has_room_for_command.true) }
 
-pub returns-in_err-number : goal.returns-in_err-number
-returns-in_err-number c =
-    let p = err_from_is_err_and c.from_residual-in_err-number.result c.from_residual-in_err-number.ensures.1 in
-    let free = allowed_free c.args.state.now.world (Install c.args.doc.now) c.in_ok-described.described c.in_ok-described.ensures in
-    record {
-      judged = rw p.1 (no_memory_freely c.args.journal.now.limit c.args.state.now (Install c.args.doc.now) free
-          (sym c.has_room_for_command.ensures ∙ c.if-not-has_room_for_command.false) p.0 p.2);
-    }
-
 pub install_draft-requires-clause-described : goal.install_draft-requires-clause-described
 install_draft-requires-clause-described c = allowed_described c.args.state.now.world (Install c.args.doc.now) c.in_ok-described.described c.in_ok-described.ensures
 
@@ -43,5 +34,5 @@ returns c =
     record {
       judged =
           install_changes c.args.journal.now.limit c.args.state.now c.args.doc.now c.requires.unknown free (sym c.has_room_for_command.ensures ∙ c.if-not-has_room_for_command.false)
-          c.in_ok-number.number c.in_ok-number.ensures c.in_ok-draft.draft c.in_ok-draft.ensures;
+          c.next_bundle-number.result c.next_bundle-number.ensures c.in_ok-draft.draft c.in_ok-draft.ensures;
     }

@@ -12,18 +12,15 @@ returns-in-Some c = record { judged = told c.args.journal.now.limit c.args.state
 pub returns-then-not-has_room_for_command : goal.returns-then-not-has_room_for_command
 returns-then-not-has_room_for_command c = record { judged = full c.args.journal.now.limit c.args.state.now (Listen c.args.bundle c.args.filter.now) c.refusal_of_listen.result (c.refusal_of_listen.ensures c.args.filter.now) c.in_default.is refl c.has_room_for_command.result c.has_room_for_command.ensures c.if-not-has_room_for_command.true }
 
-pub returns-in_err-next_listener : goal.returns-in_err-next_listener
-returns-in_err-next_listener c = record { judged = none_left c.args.journal.now.limit c.args.state.now (Listen c.args.bundle c.args.filter.now) c.refusal_of_listen.result (c.refusal_of_listen.ensures c.args.filter.now) c.in_default.is refl c.has_room_for_command.result c.has_room_for_command.ensures c.if-not-has_room_for_command.false c.from_residual.result c.from_residual.ensures.1 }
-
 pub draft_with-requires-clause-tables : goal.draft_with-requires-clause-tables
 draft_with-requires-clause-tables c =
     subst (λ (t : TablesAfter). AreTablesBy c.args.state.now c.args.step.now t) (sym c.none.ensures)
     (tables_then c.args.journal.now c.args.state.now c.requires.keeps c.args.step.now (Listen c.args.bundle c.args.filter.now) c.requires.command refl refl None None refl refl)
 
 pub returns-in_err-draft : goal.returns-in_err-draft
-returns-in_err-draft c = record { judged = none_left c.args.journal.now.limit c.args.state.now (Listen c.args.bundle c.args.filter.now) c.refusal_of_listen.result (c.refusal_of_listen.ensures c.args.filter.now) c.in_default.is refl c.has_room_for_command.result c.has_room_for_command.ensures c.if-not-has_room_for_command.false c.from_residual-in_err-draft.result c.from_residual-in_err-draft.ensures.1 }
+returns-in_err-draft c = record { judged = none_left c.args.journal.now.limit c.args.state.now (Listen c.args.bundle c.args.filter.now) c.refusal_of_listen.result (c.refusal_of_listen.ensures c.args.filter.now) c.in_default.is refl c.has_room_for_command.result c.has_room_for_command.ensures c.if-not-has_room_for_command.false c.from_residual.result c.from_residual.ensures.1 }
 
 pub returns : goal.returns
 returns c = record {
-  judged = served c.args.journal.now.limit c.args.state.now (Listen c.args.bundle c.args.filter.now) c.refusal_of_listen.result (c.refusal_of_listen.ensures c.args.filter.now) c.in_default.is refl c.has_room_for_command.result c.has_room_for_command.ensures c.if-not-has_room_for_command.false (AsListener c.in_ok-next_listener.field-0) (ap (λ n. AsListener n) c.in_ok-next_listener.ensures) c.args.step.now c.requires.command c.in_ok-draft.draft c.in_ok-draft.ensures;
+  judged = served c.args.journal.now.limit c.args.state.now (Listen c.args.bundle c.args.filter.now) c.refusal_of_listen.result (c.refusal_of_listen.ensures c.args.filter.now) c.in_default.is refl c.has_room_for_command.result c.has_room_for_command.ensures c.if-not-has_room_for_command.false (AsListener c.next_listener-number.result) (ap (λ n. AsListener n) c.next_listener-number.ensures) c.args.step.now c.requires.command c.in_ok-draft.draft c.in_ok-draft.ensures;
 }

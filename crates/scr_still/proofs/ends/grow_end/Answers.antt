@@ -1,5 +1,15 @@
+use Rattle.std.proofs.Common.{List, ap, arith, length}
+use Rattle.journal_core.specs.declared.entry.Entry.{Entry}
+use Rattle.scr_still.proofs.StillGrowth.{counted_in}
+use Rattle.scr_world.specs.declared.step.Step.{Step}
 use Rattle.scr_still.proofs.StillEndGrowth.{grown, has_its_room, kept, shut}
 use Rattle.scr_still.proofs.ends.grow_end.Goals as goal
+
+pub leaving_of-requires : goal.leaving_of-requires
+leaving_of-requires c =
+    let counted = counted_in c.args.journal.now c.args.state.now c.requires.keeps in
+    let all = ap (λ (es : List (Entry Step)). length es) c.entries.ensures in
+    omega (arith, counted, all)
 
 pub enter-requires : goal.enter-requires
 enter-requires c =

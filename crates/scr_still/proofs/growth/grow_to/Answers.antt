@@ -1,12 +1,12 @@
 use Rattle.std.proofs.Common.{ap}
 use Rattle.journal_core.specs.Rooms.{JournalRows}
 use Rattle.scr_world.specs.declared.step.Step.{Step}
-use Rattle.scr_still.proofs.StillGrowth.{grown, kept, room_to_release, shut}
+use Rattle.scr_still.proofs.StillGrowth.{grown, kept, room_to_add, shut}
 use Rattle.scr_still.proofs.growth.grow_to.Goals as goal
 
 pub add_bare-requires-clause-room : goal.add_bare-requires-clause-room
 add_bare-requires-clause-room c =
-    room_to_release c.args.journal.now c.args.state.now c.requires.keeps c.args.step.value c.requires.shuts c.requires.may c.requires.room c.args.undo.now
+    room_to_add c.args.journal.now c.args.state.now c.requires.keeps c.args.step.value c.requires.shuts c.requires.may c.requires.room c.args.undo.now
     c.requires.draft c.swap_in.new.world c.swap_in.ensures.world
 
 pub returns-in-Ok-clause-keeps : goal.returns-in-Ok-clause-keeps
