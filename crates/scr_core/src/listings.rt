@@ -1,5 +1,5 @@
-//! What a core tells of its services, its component configurations and descriptions, its configurations, its listeners and
-//! its journal.
+//! What a core tells of its bundles and services, its component configurations and descriptions, its open periods, its
+//! configurations, its listeners and its journal.
 ghost use Rattle.config_admin.specs.Configurations.{of_pid};
 ghost use Rattle.scr_readers.specs.Counting.{counting_numbers};
 ghost use Rattle.scr_readers.specs.Described.{described_numbers};
@@ -13,6 +13,8 @@ ghost use Rattle.std.specs.Option.{option_copied};
 ghost use Rattle.std.specs.Prelude.{◌≡◌, IfOk};
 
 use crate::Core;
+use bundle_life::BundleLife;
+use component_state::OpenPeriod;
 use config_admin::Configuration;
 use prop_map::{List, OutOfMemory};
 use scr_readers::{ComponentDetails, ListedComponent, ServiceView};
@@ -21,6 +23,20 @@ use service_listeners::Listener;
 use std::alloc::Global;
 
 impl Core {
+    /// The installed bundles, by number. It takes no memory.
+    pub fn bundles(&self) -> &[BundleLife]
+        ensures { result.now ≡ (world_at self.now.journal).bundles.rows }
+    {
+        self.state.world.bundles.rows()
+    }
+
+    /// The open periods, in the order of their openings. It takes no memory.
+    pub fn open_periods(&self) -> &[OpenPeriod]
+        ensures { result.now ≡ (world_at self.now.journal).open_periods }
+    {
+        self.state.world.open_periods.as_slice()
+    }
+
     /// The service of a number, with the bundles that use it and the instances that hold it: `None` exactly where none is
     /// registered, or it is that of the platform.
     ///

@@ -22,7 +22,7 @@ use Rattle.platform_hall.specs.Cores.{CoreView}
 use Rattle.platform_hall.specs.Platforms.{world}
 use Rattle.platform_hall.specs.declared.finish_fault.FinishFault.{FinishFault}
 use Rattle.platform_hall.specs.declared.finish_fault.FinishFault.TheVariants.{NoTurn as NoSuchTurn, OutOfMemory as NoMemoryLeft}
-use Rattle.shell_lang.specs.declared.shell_line.ShellLine.TheVariants.{Silent, Quit, Help, Command as Commanded, Bundles, Services, Components, Report, Held, ListComponents, Details, AboutService, Descriptions, Find, Events, BundleEvents, Trace, Wiring, BundleWiring, Routes, Configurations, Configuration, Listeners, Journal, Settle, Begin, Finish, Call, Http}
+use Rattle.shell_lang.specs.declared.shell_line.ShellLine.TheVariants.{Silent, Quit, Help, Command as Commanded, Bundles, Services, Components, Report, Held, ListComponents, Graph, Details, AboutService, Descriptions, Find, Events, BundleEvents, Trace, Wiring, BundleWiring, Routes, Configurations, Configuration, Listeners, Journal, Settle, Begin, Finish, Call, Http}
 use Rattle.shell_lang.specs.declared.shell_reply.Refusal.TheVariants.{NotBuilt}
 use Rattle.shell_lang.specs.declared.shell_reply.ShellReply.{ShellReply}
 use Rattle.shell_lang.specs.declared.shell_reply.ShellReply.TheVariants.{Refused}
@@ -124,6 +124,7 @@ asks_built s (Ok (Report configuration)) before after told (is, same) =
 asks_built s (Ok (Held configuration)) before after told (reply, is, (answer, tells, told_one, replied, same)) =
     told_built told reply is (reply_built reply _ replied (held_built answer))
 asks_built s (Ok ListComponents) before after told (is, same) = told_built told _ is tt
+asks_built s (Ok Graph) before after told (is, same) = told_built told _ is tt
 asks_built s (Ok (Details configuration)) before after told (is, same) =
     told_built told (details_reply (world before) configuration) is (mapped_built _ (details_in (world before) configuration) _ (λ d. tt) tt)
 asks_built s (Ok (AboutService service)) before after told (is, same) =

@@ -22,5 +22,7 @@ pub mod AllBuilt
 pub mod Mapped
 pub mod Replaying
 pub mod Counting
+pub mod DetailsThere
+pub mod NumbersOnce
 pub mod Loading
 pub mod Programs

@@ -16,7 +16,7 @@ use Rattle.turn_runner.specs.declared.settle_fault.SettleFault.TheVariants.{Unse
 use Rattle.platform_hall.specs.declared.finish_fault.FinishFault.{FinishFault}
 use Rattle.platform_hall.specs.declared.finish_fault.FinishFault.TheVariants.{NoTurn as NoSuchTurn, OutOfMemory as NoMemoryLeft}
 use Rattle.platform_hall.specs.Platforms.{BeginsTurn, Finishes, FinishesTurn}
-use Rattle.shell_lang.specs.declared.shell_line.ShellLine.TheVariants.{Silent, Quit, Help, Command as Commanded, Bundles, Services, Components, Report, Held, ListComponents, Details, AboutService, Descriptions, Find, Events, BundleEvents, Trace, Wiring, BundleWiring, Routes, Configurations, Configuration, Listeners, Journal, Settle, Begin, Finish, Call, Http}
+use Rattle.shell_lang.specs.declared.shell_line.ShellLine.TheVariants.{Silent, Quit, Help, Command as Commanded, Bundles, Services, Components, Report, Held, ListComponents, Graph, Details, AboutService, Descriptions, Find, Events, BundleEvents, Trace, Wiring, BundleWiring, Routes, Configurations, Configuration, Listeners, Journal, Settle, Begin, Finish, Call, Http}
 use Rattle.shell_lang.specs.declared.shell_reply.ShellReply.{ShellReply}
 use Rattle.shell_lang.specs.ShellLines.{Asked, shell_line}
 use Rattle.script_shell.specs.declared.status.Status.{Status}
@@ -71,6 +71,7 @@ grew_asks s (Ok Wiring) before after told (said, is, (lines, tells, replied, sam
 grew_asks s (Ok (BundleWiring bundle)) before after told (said, is, (lines, tells, replied, same)) = grew_not before after same
 grew_asks s (Ok Routes) before after told (is, same) = grew_not before after same
 grew_asks s (Ok ListComponents) before after told (is, same) = grew_not before after same
+grew_asks s (Ok Graph) before after told (is, same) = grew_not before after same
 grew_asks s (Ok (Details configuration)) before after told (is, same) = grew_not before after same
 grew_asks s (Ok (AboutService service)) before after told (is, same) = grew_not before after same
 grew_asks s (Ok (Descriptions bundle)) before after told (is, same) = grew_not before after same
@@ -134,6 +135,7 @@ grew_cut_asked s (Ok Wiring) fault before after commands (is, (same, none)) = gr
 grew_cut_asked s (Ok (BundleWiring bundle)) fault before after commands (is, (same, none)) = grew_none before after commands none (grew_not before after same)
 grew_cut_asked s (Ok Routes) fault before after commands (is, (same, none)) = grew_none before after commands none (grew_not before after same)
 grew_cut_asked s (Ok ListComponents) fault before after commands (is, (same, none)) = grew_none before after commands none (grew_not before after same)
+grew_cut_asked s (Ok Graph) fault before after commands (is, (same, none)) = grew_none before after commands none (grew_not before after same)
 grew_cut_asked s (Ok (Details configuration)) fault before after commands (is, (same, none)) = grew_none before after commands none (grew_not before after same)
 grew_cut_asked s (Ok (AboutService service)) fault before after commands (is, (same, none)) = grew_none before after commands none (grew_not before after same)
 grew_cut_asked s (Ok (Descriptions bundle)) fault before after commands (is, (same, none)) = grew_none before after commands none (grew_not before after same)

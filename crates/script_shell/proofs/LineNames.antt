@@ -11,7 +11,7 @@ use Rattle.scr_world.specs.declared.command.Command.TheVariants.{Install, Update
 use Rattle.shell_lang.specs.declared.line_fault.LineFault.{LineFault}
 use Rattle.shell_lang.specs.declared.line_fault.LineFault.TheVariants.{NoFile, UnknownCommand}
 use Rattle.shell_lang.specs.declared.shell_line.ShellLine.{ShellLine}
-use Rattle.shell_lang.specs.declared.shell_line.ShellLine.TheVariants.{Quit, Command as Commanded, Bundles, Services, Components, ListComponents, Routes, Configurations, Listeners, Journal, Settle, Begin}
+use Rattle.shell_lang.specs.declared.shell_line.ShellLine.TheVariants.{Quit, Command as Commanded, Bundles, Services, Components, ListComponents, Graph, Routes, Configurations, Listeners, Journal, Settle, Begin}
 use Rattle.shell_lang.specs.declared.words.Misfit.{Misfit}
 use Rattle.shell_lang.specs.Arguments.{document_argument, filter_argument, given_document, names_file, properties_argument}
 use Rattle.shell_lang.specs.Help.{helping, line_word_at}
@@ -175,9 +175,10 @@ module _ (word : List ℕ) (rest : Option (List ℕ)) where
   listing_line_named : AskedNamed (listing_line word rest)
   listing_line_named =
       either_line (bytes_eq word (codes "list")) (alone ListComponents rest) _ (alone_named ListComponents rest tt)
+      (either_line (bytes_eq word (codes "graph")) (alone Graph rest) _ (alone_named Graph rest tt)
       (either_line (bytes_eq word (codes "configs")) (alone Configurations rest) _ (alone_named Configurations rest tt)
       (either_line (bytes_eq word (codes "listeners")) (alone Listeners rest) _ (alone_named Listeners rest tt)
-      (either_line (bytes_eq word (codes "journal")) (alone Journal rest) (bundle_line word rest) (alone_named Journal rest tt) bundle_line_named)))
+      (either_line (bytes_eq word (codes "journal")) (alone Journal rest) (bundle_line word rest) (alone_named Journal rest tt) bundle_line_named))))
 
   worded_line_named : AskedNamed (worded_line word rest)
   worded_line_named =

@@ -8,7 +8,7 @@ use Rattle.scr_world.specs.declared.command.Command.{Command}
 use Rattle.scr_world.specs.declared.command.Limits.{Limits}
 use Rattle.scr_world.specs.Lists.{world_of}
 use Rattle.scr_world.specs.Replies.{changes}
-use Rattle.shell_lang.specs.declared.shell_line.ShellLine.TheVariants.{Silent, Quit, Help, Command as Commanded, Bundles, Services, Components, Report, Held, ListComponents, Details, AboutService, Descriptions, Find, Events, BundleEvents, Trace, Wiring, BundleWiring, Routes, Configurations, Configuration, Listeners, Journal, Settle, Begin, Finish, Call, Http}
+use Rattle.shell_lang.specs.declared.shell_line.ShellLine.TheVariants.{Silent, Quit, Help, Command as Commanded, Bundles, Services, Components, Report, Held, ListComponents, Graph, Details, AboutService, Descriptions, Find, Events, BundleEvents, Trace, Wiring, BundleWiring, Routes, Configurations, Configuration, Listeners, Journal, Settle, Begin, Finish, Call, Http}
 use Rattle.shell_lang.specs.declared.shell_reply.ShellReply.{ShellReply}
 use Rattle.shell_lang.specs.ShellLines.{Asked, shell_line}
 use Rattle.platform_hall.specs.Platforms.{world}
@@ -51,6 +51,7 @@ asked_all (Ok Wiring) before its = none_named
 asked_all (Ok (BundleWiring bundle)) before its = none_named
 asked_all (Ok Routes) before its = none_named
 asked_all (Ok ListComponents) before its = none_named
+asked_all (Ok Graph) before its = none_named
 asked_all (Ok (Details configuration)) before its = none_named
 asked_all (Ok (AboutService service)) before its = none_named
 asked_all (Ok (Descriptions bundle)) before its = none_named

@@ -31,7 +31,7 @@ use Rattle.scr_world.specs.Worlds.{all_instances}
 use Rattle.platform_hall.specs.Calls.{CallsByGet, CallsOnOne, GetsUse, Releases}
 use Rattle.platform_hall.specs.Platforms.{Accepts, Drained, SettlesAs, TakesCommand, none_under_way, world}
 use Rattle.platform_hall.proofs.Steps.{grown_after}
-use Rattle.shell_lang.specs.declared.shell_line.ShellLine.TheVariants.{Silent, Quit, Help, Command as Commanded, Bundles, Services, Components, Report, Held, ListComponents, Details, AboutService, Descriptions, Find, Events, BundleEvents, Trace, Wiring, BundleWiring, Routes, Configurations, Configuration, Listeners, Journal, Settle, Begin, Finish, Call, Http}
+use Rattle.shell_lang.specs.declared.shell_line.ShellLine.TheVariants.{Silent, Quit, Help, Command as Commanded, Bundles, Services, Components, Report, Held, ListComponents, Graph, Details, AboutService, Descriptions, Find, Events, BundleEvents, Trace, Wiring, BundleWiring, Routes, Configurations, Configuration, Listeners, Journal, Settle, Begin, Finish, Call, Http}
 use Rattle.shell_lang.specs.declared.shell_reply.ShellReply.{ShellReply}
 use Rattle.shell_lang.specs.ShellLines.{Asked}
 use Rattle.script_shell.specs.Asks.{Asks, AsksBegin, AsksFinish, Manually, Setting}
@@ -152,6 +152,7 @@ asks_still turns_end s (Ok Wiring) before after told auto legal (said, is, (line
 asks_still turns_end s (Ok (BundleWiring bundle)) before after told auto legal (said, is, (lines, tells, replied, same)) none = same_still before after same none
 asks_still turns_end s (Ok Routes) before after told auto legal (is, same) none = same_still before after same none
 asks_still turns_end s (Ok ListComponents) before after told auto legal (is, same) none = same_still before after same none
+asks_still turns_end s (Ok Graph) before after told auto legal (is, same) none = same_still before after same none
 asks_still turns_end s (Ok (Details configuration)) before after told auto legal (is, same) none = same_still before after same none
 asks_still turns_end s (Ok (AboutService service)) before after told auto legal (is, same) none = same_still before after same none
 asks_still turns_end s (Ok (Descriptions bundle)) before after told auto legal (is, same) none = same_still before after same none

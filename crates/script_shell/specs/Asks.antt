@@ -29,13 +29,14 @@ use Rattle.platform_hall.specs.declared.finish_fault.FinishFault.{FinishFault}
 use Rattle.platform_hall.specs.declared.finish_fault.FinishFault.TheVariants.{NoTurn as NoSuchTurn, OutOfMemory as NoMemoryLeft}
 use Rattle.platform_hall.specs.Platforms.{BeginsTurn, FinishesTurn, TakesCommand, running, world}
 use Rattle.platform_hall.specs.SettleBounds.{SettlesWithin}
-use Rattle.shell_lang.specs.declared.shell_line.ShellLine.TheVariants.{Silent, Quit, Help as AskHelp, Command as Commanded, Bundles as AskBundles, Services as AskServices, Components as AskComponents, Report as AskReport, Held as AskHeld, ListComponents as AskListComponents, Details as AskDetails, AboutService as AskAboutService, Descriptions as AskDescriptions, Find as AskFind, Events as AskEvents, BundleEvents as AskBundleEvents, Trace as AskTrace, Wiring as AskWiring, BundleWiring as AskBundleWiring, Routes as AskRoutes, Configurations as AskConfigurations, Configuration as AskConfiguration, Listeners as AskListeners, Journal as AskJournal, Settle, Begin, Finish, Call, Http}
+use Rattle.shell_lang.specs.declared.shell_line.ShellLine.TheVariants.{Silent, Quit, Help as AskHelp, Command as Commanded, Bundles as AskBundles, Services as AskServices, Components as AskComponents, Report as AskReport, Held as AskHeld, ListComponents as AskListComponents, Graph as AskGraph, Details as AskDetails, AboutService as AskAboutService, Descriptions as AskDescriptions, Find as AskFind, Events as AskEvents, BundleEvents as AskBundleEvents, Trace as AskTrace, Wiring as AskWiring, BundleWiring as AskBundleWiring, Routes as AskRoutes, Configurations as AskConfigurations, Configuration as AskConfiguration, Listeners as AskListeners, Journal as AskJournal, Settle, Begin, Finish, Call, Http}
 use Rattle.shell_lang.specs.declared.shell_reply.Refusal.TheVariants.{Line as InLine, Core as OfCore, NotManual, NoTurn}
 use Rattle.shell_lang.specs.declared.shell_reply.ShellReply.{ShellReply}
-use Rattle.shell_lang.specs.declared.shell_reply.ShellReply.TheVariants.{Done, Help, Bundle, Service, Uses, Listener, Bundles, Services, Components, Report, Held, Listed, Found, Events, BundleEvents, Trace, Routes, Configurations, Listeners, Turns, Begun, Idle, Finished, Refused}
+use Rattle.shell_lang.specs.declared.shell_reply.ShellReply.TheVariants.{Done, Help, Bundle, Service, Uses, Listener, Bundles, Services, Components, Report, Held, Listed, Graph, Found, Events, BundleEvents, Trace, Routes, Configurations, Listeners, Turns, Begun, Idle, Finished, Refused}
 use Rattle.shell_lang.specs.ShellLines.{Asked}
 use Rattle.script_shell.specs.Calling.{AsksCall}
 use Rattle.script_shell.specs.ComponentListings.{descriptions_reply, details_reply, listed_lines}
+use Rattle.script_shell.specs.Graphs.{graph_lines}
 use Rattle.script_shell.specs.Listings.{configuration_lines, configuration_reply, journal_reply, listener_lines}
 use Rattle.script_shell.specs.Refusals.{IsAnswer}
 use Rattle.script_shell.specs.Requests.{AsksHttp}
@@ -145,6 +146,7 @@ Asks s (Ok AskComponents) before told after = Says (Components (component_lines 
 Asks s (Ok (AskReport configuration)) before told after = Says (report_reply (world before) configuration) before told after
 Asks s (Ok (AskHeld configuration)) before told after = Does (AsksHeld configuration) before told after
 Asks s (Ok AskListComponents) before told after = Says (Listed (listed_lines (world before))) before told after
+Asks s (Ok AskGraph) before told after = Says (Graph (graph_lines (world before))) before told after
 Asks s (Ok (AskDetails configuration)) before told after = Says (details_reply (world before) configuration) before told after
 Asks s (Ok (AskAboutService service)) before told after = Says (service_reply (world before) service) before told after
 Asks s (Ok (AskDescriptions bundle)) before told after = Says (descriptions_reply (world before) bundle) before told after

@@ -7,6 +7,7 @@ pub mod Routes
 pub mod Listings
 pub mod ComponentListings
 pub mod ServiceFacts
+pub mod Graphs
 pub mod Requests
 pub mod Refusals
 pub mod Calling

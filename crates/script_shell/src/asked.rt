@@ -10,6 +10,7 @@ ghost use Rattle.std.specs.Prelude.{Ok};
 
 use crate::calling::call;
 use crate::component_listings::{descriptions, detailed, listed};
+use crate::graph::graph;
 use crate::listings::{configuration, configurations, journal, listeners};
 use crate::readings::{
     bundle_events, bundles, components, events, found, held, reported, services, trace,
@@ -49,6 +50,7 @@ pub(crate) fn carry_out<K: Kinds + Drop>(
         }
         Ok(ShellLine::Held { configuration }) => Ok(Some(held(alloc, core, configuration)?)),
         Ok(ShellLine::ListComponents) => Ok(Some(listed(alloc, core)?)),
+        Ok(ShellLine::Graph) => Ok(Some(graph(alloc, core)?)),
         Ok(ShellLine::Details { configuration }) => {
             Ok(Some(detailed(alloc, core, configuration)?))
         }

@@ -83,6 +83,7 @@ pub(crate) fn is_refusal(reply: &ShellReply) -> bool
         ShellReply::BundleWiring(_) => false,
         ShellReply::Routes(_) => false,
         ShellReply::Listed(_) => false,
+        ShellReply::Graph(_) => false,
         ShellReply::Details(_) => false,
         ShellReply::ServiceFacts(_) => false,
         ShellReply::Descriptions(_) => false,

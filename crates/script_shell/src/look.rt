@@ -4,6 +4,7 @@ ghost use Rattle.std.specs.Prelude.{◌≡◌, IfErr, IfOk, true};
 ghost use Rattle.turn_runner.specs.declared.settle_fault.SettleFault.TheVariants.{OutOfMemory};
 
 use crate::component_listings::{descriptions, detailed, listed};
+use crate::graph::graph;
 use crate::listings::{configuration, configurations, journal, listeners};
 use crate::readings::{
     bundle_events, bundles, components, events, found, held, reported, services, trace,
@@ -31,6 +32,7 @@ pub fn is_look(line: &ShellLine) -> bool
         ShellLine::Report { .. } => true,
         ShellLine::Held { .. } => true,
         ShellLine::ListComponents => true,
+        ShellLine::Graph => true,
         ShellLine::Details { .. } => true,
         ShellLine::AboutService { .. } => true,
         ShellLine::Descriptions { .. } => true,
@@ -69,6 +71,7 @@ pub fn look_at(alloc: Global, core: &Core, line: &ShellLine) -> Result<ShellRepl
         ShellLine::Report { configuration } => reported(alloc, core, *configuration),
         ShellLine::Held { configuration } => held(alloc, core, *configuration),
         ShellLine::ListComponents => listed(alloc, core),
+        ShellLine::Graph => graph(alloc, core),
         ShellLine::Details { configuration } => detailed(alloc, core, *configuration),
         ShellLine::AboutService { service } => about_service(alloc, core, *service),
         ShellLine::Descriptions { bundle } => descriptions(alloc, core, *bundle),

@@ -13,7 +13,7 @@ use Rattle.scr_world.specs.declared.reply.CoreFault.TheVariants.{NoBundle, NoCom
 use Rattle.scr_world.specs.declared.reply.Reply.{Reply}
 use Rattle.shell_lang.specs.ShellLines.{Asked, shell_line}
 use Rattle.shell_lang.specs.declared.shell_line.ShellLine.{ShellLine}
-use Rattle.shell_lang.specs.declared.shell_line.ShellLine.TheVariants.{Silent, Quit, Help as AskHelp, Command as Commanded, Bundles as AskBundles, Services as AskServices, Components as AskComponents, Report as AskReport, Held as AskHeld, ListComponents as AskListComponents, Details as AskDetails, AboutService as AskAboutService, Descriptions as AskDescriptions, Find as AskFind, Events as AskEvents, BundleEvents as AskBundleEvents, Trace as AskTrace, Wiring as AskWiring, BundleWiring as AskBundleWiring, Routes as AskRoutes, Configurations as AskConfigurations, Configuration as AskConfiguration, Listeners as AskListeners, Journal as AskJournal, Settle, Begin, Finish, Call, Http}
+use Rattle.shell_lang.specs.declared.shell_line.ShellLine.TheVariants.{Silent, Quit, Help as AskHelp, Command as Commanded, Bundles as AskBundles, Services as AskServices, Components as AskComponents, Report as AskReport, Held as AskHeld, ListComponents as AskListComponents, Graph as AskGraph, Details as AskDetails, AboutService as AskAboutService, Descriptions as AskDescriptions, Find as AskFind, Events as AskEvents, BundleEvents as AskBundleEvents, Trace as AskTrace, Wiring as AskWiring, BundleWiring as AskBundleWiring, Routes as AskRoutes, Configurations as AskConfigurations, Configuration as AskConfiguration, Listeners as AskListeners, Journal as AskJournal, Settle, Begin, Finish, Call, Http}
 use Rattle.shell_lang.specs.declared.shell_reply.Refusal.{Refusal}
 use Rattle.shell_lang.specs.declared.shell_reply.Refusal.TheVariants.{Line as InLine, NotBuilt, NotManual}
 use Rattle.session_shell.specs.Fronts.{Rising, front_in}
@@ -131,6 +131,7 @@ line_comes s (Ok AskWiring) before after told serves = look_comes s AskWiring be
 line_comes s (Ok (AskBundleWiring bundle)) before after told serves = look_comes s (AskBundleWiring bundle) before after told serves
 line_comes s (Ok AskRoutes) before after told serves = look_comes s AskRoutes before after told serves
 line_comes s (Ok AskListComponents) before after told serves = look_comes s AskListComponents before after told serves
+line_comes s (Ok AskGraph) before after told serves = look_comes s AskGraph before after told serves
 line_comes s (Ok (AskDetails configuration)) before after told serves = look_comes s (AskDetails configuration) before after told serves
 line_comes s (Ok (AskAboutService service)) before after told serves = look_comes s (AskAboutService service) before after told serves
 line_comes s (Ok (AskDescriptions bundle)) before after told serves = look_comes s (AskDescriptions bundle) before after told serves

@@ -11,7 +11,7 @@ use Rattle.scr_world.specs.declared.command.Command.{Command as CoreCommand}
 use Rattle.scr_world.specs.declared.reply.CoreFault.{CoreFault}
 use Rattle.scr_world.specs.declared.reply.CoreFault.TheVariants.{NoBundle, NoComponent, WrongState, Stopping, SameName, Cycle, BundlesFull, ComponentsFull, ServicesFull, ConfigurationsFull, ListenersFull, NoService, NotOwner, NotUsing, NoListener, NoConfiguration, BadPid, FactoryClash, ActivationFailed, ActivationNoMemory, JournalFull as InCore, OutOfMemory as NoMemoryThere}
 use Rattle.shell_lang.specs.declared.shell_line.ShellLine.{ShellLine}
-use Rattle.shell_lang.specs.declared.shell_line.ShellLine.TheVariants.{Silent, Quit, Help, Command, Settle, Begin, Finish, Call, Http, Bundles, Services, Components, Report, Held, ListComponents, Details, AboutService, Descriptions, Find, Events, BundleEvents, Trace, Wiring, BundleWiring, Routes, Configurations, Configuration, Listeners, Journal}
+use Rattle.shell_lang.specs.declared.shell_line.ShellLine.TheVariants.{Silent, Quit, Help, Command, Settle, Begin, Finish, Call, Http, Bundles, Services, Components, Report, Held, ListComponents, Graph, Details, AboutService, Descriptions, Find, Events, BundleEvents, Trace, Wiring, BundleWiring, Routes, Configurations, Configuration, Listeners, Journal}
 use Rattle.shell_lang.specs.declared.shell_reply.ShellReply.{ShellReply}
 use Rattle.session_shell.specs.Answers.{IsLooked, LooksOr, Serves, ServesOr, StopsBy, TellsFault}
 use Rattle.session_shell.specs.Items.{ServesCommand, ServesLine, ServesLook, ServesSettle, Setting, line_at}
@@ -88,6 +88,7 @@ look_line s Wiring before after item is looks = (item, looks, refl)
 look_line s (BundleWiring bundle) before after item is looks = (item, looks, refl)
 look_line s Routes before after item is looks = (item, looks, refl)
 look_line s ListComponents before after item is looks = (item, looks, refl)
+look_line s Graph before after item is looks = (item, looks, refl)
 look_line s (Details configuration) before after item is looks = (item, looks, refl)
 look_line s (AboutService service) before after item is looks = (item, looks, refl)
 look_line s (Descriptions bundle) before after item is looks = (item, looks, refl)
@@ -119,6 +120,7 @@ look_starves s Wiring before after is went = went
 look_starves s (BundleWiring bundle) before after is went = went
 look_starves s Routes before after is went = went
 look_starves s ListComponents before after is went = went
+look_starves s Graph before after is went = went
 look_starves s (Details configuration) before after is went = went
 look_starves s (AboutService service) before after is went = went
 look_starves s (Descriptions bundle) before after is went = went

@@ -5,7 +5,7 @@ use Rattle.hall_goings.specs.Went.{Went}
 use Rattle.hall_goings.proofs.Chains.{went_nowhere, went_on}
 use Rattle.platform_sessions.specs.Halls.{Own, View}
 use Rattle.shell_lang.specs.ShellLines.{Asked, shell_line}
-use Rattle.shell_lang.specs.declared.shell_line.ShellLine.TheVariants.{Silent, Quit as AskQuit, Help as AskHelp, Command as Commanded, Bundles as AskBundles, Services as AskServices, Components as AskComponents, Report as AskReport, Held as AskHeld, ListComponents as AskListComponents, Details as AskDetails, AboutService as AskAboutService, Descriptions as AskDescriptions, Find as AskFind, Events as AskEvents, BundleEvents as AskBundleEvents, Trace as AskTrace, Wiring as AskWiring, BundleWiring as AskBundleWiring, Routes as AskRoutes, Configurations as AskConfigurations, Configuration as AskConfiguration, Listeners as AskListeners, Journal as AskJournal, Settle, Begin, Finish, Call, Http}
+use Rattle.shell_lang.specs.declared.shell_line.ShellLine.TheVariants.{Silent, Quit as AskQuit, Help as AskHelp, Command as Commanded, Bundles as AskBundles, Services as AskServices, Components as AskComponents, Report as AskReport, Held as AskHeld, ListComponents as AskListComponents, Graph as AskGraph, Details as AskDetails, AboutService as AskAboutService, Descriptions as AskDescriptions, Find as AskFind, Events as AskEvents, BundleEvents as AskBundleEvents, Trace as AskTrace, Wiring as AskWiring, BundleWiring as AskBundleWiring, Routes as AskRoutes, Configurations as AskConfigurations, Configuration as AskConfiguration, Listeners as AskListeners, Journal as AskJournal, Settle, Begin, Finish, Call, Http}
 use Rattle.session_shell.specs.Items.{Setting}
 use Rattle.session_shell.specs.Sessions.{FillsUp, HasServedOver, Starves, Stops, WantsMemory}
 use Rattle.session_shell.specs.declared.item.SessionItem.{SessionItem}
@@ -46,6 +46,7 @@ fills_goes s (Ok AskWiring) before after fills = absurd fills
 fills_goes s (Ok (AskBundleWiring bundle)) before after fills = absurd fills
 fills_goes s (Ok AskRoutes) before after fills = absurd fills
 fills_goes s (Ok AskListComponents) before after fills = absurd fills
+fills_goes s (Ok AskGraph) before after fills = absurd fills
 fills_goes s (Ok (AskDetails configuration)) before after fills = absurd fills
 fills_goes s (Ok (AskAboutService service)) before after fills = absurd fills
 fills_goes s (Ok (AskDescriptions bundle)) before after fills = absurd fills
@@ -78,6 +79,7 @@ starves_goes s (Ok AskWiring) before after starves = ([], starves)
 starves_goes s (Ok (AskBundleWiring bundle)) before after starves = ([], starves)
 starves_goes s (Ok AskRoutes) before after starves = ([], starves)
 starves_goes s (Ok AskListComponents) before after starves = ([], starves)
+starves_goes s (Ok AskGraph) before after starves = ([], starves)
 starves_goes s (Ok (AskDetails configuration)) before after starves = ([], starves)
 starves_goes s (Ok (AskAboutService service)) before after starves = ([], starves)
 starves_goes s (Ok (AskDescriptions bundle)) before after starves = ([], starves)

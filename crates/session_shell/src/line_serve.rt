@@ -104,6 +104,7 @@ fn serve_deed<R: Wait, K: Kinds + Drop>(
         | ShellLine::BundleWiring { .. }
         | ShellLine::Routes
         | ShellLine::ListComponents
+        | ShellLine::Graph
         | ShellLine::Details { .. }
         | ShellLine::AboutService { .. }
         | ShellLine::Descriptions { .. }

@@ -155,16 +155,17 @@ fn what_is_there_is_told_to_a_session(rt: HostRuntime) {
         "service 1",
         "descriptions 1",
         "details 1",
+        "graph",
     ];
     let replies =
-        b"ok\nok 1\nA - -\nok {\"service.pid\":\"A\"}\nok 0\nok 1 0 100\nok 0\nrefused NoService 1\nrefused NoBundle 1\nrefused NoComponent 1\n";
+        b"ok\nok 1\nA - -\nok {\"service.pid\":\"A\"}\nok 0\nok 1 0 100\nok 0\nrefused NoService 1\nrefused NoBundle 1\nrefused NoComponent 1\nok 2\ndigraph osgi {\n}\n";
     assert!(rt;
         is_served(
             &rt,
             rt.alloc(),
             LIMITS,
             &lines,
-            (SessionEnd::EndOfInput, 9, replies)
+            (SessionEnd::EndOfInput, 10, replies)
         )
     );
 }

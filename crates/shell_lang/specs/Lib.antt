@@ -18,5 +18,7 @@ pub mod RowTexts
 pub mod ServiceTexts
 pub mod DescriptionTexts
 pub mod ListedTexts
+pub mod QuotedTexts
+pub mod GraphTexts
 pub mod ReplyTexts
 pub mod Loads

@@ -3,11 +3,11 @@ use Rattle.std.specs.Prelude.{ℕ, List, ◌++◌, codes}
 use Rattle.std.specs.Fmt.{decimal}
 use Rattle.std.specs.Str.Lossy.{utf8_lossy}
 use Rattle.shell_lang.specs.Help.{help_text}
-use Rattle.serde_json.specs.Data.{string}
-use Rattle.serde_json.specs.Written.{compact_text}
 use Rattle.shell_lang.specs.ConfigurationTexts.{configuration_text}
 use Rattle.shell_lang.specs.DescriptionTexts.{description_text}
+use Rattle.shell_lang.specs.GraphTexts.{graph_text}
 use Rattle.shell_lang.specs.ListedTexts.{listed_text}
+use Rattle.shell_lang.specs.QuotedTexts.{quoted_text}
 use Rattle.shell_lang.specs.RefusalTexts.{refusal_text}
 use Rattle.shell_lang.specs.RouteTexts.{route_text}
 use Rattle.shell_lang.specs.RowTexts.{bundle_event_text, bundle_text, component_text, held_text, listener_text, number_text, placed_rows_text, registered_text, rows_text, service_event_text}
@@ -15,11 +15,7 @@ use Rattle.shell_lang.specs.ServiceTexts.{service_fact_text}
 use Rattle.shell_lang.specs.TurnTexts.{finished_text, trace_text, turn_text}
 use Rattle.shell_lang.specs.WiringTexts.{need_text, wiring_text}
 use Rattle.shell_lang.specs.declared.shell_reply.ShellReply.{ShellReply}
-use Rattle.shell_lang.specs.declared.shell_reply.ShellReply.TheVariants.{Done, Help, Bundle, Service, Uses, Listener, Bundles, Services, Components, Report, Held, Listed, Details, ServiceFacts, Descriptions, Found, Events, BundleEvents, Trace, Wiring, BundleWiring, Routes, Configurations, Configuration, Listeners, Journal, Turns, Begun, Idle, Finished, Text, Http, Refused}
-
--- a text in quotes, as JSON has it
-abbrev pub quoted_text : List ℕ → List ℕ
-quoted_text text = compact_text (string text)
+use Rattle.shell_lang.specs.declared.shell_reply.ShellReply.TheVariants.{Done, Help, Bundle, Service, Uses, Listener, Bundles, Services, Components, Report, Held, Listed, Details, ServiceFacts, Descriptions, Graph, Found, Events, BundleEvents, Trace, Wiring, BundleWiring, Routes, Configurations, Configuration, Listeners, Journal, Turns, Begun, Idle, Finished, Text, Http, Refused}
 
 -- a status, a service and a text as it is shown
 abbrev pub status_text : ℕ → ℕ → List ℕ → List ℕ
@@ -46,6 +42,7 @@ reply_text (Listed rows) = rows_text listed_text rows
 reply_text (Details text) = codes "ok " ++ text ++ codes "\n"
 reply_text (ServiceFacts rows) = rows_text service_fact_text rows
 reply_text (Descriptions rows) = rows_text description_text rows
+reply_text (Graph rows) = rows_text graph_text rows
 reply_text (Found numbers) = rows_text number_text numbers
 reply_text (Events before events) = placed_rows_text service_event_text before events
 reply_text (BundleEvents before events) = placed_rows_text bundle_event_text before events

@@ -7,7 +7,7 @@ use Rattle.scr_world.specs.declared.command.Command.TheVariants.{Install, Update
 use Rattle.shell_lang.specs.declared.line_fault.LineFault.{LineFault}
 use Rattle.shell_lang.specs.declared.line_fault.LineFault.TheVariants.{UnknownCommand}
 use Rattle.shell_lang.specs.declared.shell_line.ShellLine.{ShellLine}
-use Rattle.shell_lang.specs.declared.shell_line.ShellLine.TheVariants.{Silent, Quit, Command as Commanded, Bundles, Services, Components, Report, Held, ListComponents, Details, AboutService, Descriptions, Find, Events, BundleEvents, Trace, Wiring, BundleWiring, Routes, Configurations, Configuration, Listeners, Journal, Settle, Begin, Finish, Call}
+use Rattle.shell_lang.specs.declared.shell_line.ShellLine.TheVariants.{Silent, Quit, Command as Commanded, Bundles, Services, Components, Report, Held, ListComponents, Graph, Details, AboutService, Descriptions, Find, Events, BundleEvents, Trace, Wiring, BundleWiring, Routes, Configurations, Configuration, Listeners, Journal, Settle, Begin, Finish, Call}
 use Rattle.shell_lang.specs.Arguments.{document_argument, filter_argument, properties_argument}
 use Rattle.shell_lang.specs.Help.{helping}
 use Rattle.shell_lang.specs.Interfaces.{interfaces_at}
@@ -145,9 +145,10 @@ bundle_line word rest =
 abbrev pub listing_line : List ℕ → Option (List ℕ) → Asked
 listing_line word rest =
     if bytes_eq word (codes "list") then alone ListComponents rest
+    else (if bytes_eq word (codes "graph") then alone Graph rest
     else (if bytes_eq word (codes "configs") then alone Configurations rest
     else (if bytes_eq word (codes "listeners") then alone Listeners rest
-    else (if bytes_eq word (codes "journal") then alone Journal rest else bundle_line word rest)))
+    else (if bytes_eq word (codes "journal") then alone Journal rest else bundle_line word rest))))
 
 -- alone, or with a word of a line
 abbrev pub worded_line : List ℕ → Option (List ℕ) → Asked

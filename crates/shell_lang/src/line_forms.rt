@@ -41,6 +41,7 @@ fn listing_line(alloc: Global, word: &str, rest: Option<&str>) -> Result<ShellLi
 {
     match word {
         "list" => alone(ShellLine::ListComponents, rest),
+        "graph" => alone(ShellLine::Graph, rest),
         "configs" => alone(ShellLine::Configurations, rest),
         "listeners" => alone(ShellLine::Listeners, rest),
         "journal" => alone(ShellLine::Journal, rest),

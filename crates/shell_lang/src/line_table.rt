@@ -91,6 +91,10 @@ pub const LINES: &[(&str, &str)] = &[
         "held C",
         "tells the services that the instances of a component configuration hold",
     ),
+    (
+        "graph",
+        "tells bundles, services and component configurations as a graph in DOT",
+    ),
     ("trace P", "tells the turns behind number P"),
     (
         "journal",

@@ -1,15 +1,15 @@
 //! The text of a reply.
 ghost use Rattle.std.specs.Prelude.{◌≡◌, IfOk, codes, string_bytes};
-ghost use Rattle.shell_lang.specs.ReplyTexts.{journal_text, quoted_text, reply_text, status_text};
+ghost use Rattle.shell_lang.specs.ReplyTexts.{journal_text, reply_text, status_text};
 ghost use Rattle.shell_lang.specs.TurnTexts.{finished_text};
 
 use crate::ShellReply;
+use crate::quoted_text::quoted_text;
 use crate::refusal_text::refusal_text;
 use crate::row_text::{placed_rows_text, rows_text};
 use crate::turn_text::{finished_text, turn_text};
 use prop_map::OutOfMemory;
 use scr_world::TurnLine;
-use serde_json::Value;
 use std::alloc::Global;
 
 /// The text of a reply: one or more lines, each with its end.
@@ -41,6 +41,7 @@ fn reply_text(alloc: Global, reply: &ShellReply) -> Result<String, OutOfMemory>
         ShellReply::Details(text) => format!(in alloc; "ok {}\n", text.as_str()),
         ShellReply::ServiceFacts(rows) => rows_text(alloc, rows.as_slice()),
         ShellReply::Descriptions(rows) => rows_text(alloc, rows.as_slice()),
+        ShellReply::Graph(rows) => rows_text(alloc, rows.as_slice()),
         ShellReply::Found(numbers) => rows_text(alloc, numbers.as_slice()),
         ShellReply::Events { before, events } => {
             placed_rows_text(alloc, *before, events.as_slice())
@@ -111,13 +112,4 @@ fn status_text(alloc: Global, status: u16, service: u64, shown: &str) -> Result<
     ensures { IfOk result (λ line. string_bytes line ≡ status_text status service shown.now) }
 {
     format!(in alloc; "ok {status} {service} {shown}\n")
-}
-
-// A text in quotes, as JSON has it.
-fn quoted_text(alloc: Global, text: &str) -> Result<String, OutOfMemory>
-    ensures { IfOk result (λ quoted. string_bytes quoted ≡ quoted_text text.now) }
-{
-    let value = Value::try_from_str(alloc, text)?;
-    let quoted = value.to_string(alloc)?;
-    Ok(quoted)
 }

@@ -34,6 +34,8 @@ pub enum ShellLine {
     },
     /// The component configurations, their states, and what they wait for.
     ListComponents,
+    /// The bundles, the services without a component and the component configurations as a graph.
+    Graph,
     /// All that is told of a component configuration.
     Details {
         /// Its number.

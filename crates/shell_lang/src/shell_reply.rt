@@ -1,8 +1,8 @@
 //! What lines are answered.
 
 use crate::{
-    CallRefusal, ConfigurationLine, DescriptionLine, LineFault, LineHelp, ListedLine, ListenerLine,
-    RouteLine, ServiceFact,
+    CallRefusal, ConfigurationLine, DescriptionLine, GraphLine, LineFault, LineHelp, ListedLine,
+    ListenerLine, RouteLine, ServiceFact,
 };
 use bundle_life::BundleEvent;
 use callback_orders::Outcome;
@@ -74,6 +74,8 @@ pub enum ShellReply {
     ServiceFacts(List<ServiceFact>),
     /// The descriptions of a bundle.
     Descriptions(List<DescriptionLine>),
+    /// The bundles, the services without a component and the component configurations as a graph.
+    Graph(List<GraphLine>),
     /// The numbers of services, the best first.
     Found(List<u64>),
     /// What a listener was told.
