@@ -1,0 +1,14 @@
+pub mod Parts
+pub mod Cycles
+pub mod Entries
+pub mod Drains
+pub mod Turns
+pub mod Settlings
+pub mod Commands
+pub mod Evaluations
+pub mod Calls
+pub mod Requests
+pub mod Held
+pub mod Lines
+pub mod Runs
+pub mod SameRuns
