@@ -8,9 +8,10 @@ use Rattle.callback_orders.specs.declared.callback.Outcome.{Outcome}
 use Rattle.gate_keeper.specs.Keepers.{AreOpen, CanComeBack, CanReopen, HasAll, IsOrderly, KeeperView, ShutsAll, Takes, all_shelved, is_some_key}
 use Rattle.gate_keeper.proofs.Alone.{all_gate}
 use Rattle.journal_core.specs.declared.entry.GateKey.{GateKey}
-use Rattle.hall_locked.specs.Locks.{HasGates, IsLocked, KnowsGates, LockedView, PostsAt, PostsOne, first_key, owned_of, rest_of}
+use Rattle.hall_locked.specs.Locks.{HasGates, IsLocked, KnowsGates, LockedView, PostsAt, PostsOne, first_key, log_of, owned_of, rest_of}
 use Rattle.hall_locked.specs.Moving.{reopened_if}
 use Rattle.hall_locked.specs.OwnedCores.{IsOwned, PostsKey, TellsGates}
+use Rattle.hall_locked.specs.Uses.{AreKeptGets}
 use Rattle.hall_locked.proofs.Awaiting.{drain_awaits, has_slots, knows_gates, owed_is}
 use Rattle.hall_locked.proofs.Gates.{command_gates, command_opens, drain_gates, end_gates, end_opens, end_reopens, put_back}
 use Rattle.platform_hall.specs.Platforms.{CoreTakes, Ends, has_drain, world}
@@ -46,8 +47,8 @@ owed_behind before after seen legal k orderly gates entries owes many same is =
     ∙ ap (λ b. nat_lt (length before.journal) (length after.journal) && b) (owed_now after legal k orderly gates)
 
 -- and so all is kept that its type keeps
-pub all_locked : {O : Type 0} (l : LockedView O) → IsOwned (owned_of l) → HasGates (world l.core) l.keeper → IsLocked l
-all_locked l own gates = record { owners = own.owners; tokens = own.tokens; parts = own.parts; sites = own.sites; gates = gates }
+pub all_locked : {O : Type 0} (l : LockedView O) → IsOwned (owned_of l) → AreKeptGets (log_of l) l.uses → HasGates (world l.core) l.keeper → IsLocked l
+all_locked l own uses gates = record { owners = own.owners; tokens = own.tokens; parts = own.parts; sites = own.sites; uses = uses; gates = gates }
 
 -- ---- a command that is taken
 

@@ -203,7 +203,7 @@ module _ (limit : ℕ) (old new : List (Entry Step)) (step : Step) (legal : IsLe
       ∙ ap (λ o. level_drained drained (level_reopened o slot was)) none
 
   -- an entry that changes no gate
-  gates_still : shuts_nothing step ≡ true → reopened_in step (world_at old) ≡ None → ((slot : ℕ) → is_drained_in step (world_at old) slot ≡ false) → (k : KeeperView) → HasGates (world_at old) k → HasGates (world_at new) k
+  pub gates_still : shuts_nothing step ≡ true → reopened_in step (world_at old) ≡ None → ((slot : ℕ) → is_drained_in step (world_at old) slot ≡ false) → (k : KeeperView) → HasGates (world_at old) k → HasGates (world_at new) k
   gates_still nothing none undrained k gates = record {
     slots = gates.slots;
     levels = kept_alike (slot_level (world_at old)) (slot_level (world_at new)) k (λ slot. sym (level_then nothing none slot ∙ ap (λ b. level_drained b (slot_level (world_at old) slot)) (undrained slot))) gates.levels;

@@ -12,6 +12,8 @@ pub mod Placed
 mod Generations
 mod Awaiting
 mod Gates
+pub mod Uses
+mod Getting
 mod Calls
 pub use Rattle.platform_hall.proofs.Desks
 pub use Rattle.platform_hall.proofs.Lists

@@ -36,7 +36,7 @@ module _ (O : RattleType) (sends : IsSend O) (syncs : IsSync O) where
   locked_inside_send : IsSend (LockedInside.the_row O)
   locked_inside_send =
       recorded_send _ _ _ (LockedInside.the_type O).to_one
-      (struct_send (shape (LockedInside.the_type O)) (owned_send, (search (gates.the_send, sendable), (search (keeper.the_send, sendable), tt))))
+      (struct_send (shape (LockedInside.the_type O)) (owned_send, (search (gates.the_send, sendable), (search (keeper.the_send, sendable), (Vec-send _ (search sendable depth 60 fits 20000), tt)))))
 
   pub locked_send : IsSend (Locked.the_row O)
   locked_send = view_send _ _ _ _ _ locked_inside_send

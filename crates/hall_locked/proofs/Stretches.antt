@@ -41,7 +41,7 @@ module _ {O : Type 0} where
   }
 
   module _ (owner : ℕ) (before : OwnedView O) (core : CoreView) (owners : List ℕ) (legal : HasLegal before.core) (locked : IsOwned before) (named : owners ≡ owners_up_to (length core.journal) owner before.owners) where
-    by_one : GrowsByOne before.core.journal core.journal → IsAlike (world before.core) (world core) → SitesStay (world before.core) (world core) → IsRight owner before (changed_to before core owners)
+    pub by_one : GrowsByOne before.core.journal core.journal → IsAlike (world before.core) (world core) → SitesStay (world before.core) (world core) → IsRight owner before (changed_to before core owners)
     by_one grows alike stay = record {
       locked = owned_alike before core owners (ap length named ∙ as_many owner before.core.journal core.journal before.owners locked.owners grows) alike stay locked;
       appends = appends_for owner before (changed_to before core owners) locked.owners named grows;

@@ -1,6 +1,7 @@
 pub mod Cores
 pub mod Owned
 pub mod OwnedCores
+pub mod Uses
 pub mod Moving
 pub mod Locks
 pub mod Parts

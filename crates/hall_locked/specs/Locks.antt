@@ -1,14 +1,15 @@
 -- What lies under the lock of a hall, as contracts see it, and what its calls do. Our own; callbacks are OSGi
 -- Compendium 8, chapter 112, component life cycle.
-use Rattle.std.specs.Prelude.{◌≡◌, ℕ, ◌%◌, ◌⊎◌, ◌&&◌, List, [], ◌∷◌, Option, Some, None, length, not, slice_index, true, false}
+use Rattle.std.specs.Prelude.{◌≡◌, ℕ, ◌%◌, ◌⊎◌, ◌&&◌, List, [], ◌∷◌, ◌++◌, Option, Some, None, length, map, not, slice_index, true, false}
 use Rattle.std.specs.List.{Contains}
 use Rattle.call_gate.specs.Calls.{KnownClaimed, KnownOpen, slots_in}
 use Rattle.gate_keeper.specs.Keepers.{HasAll, IsKept, KeeperView, NoneShut, is_shelved}
 use Rattle.journal_core.specs.declared.entry.Entry.{Entry}
 use Rattle.journal_core.specs.declared.entry.GateKey.{GateKey}
 use Rattle.prop_map.specs.Words.{one_if}
-use Rattle.hall_locked.specs.Owned.{turn_numbers}
+use Rattle.hall_locked.specs.Owned.{as_use, turn_numbers}
 use Rattle.hall_locked.specs.OwnedCores.{AppendsOwned, IsSiteOf, OwnedView, PostsKey, log_owned, parts_of, turns_owned}
+use Rattle.hall_locked.specs.Uses.{AreKeptGets}
 use Rattle.hall_locked.specs.declared.part.Part.{Part}
 use Rattle.platform_hall.specs.Desks.{tokens_of}
 use Rattle.platform_hall.specs.Platforms.{has_object, world}
@@ -24,15 +25,17 @@ use Rattle.scr_world.specs.declared.step.Step.{Step}
 use Rattle.scr_world.specs.declared.world.World.{World}
 
 -- the core, the owner of each entry, the oldest first, the turns under way, each behind its owner, in the order in
--- which they began, what is kept for the instances, and the keeper of their gates
+-- which they began, what is kept for the instances, the gets by token that weren't given back, each behind its owner, in
+-- the order in which they were got, and the keeper of the gates
 pub record LockedView (O : Type 0) : Type 0 where
   pub core : CoreView
   pub owners : List ℕ
   pub turns : List (ℕ × ℕ)
   pub parts : List (Part O)
+  pub uses : List (ℕ × ℕ)
   pub keeper : KeeperView
 
--- without the keeper
+-- without the gets and the keeper
 abbrev pub owned_of : {O : Type 0} → LockedView O → OwnedView O
 owned_of l = record { core = l.core; owners = l.owners; turns = l.turns; parts = l.parts }
 
@@ -58,6 +61,14 @@ limits_code limits = limits.journal ∷ limits.turns ∷ []
 abbrev pub turns_kept : {O : Type 0} → LockedView O → List (ℕ × ℕ)
 turns_kept l = turns_owned (owned_of l)
 
+-- the gets by token that weren't given back, each with its owner: standing or not
+abbrev pub uses_kept : {O : Type 0} → LockedView O → List (ℕ × ℕ)
+uses_kept l = map as_use l.uses
+
+-- all of these, beside each other
+abbrev pub things_kept : {O : Type 0} → LockedView O → List (ℕ × ℕ)
+things_kept l = turns_kept l ++ uses_kept l
+
 -- ---- what its type keeps
 
 -- the keeper's level of each slot is that of the world, or closed where its drain is on the shelf
@@ -73,12 +84,14 @@ pub record HasGates (w : World) (keeper : KeeperView) : Type 0 where
   pub none_shut : NoneShut keeper
 
 -- as many owners as entries; one token for each turn under way and none for any other; one part for each instance
--- that was made and none for any other, with its site; and the gates as the world has them
+-- that was made and none for any other, with its site; what is kept of gets was got by its owner and isn't released; and the
+-- gates are as the world has them
 pub record IsLocked {O : Type 0} (l : LockedView O) : Type 0 where
   pub owners : length l.owners ≡ length l.core.journal
   pub tokens : (turn : ℕ) → tokens_of (turn_numbers l.turns) turn ≡ one_if (is_under_way (world l.core) turn)
   pub parts : (instance : ℕ) → parts_of l.parts instance ≡ one_if (has_object l.core instance)
   pub sites : (part : Part O) → Contains l.parts part → IsSiteOf (world l.core) part
+  pub uses : AreKeptGets (log_of l) l.uses
   pub gates : HasGates (world l.core) l.keeper
 
 -- ---- drains

@@ -1,5 +1,5 @@
 -- Entries and turns, each with its owner, the number of a pass. Our own.
-use Rattle.std.specs.Prelude.{ℕ, ◌*◌, ◌==◌, List, [], ◌∷◌, ◌++◌, filter, length, map, nat_lt, not, if◌then◌else◌}
+use Rattle.std.specs.Prelude.{ℕ, ◌+◌, ◌*◌, ◌==◌, List, [], ◌∷◌, ◌++◌, filter, length, map, nat_lt, not, if◌then◌else◌}
 
 module _ {E : Type 0} where
   -- each entry with its owner
@@ -31,3 +31,16 @@ turn_thing turn = 2 * turn
 
 abbrev pub as_kept : ℕ × ℕ → ℕ × ℕ
 as_kept begun = (begun.0, turn_thing begun.1)
+
+-- ---- gets by token: the owner, and the place of the entry
+
+-- those that are left once one was given back
+abbrev pub without_use : ℕ → List (ℕ × ℕ) → List (ℕ × ℕ)
+without_use place uses = filter (λ (u : ℕ × ℕ). not (u.1 == place)) uses
+
+-- a get by token as a thing that is kept for a pass: the odd ones
+abbrev pub use_thing : ℕ → ℕ
+use_thing place = 2 * place + 1
+
+abbrev pub as_use : ℕ × ℕ → ℕ × ℕ
+as_use got = (got.0, use_thing got.1)

@@ -34,22 +34,27 @@ use turn_runner::Ran;
 const SLOTS: u32 = 70_000;
 
 /// What lies under the lock of a hall. Contracts see what they see of the core, the owner of each entry, the turns
-/// under way, each with its owner, what is kept for the instances, and the keeper of their gates.
+/// under way, each with its owner, what is kept for the instances, the gets by token that weren't given back, each
+/// with its owner, and the keeper of the gates.
 ///
 /// Its journal is legal, and has as many owners as entries. A token is kept for each turn under way and none for any
 /// other, and a part for each living instance that was made, with the class and the properties that it was told at
-/// its Create or its last Modified, and for no other. The gate of each slot is as far as the journal has it: open,
+/// its Create or its last Modified, and for no other. What is kept of gets was got by its owner, and nobody has
+/// released it. The gate of each slot is as far as the journal has it: open,
 /// shut or closed, and a shut one is closed already where its drain is on the shelf. No seat was handed out, so nobody
 /// is inside, and the drain of each shut gate is there.
 #[derive(Drop)]
 pub struct Locked<O> {
-    own: OwnedCore<O>,
-    gate: CallGate,
-    keeper: Keeper,
+    pub(crate) own: OwnedCore<O>,
+    pub(crate) gate: CallGate,
+    pub(crate) keeper: Keeper,
+    pub(crate) uses: Vec<(u64, u64)>,
 }
 
 impl<O> Model for Locked<O> {
     ghost use Rattle.hall_locked.specs.Locks.{HasGates, LockedView};
+    ghost use Rattle.hall_locked.specs.OwnedCores.{log_owned};
+    ghost use Rattle.hall_locked.specs.Uses.{AreKeptGets};
     ghost use Rattle.ldap_filter.specs.TreeCodes.{tree_code};
     ghost use Rattle.platform_hall.specs.Platforms.{world};
     ghost use Rattle.std.specs.Coded.{codes};
@@ -59,19 +64,19 @@ impl<O> Model for Locked<O> {
 
     ghost coded = { Prim.hlevel (codes, tree_code) };
 
-    ghost view = { λ l. record { core = l.own.core; owners = l.own.owners; turns = l.own.turns; parts = l.own.parts; keeper = l.keeper } };
+    ghost view = { λ l. record { core = l.own.core; owners = l.own.owners; turns = l.own.turns; parts = l.own.parts; uses = l.uses.items; keeper = l.keeper } };
 
-    ghost invariant = { λ l. HasGates (world l.own.core) l.keeper × (l.keeper.gate ≡ l.gate) };
+    ghost invariant = { λ l. HasGates (world l.own.core) l.keeper × (l.keeper.gate ≡ l.gate) × AreKeptGets (log_owned l.own) l.uses.items };
 }
 
 impl<O> Grows for Locked<O> {
-    ghost use Rattle.hall_locked.specs.Locks.{limits_code, log_of, turns_kept};
+    ghost use Rattle.hall_locked.specs.Locks.{limits_code, log_of, things_kept};
 
     type Entry = Entry<Step>;
 
     ghost entries = { λ l. log_of l };
 
-    ghost kept = { λ l. turns_kept l };
+    ghost kept = { λ l. things_kept l };
 
     ghost tie = { λ l. limits_code l.core.limits };
 
@@ -88,13 +93,21 @@ impl<O: Drop> Locked<O> {
     /// Only want of memory.
     pub fn new(alloc: Global, limits: Limits) -> Result<Locked<O>, CoreFault>
         requires within { AreWithinGreatest limits }
-        ensures ok { IfOk result (λ l. (l.core ≡ record { limits = limits; journal = [] }) × (l.owners ≡ []) × (l.turns ≡ []) × (l.parts ≡ [])) }
+        ensures ok { IfOk result (λ l. (l.core ≡ record { limits = limits; journal = [] }) × (l.owners ≡ []) × (l.turns ≡ []) × (l.parts ≡ []) × (l.uses ≡ [])) }
         ensures shelf { IfOk result (λ l. l.keeper.shelf ≡ []) }
         ensures err { IfErr result (λ fault. fault ≡ NoMemory) }
     {
         let own = OwnedCore::new(alloc, limits)?;
         match Keeper::new(alloc, SLOTS) {
-            Ok((gate, keeper)) => Ok(Locked { own, gate, keeper }),
+            Ok((gate, keeper)) => {
+                let uses = Vec::new(alloc);
+                Ok(Locked {
+                    own,
+                    gate,
+                    keeper,
+                    uses,
+                })
+            }
             Err(_) => {
                 let_go(own);
                 Err(CoreFault::OutOfMemory)
@@ -153,6 +166,7 @@ impl<O: Drop> Locked<O> {
         ensures appended { AppendsFor owner self.old self.new }
         ensures turns { self.new.turns ≡ self.old.turns }
         ensures parts { self.new.parts ≡ self.old.parts }
+        ensures uses { self.new.uses ≡ self.old.uses }
         ensures owed { IfOk result (λ r. is_some r.1 ≡ (nat_lt (length self.old.core.journal) (length self.new.core.journal) && has_drain self.new.core)) }
         ensures refused { OnErr result (self.new ≡ self.old) }
         ensures limits { self.new.core.limits ≡ self.old.core.limits }
@@ -187,6 +201,7 @@ impl<O: Drop> Locked<O> {
         ensures appended { AppendsFor owner self.old self.new }
         ensures turns { self.new.turns ≡ self.old.turns }
         ensures parts { self.new.parts ≡ self.old.parts }
+        ensures uses { self.new.uses ≡ self.old.uses }
         ensures owed { IfOk result (λ left. is_some left ≡ has_drain self.new.core) }
         ensures err { OnErr result (self.new ≡ self.old) }
         ensures limits { self.new.core.limits ≡ self.old.core.limits }
@@ -213,7 +228,7 @@ impl<O: Drop> Locked<O> {
 
     /// Begins the first due turn for this owner, and answers its number: `None` exactly where none is due. Its work
     /// is what the core says of the turn. The part of its instance, if there is one, has the site of that work then;
-    /// the other parts, the other turns, and the gates are as they were.
+    /// the other parts, the other turns, the gets and the gates are as they were.
     ///
     /// # Errors
     /// `JournalFull` exactly where a turn is due and the journal has no room for it; otherwise only want of memory.
@@ -223,6 +238,7 @@ impl<O: Drop> Locked<O> {
         ensures appended { AppendsFor owner self.old self.new }
         ensures turns { self.new.turns ≡ with_begun owner result self.old.turns }
         ensures parts { self.new.parts ≡ parts_begun self.new.core result self.old.parts }
+        ensures uses { self.new.uses ≡ self.old.uses }
         ensures keeper { self.new.keeper ≡ self.old.keeper }
         ensures refused { OnErr result (self.new ≡ self.old) }
         ensures limits { self.new.core.limits ≡ self.old.core.limits }
@@ -251,6 +267,7 @@ impl<O: Drop> Locked<O> {
         ensures turns { OnOk result (self.new.turns ≡ without_turn turn self.old.turns) }
         ensures others { (n : ℕ) → has_begun n turn self.old.turns ≡ false → kept_under n (turns_kept self.new) ≡ kept_under n (turns_kept self.old) }
         ensures parts { OnOk result (ArePartsLeft arc_value (running self.old.core turn) ran.made self.old.parts self.new.parts) }
+        ensures uses { self.new.uses ≡ self.old.uses }
         ensures owed { IfOk result (λ left. is_some left ≡ has_drain self.new.core) }
         ensures err { OnErr result (self.new ≡ self.old) }
         ensures back { IfErr result (λ e. e.0 ≡ ran) }
@@ -275,16 +292,22 @@ impl<O: Drop> Locked<O> {
         }
     }
 
-    /// The journal, with the owner of each entry. The tokens, the parts and the gates are let go. It takes no memory.
+    /// The journal, with the owner of each entry. All else is let go. It takes no memory.
     pub fn into_journal(self) -> (Journal<Step>, Vec<u64>)
         ensures entries { (result.0.entries ≡ self.core.journal) × (result.1.items ≡ self.owners) }
         ensures limit { result.0.limit ≡ self.core.limits.journal }
         ensures many { length result.1.items ≡ length result.0.entries }
         ensures legal { IsLegal self.core.limits.journal (history_of self.core.journal) }
     {
-        let Locked { own, gate, keeper } = self;
+        let Locked {
+            own,
+            gate,
+            keeper,
+            uses,
+        } = self;
         let_go(gate);
         let_go(keeper);
+        let_go(uses);
         own.into_journal()
     }
 }

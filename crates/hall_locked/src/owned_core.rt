@@ -35,8 +35,8 @@ use turn_runner::Ran;
 // its Create or its last Modified, and for no other.
 #[derive(Drop)]
 pub(crate) struct OwnedCore<O> {
-    core: Core,
-    owners: Vec<u64>,
+    pub(crate) core: Core,
+    pub(crate) owners: Vec<u64>,
     turns: Vec<(u64, Turn)>,
     parts: Vec<Part<O>>,
 }

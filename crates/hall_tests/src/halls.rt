@@ -1,11 +1,12 @@
 //! Halls that sessions share.
 ghost use Rattle.platform_sessions.specs.Halls.{IsOf, KeepsPass};
+ghost use Rattle.platform_sessions.specs.Uses.{HasUse};
 ghost use Rattle.std.specs.Prelude.{◌≡◌, ◌+◌, IfSome};
 
 use crate::samples::{IMMEDIATE, LIMITS, PROVIDER, install};
 use demonstration_kinds::Demonstration;
 use journal_core::Journal;
-use platform_sessions::{Core, Hall, HallPass, LockFault, Look};
+use platform_sessions::{Core, Hall, HallPass, LockFault, Look, ServiceUse};
 use scr_world::{Command, Reply, Step};
 use std::alloc::Global;
 use std::sync::Wait;
@@ -21,6 +22,10 @@ enum Deed {
     Split,
     // The hall is told to close.
     Close,
+    // A service is got and given back.
+    Get,
+    // It is given back once its bundle was stopped.
+    Lose,
 }
 
 // Whether a command is answered so.
@@ -163,6 +168,66 @@ fn fills<R: Wait>(rt: &R, hall: &DemoHall, pass: HallPass) -> bool
     }
 }
 
+// Whether the get of a service is given back as one that stood, or as one that didn't.
+fn gives_back<R: Wait>(
+    rt: &R,
+    alloc: Global,
+    hall: &DemoHall,
+    pass: &mut HallPass,
+    used: ServiceUse,
+    wanted: bool,
+) -> bool
+    requires of { IsOf hall.now pass.old }
+    requires has { HasUse used pass.old.front }
+{
+    match hall.release(rt, alloc, pass, used) {
+        Ok(stood) => stood == wanted,
+        Err(_) => false,
+    }
+}
+
+// Whether the get of a service is gone once its bundle was stopped.
+fn loses<R: Wait>(
+    rt: &R,
+    alloc: Global,
+    hall: &DemoHall,
+    pass: &mut HallPass,
+    used: ServiceUse,
+) -> bool
+    requires of { IsOf hall.now pass.old }
+    requires has { HasUse used pass.old.front }
+{
+    match hall.command(rt, alloc, pass, Command::Stop { bundle: 1 }) {
+        Ok(_) => gives_back(rt, alloc, hall, pass, used, false),
+        Err(_) => false,
+    }
+}
+
+// Whether a bundle gets its own service and gives it back, once it was stopped or before.
+fn gets<R: Wait>(rt: &R, alloc: Global, hall: &DemoHall, pass: &mut HallPass, stops: bool) -> bool
+    requires { IsOf hall.now pass.old }
+{
+    match hall.get(rt, alloc, pass, 1, 1) {
+        Ok(used) => {
+            if stops {
+                loses(rt, alloc, hall, pass, used)
+            } else {
+                gives_back(rt, alloc, hall, pass, used, true)
+            }
+        }
+        Err(_) => false,
+    }
+}
+
+fn uses<R: Wait>(rt: &R, alloc: Global, hall: &DemoHall, pass: HallPass, stops: bool) -> bool
+    requires { IsOf hall.now pass }
+{
+    let mut pass = pass;
+    installs(rt, alloc, hall, &mut pass, PROVIDER, (1, Reply::Bundle(1)))
+        && starts(rt, alloc, hall, &mut pass)
+        && gets(rt, alloc, hall, &mut pass, stops)
+}
+
 fn closes(hall: &DemoHall, pass: HallPass) -> bool
     requires { IsOf hall.now pass }
 {
@@ -179,6 +244,8 @@ fn in_hall<R: Wait>(rt: &R, alloc: Global, deed: Deed) -> bool {
             Deed::Work => settles(rt, alloc, &hall, pass),
             Deed::Split => fills(rt, &hall, pass),
             Deed::Close => closes(&hall, pass),
+            Deed::Get => uses(rt, alloc, &hall, pass, false),
+            Deed::Lose => uses(rt, alloc, &hall, pass, true),
         },
         Err(_) => false,
     }
@@ -197,6 +264,16 @@ fn sixty_three_passes_can_be_split_off(rt: HostRuntime) {
 #[test]
 fn a_hall_is_told_to_close(rt: HostRuntime) {
     assert!(rt; in_hall(&rt, rt.alloc(), Deed::Close));
+}
+
+#[test]
+fn a_get_is_given_back(rt: HostRuntime) {
+    assert!(rt; in_hall(&rt, rt.alloc(), Deed::Get));
+}
+
+#[test]
+fn a_get_of_a_stopped_bundle_is_gone(rt: HostRuntime) {
+    assert!(rt; in_hall(&rt, rt.alloc(), Deed::Lose));
 }
 
 // Whether two sessions are told so: each installs the one bundle and starts it, no turn is due then, and both have seen

@@ -1,10 +1,11 @@
 pub mod Things
-pub mod Mine
 pub mod Stretches
+pub mod Mine
 pub mod Taking
 pub mod Goings
 pub mod Reading
 pub mod Handing
 pub mod Turning
+pub mod Using
 pub mod Working
 pub mod Sends

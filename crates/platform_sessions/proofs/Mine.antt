@@ -5,18 +5,19 @@ use Rattle.std.specs.List.{Contains, count_by}
 use Rattle.std.proofs.lemmas.Bool.{and_parts, cases_Bool, eqb-true, eq-eqb}
 use Rattle.std.proofs.lemmas.List.{append-nil, map-append}
 use Rattle.std.proofs.lemmas.List.Sums.{sum_by-append, sum_by-cons}
-use Rattle.component_state.proofs.Apart.{any_found, in_cases, in_first, in_left, in_none, in_right, kept_over}
+use Rattle.component_state.proofs.Apart.{any_found, in_cases, in_either, in_first, in_left, in_none, in_right, kept_over}
 use Rattle.front_lock.specs.Histories.{In}
 use Rattle.front_lock.specs.Keepings.{KeepsOthers, kept_by, kept_under}
 use Rattle.front_lock.proofs.Keepings.{keeps_added}
-use Rattle.hall_locked.specs.Locks.{IsLocked, LockedView, turns_kept}
-use Rattle.hall_locked.specs.Owned.{as_kept, turn_thing, without_turn}
+use Rattle.hall_locked.specs.Locks.{IsLocked, LockedView, things_kept, turns_kept, uses_kept}
+use Rattle.hall_locked.specs.Owned.{as_kept, as_use, turn_thing, use_thing, without_turn}
 use Rattle.hall_locked.specs.Parts.{has_begun, with_begun}
 use Rattle.hall_locked.proofs.Counts.{count_mapped}
 use Rattle.hall_locked.proofs.Placed.{one_at_most}
 use Rattle.hall_locked.specs.Platforms.{world}
 use Rattle.platform_sessions.specs.Works.{IsOneMore}
-use Rattle.platform_sessions.proofs.Things.{but_kept, halves, under_it}
+use Rattle.platform_sessions.proofs.Stretches.{same_things}
+use Rattle.platform_sessions.proofs.Things.{but_kept, halves, keeps_beside, turn_left, turn_or_use, under_it, use_halves}
 use Rattle.prop_map.specs.Words.{one_if}
 use Rattle.scr_laws.proofs.InstanceLemmas.{mapped_was}
 use Rattle.scr_world.specs.Legal.{is_under_way}
@@ -76,24 +77,30 @@ all_others turn (x ∷ xs) none = go (x.1 == turn) refl (all_others turn xs)
 -- ---- a turn that has begun
 
 -- nothing that others have changes
-pub begun_others : {O : Type 0} (owner : ℕ) (ns : List ℕ) → In owner ns → (answer : Result (Option ℕ) CoreFault) (before after : LockedView O) → after.turns ≡ with_begun owner answer before.turns → KeepsOthers ns (turns_kept before) (turns_kept after)
-begun_others owner ns here (Ok (Some turn)) before after grew =
+turns_others : {O : Type 0} (owner : ℕ) (ns : List ℕ) → In owner ns → (answer : Result (Option ℕ) CoreFault) (before after : LockedView O) → after.turns ≡ with_begun owner answer before.turns → KeepsOthers ns (turns_kept before) (turns_kept after)
+turns_others owner ns here (Ok (Some turn)) before after grew =
     let is : turns_kept before ++ (owner, turn_thing turn) ∷ [] ≡ turns_kept after = sym (ap (map as_kept) grew ∙ map-append as_kept before.turns ((owner, turn) ∷ [])) in
     subst (λ (xs : List (ℕ × ℕ)). KeepsOthers ns (turns_kept before) xs) is (keeps_added ns (owner, turn_thing turn) (turns_kept before) here)
-begun_others owner ns here (Ok None) before after same = λ n no. ap (λ (ts : List (ℕ × ℕ)). kept_under n (map as_kept ts)) same
-begun_others owner ns here (Err fault) before after same = λ n no. ap (λ (ts : List (ℕ × ℕ)). kept_under n (map as_kept ts)) same
+turns_others owner ns here (Ok None) before after same = λ n no. ap (λ (ts : List (ℕ × ℕ)). kept_under n (map as_kept ts)) same
+turns_others owner ns here (Err fault) before after same = λ n no. ap (λ (ts : List (ℕ × ℕ)). kept_under n (map as_kept ts)) same
+
+pub begun_others : {O : Type 0} (owner : ℕ) (ns : List ℕ) → In owner ns → (answer : Result (Option ℕ) CoreFault) (before after : LockedView O) → after.turns ≡ with_begun owner answer before.turns → after.uses ≡ before.uses
+    → KeepsOthers ns (things_kept before) (things_kept after)
+begun_others owner ns here answer before after grew same =
+    keeps_beside ns (turns_kept before) (turns_kept after) (uses_kept before) (uses_kept after) (turns_others owner ns here answer before after grew) (λ n no. ap (λ (us : List (ℕ × ℕ)). kept_under n (map as_use us)) same)
 
 -- and the turn is the owner's
-pub begun_mine : (owner : ℕ) (rest : List ℕ) (turn : ℕ) (before after : List (ℕ × ℕ)) → after ≡ before ++ (owner, turn) ∷ [] → Contains (kept_by (owner ∷ rest) (map as_kept after)) (owner, turn_thing turn)
-begun_mine owner rest turn before after grew =
+pub begun_mine : (owner : ℕ) (rest : List ℕ) (turn : ℕ) (before after others : List (ℕ × ℕ)) → after ≡ before ++ (owner, turn) ∷ [] → Contains (kept_by (owner ∷ rest) (map as_kept after ++ others)) (owner, turn_thing turn)
+begun_mine owner rest turn before after others grew =
     let is : map as_kept before ++ (owner, turn_thing turn) ∷ [] ≡ map as_kept after = sym (ap (map as_kept) grew ∙ map-append as_kept before ((owner, turn) ∷ [])) in
     let there : Contains (map as_kept after) (owner, turn_thing turn) =
     subst (λ (xs : List (ℕ × ℕ)). Contains xs (owner, turn_thing turn)) is (in_right (map as_kept before) ((owner, turn_thing turn) ∷ []) (owner, turn_thing turn) (in_first (owner, turn_thing turn) [])) in
-    in_left (kept_under owner (map as_kept after)) (kept_by rest (map as_kept after)) (owner, turn_thing turn) (under_it owner (map as_kept after) (owner, turn_thing turn) refl there)
+    in_left (kept_under owner (map as_kept after ++ others)) (kept_by rest (map as_kept after ++ others)) (owner, turn_thing turn)
+    (under_it owner (map as_kept after ++ others) (owner, turn_thing turn) refl (in_left (map as_kept after) others (owner, turn_thing turn) there))
 
 -- it is under no other number, so all is as before once it is taken out again
-pub begun_one : {O : Type 0} (owner : ℕ) (answer : Result (Option ℕ) CoreFault) (before after : LockedView O) → IsLocked after → after.turns ≡ with_begun owner answer before.turns → IsOneMore answer (turns_kept before) (turns_kept after)
-begun_one owner (Ok (Some turn)) before after locked grew =
+turns_one : {O : Type 0} (owner : ℕ) (answer : Result (Option ℕ) CoreFault) (before after : LockedView O) → IsLocked after → after.turns ≡ with_begun owner answer before.turns → IsOneMore answer (turns_kept before) (turns_kept after)
+turns_one owner (Ok (Some turn)) before after locked grew =
     let is_its : ℕ × ℕ → Bool = λ t. t.1 == turn in
     let many : count_by is_its after.turns ≡ one_if (is_under_way (world after.core) turn) = sym (count_mapped (λ (t : ℕ × ℕ). t.1) after.turns turn) ∙ locked.tokens turn in
     let most = one_at_most (is_under_way (world after.core) turn) in
@@ -104,17 +111,44 @@ begun_one owner (Ok (Some turn)) before after locked grew =
     but_kept turn after.turns
     ∙ ap (λ (ts : List (ℕ × ℕ)). map as_kept (without_turn turn ts)) grew
     ∙ ap (map as_kept) (kept_over (λ (t : ℕ × ℕ). not (t.1 == turn)) before.turns ((owner, turn) ∷ []) ∙ ap (λ (ts : List (ℕ × ℕ)). without_turn turn before.turns ++ ts) gone ∙ append-nil (without_turn turn before.turns) ∙ all_others turn before.turns none)
-begun_one owner (Ok None) before after locked same = ap (map as_kept) same
-begun_one owner (Err fault) before after locked same = ap (map as_kept) same
+turns_one owner (Ok None) before after locked same = ap (map as_kept) same
+turns_one owner (Err fault) before after locked same = ap (map as_kept) same
+
+pub begun_one : {O : Type 0} (owner : ℕ) (answer : Result (Option ℕ) CoreFault) (before after : LockedView O) → IsLocked after → after.turns ≡ with_begun owner answer before.turns → after.uses ≡ before.uses → IsOneMore answer (things_kept before) (things_kept after)
+begun_one owner (Ok (Some turn)) before after locked grew same =
+    turn_left turn after.turns after.uses
+    ∙ ap (λ (xs : List (ℕ × ℕ)). xs ++ uses_kept after) (sym (but_kept turn after.turns) ∙ turns_one owner (Ok (Some turn)) before after locked grew)
+    ∙ ap (λ (us : List (ℕ × ℕ)). turns_kept before ++ map as_use us) same
+begun_one owner (Ok None) before after locked grew same = same_things before after grew same
+begun_one owner (Err fault) before after locked grew same = same_things before after grew same
 
 -- ---- a turn that a pass has
 
-pub kept_begun : (turns : List (ℕ × ℕ)) (n turn : ℕ) → Contains (map as_kept turns) (n, turn_thing turn) → Contains turns (n, turn)
-kept_begun turns n turn h =
+kept_turn : (turns : List (ℕ × ℕ)) (n turn : ℕ) → Contains (map as_kept turns) (n, turn_thing turn) → Contains turns (n, turn)
+kept_turn turns n turn h =
     let was = mapped_was as_kept turns (n, turn_thing turn) h in
     let owner : was.0.0 ≡ n = ap (λ (x : ℕ × ℕ). x.0) was.2 in
     let its : was.0.1 ≡ turn = halves was.0.1 turn (ap (λ (x : ℕ × ℕ). x.1) was.2) in
     subst (λ k. Contains turns (n, k)) its (subst (λ k. Contains turns (k, was.0.1)) owner was.1)
+
+pub kept_begun : (turns uses : List (ℕ × ℕ)) (n turn : ℕ) → Contains (map as_kept turns ++ map as_use uses) (n, turn_thing turn) → Contains turns (n, turn)
+kept_begun turns uses n turn h = elim (in_either (map as_kept turns) (map as_use uses) (n, turn_thing turn) h) [
+  | inl here ↦ kept_turn turns n turn here
+  | inr other ↦ (
+      let was = mapped_was as_use uses (n, turn_thing turn) other in absurd (turn_or_use turn was.0.1 (ap (λ (x : ℕ × ℕ). x.1) (sym was.2))))
+]
+
+-- and a get that one has
+pub kept_got : (turns uses : List (ℕ × ℕ)) (n place : ℕ) → Contains (map as_kept turns ++ map as_use uses) (n, use_thing place) → Contains uses (n, place)
+kept_got turns uses n place h = elim (in_either (map as_kept turns) (map as_use uses) (n, use_thing place) h) [
+  | inl other ↦ (
+      let was = mapped_was as_kept turns (n, use_thing place) other in absurd (turn_or_use was.0.1 place (ap (λ (x : ℕ × ℕ). x.1) was.2)))
+  | inr here ↦ (
+      let was = mapped_was as_use uses (n, use_thing place) here in
+      let owner : was.0.0 ≡ n = ap (λ (x : ℕ × ℕ). x.0) was.2 in
+      let its : was.0.1 ≡ place = use_halves was.0.1 place (ap (λ (x : ℕ × ℕ). x.1) was.2) in
+      subst (λ k. Contains uses (n, k)) its (subst (λ k. Contains uses (k, was.0.1)) owner was.1))
+]
 
 module _ {O : Type 0} (l : LockedView O) (locked : IsLocked l) (n turn : ℕ) (begun : Contains l.turns (n, turn)) where
   abbrev is_its : ℕ × ℕ → Bool

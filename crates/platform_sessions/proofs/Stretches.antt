@@ -7,8 +7,8 @@ use Rattle.front_lock.specs.Keepings.{KeepsOthers, kept_by, kept_under}
 use Rattle.front_lock.specs.Passes.{TurnView, names_of}
 use Rattle.hall_goings.specs.Went.{Went, owned_by, placed, up_to}
 use Rattle.hall_goings.proofs.Chains.{grown, went_in_stretch}
-use Rattle.hall_locked.specs.Locks.{AppendsFor, IsLocked, LockedView, limits_code, log_of, turns_kept}
-use Rattle.hall_locked.specs.Owned.{as_kept, entries_in, owned}
+use Rattle.hall_locked.specs.Locks.{AppendsFor, IsLocked, LockedView, limits_code, log_of, things_kept}
+use Rattle.hall_locked.specs.Owned.{as_kept, as_use, entries_in, owned}
 use Rattle.journal_core.specs.declared.entry.Entry.{Entry}
 use Rattle.platform_sessions.specs.Halls.{HallPassView, HallView, IsOf, KeepsPass, KeepsSeat, Own, View, core_seen}
 use Rattle.hall_locked.specs.Cores.{CoreView}
@@ -63,9 +63,9 @@ module _ {O : Type 0} where
 pub leaves_others : (ns : List ℕ) (turn : TurnView (Entry Step)) (before after : List (ℕ × ℕ)) → turn.kept ≡ before → KeepsOthers ns before after → KeepsOthers ns turn.kept after
 leaves_others ns turn before after kept others = subst (λ (k : List (ℕ × ℕ)). KeepsOthers ns k after) (sym kept) others
 
--- where the same turns are under way, the same is kept for passes
-pub same_turns : {O : Type 0} (before after : LockedView O) → after.turns ≡ before.turns → turns_kept after ≡ turns_kept before
-same_turns before after same = ap (λ (ts : List (ℕ × ℕ)). map as_kept ts) same
+-- where the same turns are under way, and the same gets weren't given back, the same is kept for passes
+pub same_things : {O : Type 0} (before after : LockedView O) → after.turns ≡ before.turns → after.uses ≡ before.uses → things_kept after ≡ things_kept before
+same_things before after turns uses = ap (λ (ts : List (ℕ × ℕ)). map as_kept ts ++ map as_use after.uses) turns ∙ ap (λ (us : List (ℕ × ℕ)). map as_kept before.turns ++ map as_use us) uses
 
 -- ---- what the pass knows then
 

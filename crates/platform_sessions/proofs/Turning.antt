@@ -9,8 +9,8 @@ use Rattle.front_lock.specs.Histories.{Distinct, Extends, numbers}
 use Rattle.front_lock.specs.Keepings.{kept_by}
 use Rattle.front_lock.specs.Passes.{names_of}
 use Rattle.hall_goings.specs.Went.{Went}
-use Rattle.hall_locked.specs.Locks.{AppendsFor, IsLocked, LockedView, log_of, turns_kept}
-use Rattle.hall_locked.specs.Owned.{as_kept, entries_in, turn_thing, without_turn}
+use Rattle.hall_locked.specs.Locks.{AppendsFor, IsLocked, LockedView, log_of, things_kept, uses_kept}
+use Rattle.hall_locked.specs.Owned.{as_kept, as_use, entries_in, turn_thing, without_turn}
 use Rattle.hall_locked.specs.Parts.{with_begun}
 use Rattle.hall_locked.specs.declared.owed.Owed.{Owed}
 use Rattle.journal_core.specs.declared.entry.Entry.{Entry}
@@ -22,7 +22,7 @@ use Rattle.platform_sessions.specs.Commands.{IsOwed}
 use Rattle.platform_sessions.specs.Halls.{KeepsPass, Own, View, core_seen, core_up_to}
 use Rattle.platform_sessions.specs.Works.{BeginsOne, HandsOut, HasBegun, HasEnded, IsBeginOf, IsEndOf, IsMine, IsRunFor, IsTold, begun_of, things_but}
 use Rattle.platform_sessions.proofs.Mine.{begun_mine, kept_begun, mine_under_way}
-use Rattle.platform_sessions.proofs.Things.{but_kept, by_but, by_there}
+use Rattle.platform_sessions.proofs.Things.{by_but, by_there, turn_left}
 use Rattle.hall_locked.proofs.WorkStays.{running_stays}
 use Rattle.platform_sessions.proofs.Stretches.{core_is, core_with, entries_owned, journal_was, longer_by_one, looked, none_more, one_more, went_by}
 use Rattle.prop_map.specs.declared.properties.Property.{Property}
@@ -65,21 +65,21 @@ module _ {O : Type 0} (p q : View) (before after : LockedView O) (kept : List (�
     (same : q ≡ record p { seen = log_of after; kept = kept; entered = p.entered + 1 }) (locked : IsLocked before) (now : IsLocked after) (a : AppendsFor p.number before after)
     (limits : Limits) (its : before.core.limits ≡ limits) (stay : after.core.limits ≡ before.core.limits) where
   -- what the pass has seen then is the value's core
-  sees : core_seen limits q ≡ after.core
+  pub sees : core_seen limits q ≡ after.core
   sees = core_is p q before after kept apart goes same now limits its stay
 
-  core_was : (entry : Entry Step) → after.core.journal ≡ before.core.journal ++ entry ∷ [] → core_up_to limits q (length (log_of before)) ≡ before.core
+  pub core_was : (entry : Entry Step) → after.core.journal ≡ before.core.journal ++ entry ∷ [] → core_up_to limits q (length (log_of before)) ≡ before.core
   core_was entry grew =
       ap (core_with limits) (journal_was p q before after kept apart goes same locked (entry ∷ []) (one_more p q before after kept apart goes same a entry grew))
       ∙ ap (λ (l : Limits). core_with l before.core.journal) (sym its)
 
   -- ---- the beginning
 
-  module _ (its_kept : kept ≡ kept_by (names_of p) (turns_kept after)) where
+  module _ (its_kept : kept ≡ kept_by (names_of p) (things_kept after)) where
     is_mine : (turn : ℕ) → after.turns ≡ before.turns ++ (p.number, turn) ∷ [] → IsMine turn q
     is_mine turn grew =
         subst (λ (v : View). IsMine turn v) (sym same)
-        (subst (λ (xs : List (ℕ × ℕ)). Contains xs (p.number, turn_thing turn)) (sym its_kept) (begun_mine p.number (numbers p.joined) turn before.turns after.turns grew))
+        (subst (λ (xs : List (ℕ × ℕ)). Contains xs (p.number, turn_thing turn)) (sym its_kept) (begun_mine p.number (numbers p.joined) turn before.turns after.turns (uses_kept after) grew))
 
     begun_is : (turn : ℕ) (work : TurnWork) → work.number ≡ turn → Begins before.core work after.core → running after.core turn ≡ Some work → after.turns ≡ before.turns ++ (p.number, turn) ∷ [] → HasBegun limits p q turn work
     begun_is turn work number (limits_stay, next, (step, is, named, (entry, step_is, follows, grew))) runs turned =
@@ -142,16 +142,20 @@ module _ {O : Type 0} (p q : View) (before after : LockedView O) (kept : List (�
   looks_one answer stays = on_err answer (λ (is : after ≡ before). looked p q before after kept apart goes same (ap (λ (l : LockedView O). log_of l) is)) stays
 
 -- what is kept for a pass, once a turn has ended
-pub left_by : {O : Type 0} (ns : List ℕ) (turn : ℕ) (before after : LockedView O) → after.turns ≡ without_turn turn before.turns → kept_by ns (turns_kept after) ≡ things_but (turn_thing turn) (kept_by ns (turns_kept before))
-left_by ns turn before after left = ap (λ (ts : List (ℕ × ℕ)). kept_by ns (map as_kept ts)) left ∙ ap (kept_by ns) (sym (but_kept turn before.turns)) ∙ by_but (turn_thing turn) ns (turns_kept before)
+pub left_by : {O : Type 0} (ns : List ℕ) (turn : ℕ) (before after : LockedView O) → after.turns ≡ without_turn turn before.turns → after.uses ≡ before.uses → kept_by ns (things_kept after) ≡ things_but (turn_thing turn) (kept_by ns (things_kept before))
+left_by ns turn before after left same =
+    ap (λ (ts : List (ℕ × ℕ)). kept_by ns (map as_kept ts ++ uses_kept after)) left
+    ∙ ap (λ (us : List (ℕ × ℕ)). kept_by ns (map as_kept (without_turn turn before.turns) ++ map as_use us)) same
+    ∙ ap (kept_by ns) (sym (turn_left turn before.turns before.uses))
+    ∙ by_but (turn_thing turn) ns (things_kept before)
 
 -- ---- a turn of the pass goes on while others have their turns
 
-module _ {O : Type 0} (p : View) (value : LockedView O) (turn : ℕ) (mine : IsMine turn p) (its_kept : kept_by (names_of p) (turns_kept value) ≡ p.kept) where
+module _ {O : Type 0} (p : View) (value : LockedView O) (turn : ℕ) (mine : IsMine turn p) (its_kept : kept_by (names_of p) (things_kept value) ≡ p.kept) where
   pub still_begun : Contains value.turns (p.number, turn)
   still_begun =
-      kept_begun value.turns p.number turn
-      (by_there (names_of p) (turns_kept value) (p.number, turn_thing turn) (subst (λ (xs : List (ℕ × ℕ)). Contains xs (p.number, turn_thing turn)) (sym its_kept) mine))
+      kept_begun value.turns value.uses p.number turn
+      (by_there (names_of p) (things_kept value) (p.number, turn_thing turn) (subst (λ (xs : List (ℕ × ℕ)). Contains xs (p.number, turn_thing turn)) (sym its_kept) mine))
 
   module _ (goes : Extends (names_of p) p.seen (log_of value)) (locked : IsLocked value) (legal : HasLegal value.core) (limits : Limits) where
     grown_since : value.core.journal ≡ entries_in p.seen ++ entries_in goes.rest

@@ -3,4 +3,5 @@ pub mod Halls
 pub mod Commands
 pub mod Reads
 pub mod Works
+pub mod Uses
 pub use Rattle.hall_locked.specs.Platforms

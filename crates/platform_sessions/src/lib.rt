@@ -15,6 +15,7 @@ mod reads;
 mod sending;
 mod tasks;
 mod turns;
+mod uses;
 mod works;
 
 pub use front_lock::LockFault;
@@ -23,3 +24,4 @@ pub use hall_locked::Core;
 pub use hall_pass::HallPass;
 pub use look::Look;
 pub use sending::{hall_is_sync, pass_is_send};
+pub use uses::ServiceUse;

@@ -34,6 +34,7 @@ fn begin_in<O: Drop>(
     ensures answer { BeginsTurn value.old.core (begun_of result) value.new.core }
     ensures appended { AppendsFor owner value.old value.new }
     ensures turns { value.new.turns ≡ with_begun owner (begun_of result) value.old.turns }
+    ensures uses { value.new.uses ≡ value.old.uses }
     ensures limits { value.new.core.limits ≡ value.old.core.limits }
     ensures out { HandsOut value.new.core result }
     ensures own { IfOk result (λ begun. IfSome begun (λ b. IsOwn arc_value value.new.parts b.1)) }

@@ -1,8 +1,10 @@
 use Rattle.std.proofs.Common.{◌≡◌, ap, length, ◌∙◌, subst, sym, ◌&&◌}
 use Rattle.std.specs.Prelude.{is_some, nat_lt}
 use Rattle.hall_locked.specs.Locks.{AppendsFor, HasGates, LockedView}
-use Rattle.hall_locked.specs.OwnedCores.{OwnedView}
+use Rattle.hall_locked.specs.OwnedCores.{OwnedView, log_owned}
+use Rattle.hall_locked.specs.Uses.{AreKeptGets}
 use Rattle.hall_locked.proofs.Calls.{keeps_by, opens_keys, owed_behind}
+use Rattle.hall_locked.proofs.Uses.{command_uses}
 use Rattle.platform_hall.specs.Platforms.{has_drain, world}
 use Rattle.scr_core.specs.Cores.{CoreView}
 use Rattle.hall_locked.proofs.locked.Locked.command.Goals as goal
@@ -15,13 +17,15 @@ shut_all-requires g c = record {
 
 pub invariant_of-self : goal.invariant_of-self
 invariant_of-self g c =
+    let kept =
     keeps_by c.self.inside.own.core c.command.new.self.core c.args.command c.in-Ok.accepted c.note_kept.ensures.legal c.in-Ok.ensures.answer c.self.inside.keeper c.note_orderly.ensures c.self.invariant.0
-    c.shut_all.new.self c.as_slice.result.now c.self.inside.gate c.self.invariant.1 c.as_slice.ensures c.shut_all.ensures.shut c.shut_all.ensures.alone
+    c.shut_all.new.self c.as_slice.result.now c.self.inside.gate c.self.invariant.1 c.as_slice.ensures c.shut_all.ensures.shut c.shut_all.ensures.alone in
+    (kept.0, kept.1, command_uses c.args.owner c.self.inside.own c.command.new.self c.in-Ok.ensures.appended c.self.inside.uses.items c.self.invariant.2 c.args.command c.in-Ok.accepted c.in-Ok.ensures.answer)
 
 pub returns-in-Ok-clause-appended : goal.returns-in-Ok-clause-appended
 returns-in-Ok-clause-appended g c =
     let own = c.command.new.self in
-    subst (λ (l : LockedView g.row.O.Denot). AppendsFor c.args.owner l (record { core = own.core; owners = own.owners; turns = own.turns; parts = own.parts; keeper = c.shut_all.new.self })) c.self.view_is c.in-Ok.ensures.appended
+    subst (λ (l : LockedView g.row.O.Denot). AppendsFor c.args.owner l (record { core = own.core; owners = own.owners; turns = own.turns; parts = own.parts; uses = c.self.inside.uses.items; keeper = c.shut_all.new.self })) c.self.view_is c.in-Ok.ensures.appended
 
 pub returns-in-Ok-clause-owed : goal.returns-in-Ok-clause-owed
 returns-in-Ok-clause-owed g c =
@@ -37,13 +41,14 @@ pub invariant_of-self-in-Err : goal.invariant_of-self-in-Err
 invariant_of-self-in-Err g c = (
   subst (λ (l : OwnedView g.row.O.Denot). HasGates (world l.core) c.self.inside.keeper) (sym c.in-Err.ensures.refused) c.self.invariant.0,
   c.self.invariant.1,
+  subst (λ (l : OwnedView g.row.O.Denot). AreKeptGets (log_owned l) c.self.inside.uses.items) (sym c.in-Err.ensures.refused) c.self.invariant.2,
 )
 
 pub returns-in-Err-clause-appended : goal.returns-in-Err-clause-appended
 returns-in-Err-clause-appended g c =
     let own = c.command.new.self in
-    subst (λ (l : LockedView g.row.O.Denot). AppendsFor c.args.owner l (record { core = own.core; owners = own.owners; turns = own.turns; parts = own.parts; keeper = c.self.inside.keeper })) c.self.view_is c.in-Err.ensures.appended
+    subst (λ (l : LockedView g.row.O.Denot). AppendsFor c.args.owner l (record { core = own.core; owners = own.owners; turns = own.turns; parts = own.parts; uses = c.self.inside.uses.items; keeper = c.self.inside.keeper })) c.self.view_is c.in-Err.ensures.appended
 
 pub returns-in-Err-clause-refused : goal.returns-in-Err-clause-refused
 returns-in-Err-clause-refused g c =
-    ap (λ (l : OwnedView g.row.O.Denot). record { core = l.core; owners = l.owners; turns = l.turns; parts = l.parts; keeper = c.self.inside.keeper }) c.in-Err.ensures.refused ∙ c.self.view_is
+    ap (λ (l : OwnedView g.row.O.Denot). record { core = l.core; owners = l.owners; turns = l.turns; parts = l.parts; uses = c.self.inside.uses.items; keeper = c.self.inside.keeper }) c.in-Err.ensures.refused ∙ c.self.view_is

@@ -2,7 +2,7 @@ use Rattle.std.proofs.Common.{rules, ap, ◌∙◌, ◌≡◌, refl, length}
 use Rattle.front_lock.specs.Histories.{Distinct}
 use Rattle.front_lock.specs.Keepings.{kept_by}
 use Rattle.front_lock.specs.Passes.{names_of}
-use Rattle.hall_locked.specs.Locks.{log_of, turns_kept}
+use Rattle.hall_locked.specs.Locks.{log_of, things_kept}
 use Rattle.platform_sessions.specs.Halls.{View, front_in}
 use Rattle.platform_sessions.proofs.Reading.{read_so}
 use Rattle.platform_sessions.proofs.Stretches.{leaves_same, limits_from, stretch, stretch_keeps}
@@ -21,11 +21,11 @@ returns-clause-read g c =
     let turn = c.enter-inner.result.turn in
     let its = c.enter-inner.ensures.turn in
     let q = front_in c.put.new.pass in
-    let s = stretch p q c.unwrap.result c.leave-back.result turn (log_of before) (log_of after) (turns_kept c.enter-inner.result.value) own its.0 apart c.enter-inner.ensures.goes_on (ap front_in c.put.ensures) c.leave-back.ensures.seen in
+    let s = stretch p q c.unwrap.result c.leave-back.result turn (log_of before) (log_of after) (things_kept c.enter-inner.result.value) own its.0 apart c.enter-inner.ensures.goes_on (ap front_in c.put.ensures) c.leave-back.ensures.seen in
     let limits = c.args.self.now.limits in
     let same_limits = limits_from before.core.limits limits (c.enter-inner.ensures.tie ∙ ap (λ (v : View). v.tie) own ∙ c.requires.of.limits) in
     let front : c.seen-front.result ≡ length q.seen = search rules in
-    read_so g.L.Look.looks p q before (kept_by (names_of p) (turns_kept c.enter-inner.result.value)) s.apart s.goes s.same c.note_kept.ensures.kept limits same_limits _ _ _ front (search rules)
+    read_so g.L.Look.looks p q before (kept_by (names_of p) (things_kept c.enter-inner.result.value)) s.apart s.goes s.same c.note_kept.ensures.kept limits same_limits _ _ _ front (search rules)
 
 pub returns-clause-keeps : goal.returns-clause-keeps
 returns-clause-keeps g c =
@@ -34,8 +34,8 @@ returns-clause-keeps g c =
     let apart : Distinct (names_of p) = search rules in
     let its = c.enter-inner.ensures.turn in
     let q = front_in c.put.new.pass in
-    let had = turns_kept c.enter-inner.result.value in
-    let has = turns_kept c.enter-inner.result.value in
+    let had = things_kept c.enter-inner.result.value in
+    let has = things_kept c.enter-inner.result.value in
     let began = log_of c.enter-inner.result.value in
     let log = log_of c.enter-inner.result.value in
     let s = stretch p q c.unwrap.result c.leave-back.result c.enter-inner.result.turn began log has own its.0 apart c.enter-inner.ensures.goes_on (ap front_in c.put.ensures) c.leave-back.ensures.seen in
