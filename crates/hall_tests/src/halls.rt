@@ -203,19 +203,32 @@ fn loses<R: Wait>(
     }
 }
 
+// Whether the get of a service is given back as it stands, or is gone once its bundle was stopped.
+fn ends<R: Wait>(
+    rt: &R,
+    alloc: Global,
+    hall: &DemoHall,
+    pass: &mut HallPass,
+    used: ServiceUse,
+    stops: bool,
+) -> bool
+    requires of { IsOf hall.now pass.old }
+    requires has { HasUse used pass.old.front }
+{
+    if stops {
+        loses(rt, alloc, hall, pass, used)
+    } else {
+        gives_back(rt, alloc, hall, pass, used, true)
+    }
+}
+
 // Whether a bundle gets its own service and gives it back, once it was stopped or before.
 fn gets<R: Wait>(rt: &R, alloc: Global, hall: &DemoHall, pass: &mut HallPass, stops: bool) -> bool
     requires { IsOf hall.now pass.old }
 {
     match hall.get(rt, alloc, pass, 1, 1) {
-        Ok(used) => {
-            if stops {
-                loses(rt, alloc, hall, pass, used)
-            } else {
-                gives_back(rt, alloc, hall, pass, used, true)
-            }
-        }
-        Err(_) => false,
+        Ok(used) => ends(rt, alloc, hall, pass, used, stops),
+        Err(_fault) => false,
     }
 }
 
