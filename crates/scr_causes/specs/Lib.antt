@@ -1,0 +1,5 @@
+pub mod ServiceTables
+pub mod DirectCauses
+pub mod CauseLaws
+pub mod Standings
+pub mod WantedHere
