@@ -83,6 +83,7 @@ pub mod ListenerSteps
 pub mod RowsAt
 pub mod Statuses
 mod ToldExample
+mod CountedExample
 pub mod GetLaws
 pub mod GetNumbers
 pub mod DrainLaws
@@ -96,3 +97,6 @@ pub mod LevelCounts
 pub mod LevelLaws
 pub mod SameRows
 pub mod StillBoards
+pub mod CountedConfigurations
+pub mod PlacedDescriptions
+pub mod CountLaws

@@ -14,3 +14,4 @@ pub mod Reserves
 pub mod GoingOn
 pub mod Levels
 pub mod Board
+pub mod Counts

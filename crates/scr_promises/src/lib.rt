@@ -1,10 +1,11 @@
 //! What a user of the core may rely on, in every legal journal: when instances end, what they chose and hold and who
 //! provides it, that a platform at rest is right, how one settles, that none is stuck, and what is so of events, gets,
-//! reserved entries, slots and the whiteboard. Each is a clause of a function that does nothing.
+//! reserved entries, slots, the whiteboard and configurations. Each is a clause of a function that does nothing.
 #![tactic(auto)]
 
 mod board;
 mod choices;
+mod counts;
 mod endings;
 mod events;
 mod gets;
@@ -20,6 +21,7 @@ mod slots;
 
 pub use board::{note_board_rows, note_board_stays};
 pub use choices::{note_choices_stand, note_static_services};
+pub use counts::note_counts;
 pub use endings::{note_endings, note_goes_on_ending};
 pub use events::note_events;
 pub use gets::note_gets;
