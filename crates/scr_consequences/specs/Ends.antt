@@ -1,5 +1,5 @@
 -- The ends of creations and activations, and what is so of instances in a world. OSGi Compendium 8, chapter 112, "Activation", "Deactivation".
-use Rattle.std.specs.Prelude.{ℕ, ◌&&◌, ◌||◌, List, map, filter, Bool, not}
+use Rattle.std.specs.Prelude.{ℕ, ◌+◌, ◌^◌, ◌<◌, ◌&&◌, ◌||◌, List, map, filter, slice_index, Bool, not}
 use Rattle.prop_map.specs.Words.{has}
 use Rattle.callback_orders.specs.declared.callback.Outcome.{Outcome}
 use Rattle.callback_orders.specs.Grammar.{is_activate, is_create}
@@ -25,3 +25,7 @@ begins_draining_from draining now i = is_draining now i && not (has draining i.n
 -- the end of a turn makes an instance active
 abbrev pub opens_gate : ℕ → Outcome → Instance → Bool
 opens_gate turn outcome i = has_turn turn i && becomes_active outcome i
+
+-- each gate has a number of 64 bits left for the next time that it opens
+abbrev pub HaveNextGenerations : List ℕ → Type 0
+HaveNextGenerations generations = (slot : ℕ) → slice_index generations slot + 1 < 2 ^ 64

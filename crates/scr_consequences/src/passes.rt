@@ -5,14 +5,14 @@ ghost use Rattle.scr_world.specs.Consequences.{stage_in};
 ghost use Rattle.scr_world.specs.Levels.{levels_of};
 ghost use Rattle.scr_world.specs.Tables.{descriptions_of};
 ghost use Rattle.scr_world.specs.Worlds.{origins_of};
-ghost use Rattle.std.specs.Prelude.{◌≡◌, ◌+◌, IfOk, map};
+ghost use Rattle.std.specs.Prelude.{◌≡◌, ◌+◌, ◌^◌, ◌<◌, IfOk, map};
 
 use crate::platform_services::direct_services;
 use component_dto::Description;
 use component_state::{Origin, Passed, Stage, pass_over};
 use prop_map::OutOfMemory;
 use scr_world::{Instance, World};
-use std::alloc::{AllocError, Global};
+use std::alloc::Global;
 
 // Where living instances come from.
 fn origins_of(alloc: Global, instances: &[Instance]) -> Result<Vec<&Origin>, OutOfMemory>
@@ -25,18 +25,11 @@ fn origins_of(alloc: Global, instances: &[Instance]) -> Result<Vec<&Origin>, Out
     Ok(found)
 }
 
-// The number of the next service. Where none is left, that counts as want of memory.
-fn next_service(numbered: u64) -> Result<u64, OutOfMemory>
-    ensures { IfOk result (λ next. next ≡ numbered + 1) }
-{
-    numbered.checked_add(1).ok_or(AllocError)
-}
-
 /// The pass in a world that a step has led to: what closes and what opens, where these component configurations fail in the step.
 /// The descriptions of the world's documents and their levels are the caller's.
 ///
 /// # Errors
-/// Only want of memory. That no number is left for a service counts as such.
+/// Only want of memory. That no number is left for a service that opens counts as such.
 #[tactic(auto, unfolding(scr_world::specs::Consequences::stage_in))]
 pub fn pass_in(
     alloc: Global,
@@ -48,9 +41,10 @@ pub fn pass_in(
     requires descriptions { descriptions.now ≡ descriptions_of world.now.documents }
     requires levels { levels.now ≡ levels_of descriptions.now }
     requires ready { IsReady (stage_in world.now failing.now) }
+    requires next { world.now.registry.numbered + 1 < 2 ^ 64 }
     ensures { IfOk result (λ p. HasPassed (stage_in world.now failing.now) p) }
 {
-    let next = next_service(world.registry.numbered())?;
+    let next = world.registry.numbered() + 1;
     let direct = direct_services(alloc, world)?;
     let origins = origins_of(alloc, world.instances.as_slice())?;
     let stage = Stage {

@@ -3,7 +3,7 @@ ghost use Rattle.scr_state.specs.Keeps.{Keeps};
 ghost use Rattle.scr_world.specs.Whiteboard.{new_whiteboard};
 ghost use Rattle.scr_world.specs.Worlds.{empty_world};
 ghost use Rattle.journal_core.specs.Rooms.{empty_journal};
-ghost use Rattle.std.specs.Prelude.{◌≡◌, ℕ, [], IfOk};
+ghost use Rattle.std.specs.Prelude.{◌≡◌, ◌≤◌, ℕ, [], IfOk};
 
 use bundle_life::Bundles;
 use component_state::Origin;
@@ -87,7 +87,7 @@ fn empty_world(alloc: Global, own: &OwnRows) -> Result<World, OutOfMemory>
 /// # Errors
 /// Only want of memory.
 pub(crate) fn empty_state(alloc: Global, own: &OwnRows) -> Result<State, OutOfMemory>
-    ensures { IfOk result (λ s. (limit : ℕ) → Keeps (empty_journal limit) s) }
+    ensures { IfOk result (λ s. (limit : ℕ) → limit ≤ 4194304 → Keeps (empty_journal limit) s) }
 {
     let world = empty_world(alloc, own)?;
     Ok(State {

@@ -257,7 +257,7 @@ pub(crate) fn end(
     ensures ok { IfOk result (λ ended. EndsTurn limit journal.old.entries turn outcome ended journal.new.entries) }
     ensures err { OnErr result (journal.new ≡ journal.old) }
 {
-    let reopened = reopened_by(&state.world, turn, outcome)?;
+    let reopened = reopened_by(&state.world, turn, outcome);
     let known = making.after_end(&state.world, turn);
     // This lets the proof know that what is reserved has room.
     let _room = journal.room();

@@ -5,7 +5,7 @@ ghost use Rattle.component_state.specs.declared.component.Component.{Component};
 ghost use Rattle.prop_map.specs.Words.{with_places};
 ghost use Rattle.reference_match.specs.Needs.{need_of};
 ghost use Rattle.reference_match.specs.Targets.{chosen, targets};
-ghost use Rattle.scr_dues.specs.Beginnings.{step_of};
+ghost use Rattle.scr_dues.specs.Beginnings.{HasNextNumbers, step_of};
 ghost use Rattle.scr_dues.specs.FirstDues.{first_due_in, next_step};
 ghost use Rattle.scr_dues.specs.Makings.{AreNumbered, IsThatFar};
 ghost use Rattle.scr_world.specs.Dues.{begin_for, begin_of, choice_for, choices, choices_of, instance_in, next_begin};
@@ -14,7 +14,7 @@ ghost use Rattle.scr_world.specs.declared.instance.Instance.{Instance};
 ghost use Rattle.component_dto.specs.declared.description.Reference.{Reference};
 ghost use Rattle.std.specs.List.{slice_index_or};
 ghost use Rattle.std.specs.Option.{option_copied, option_map_or};
-ghost use Rattle.std.specs.Prelude.{◌≡◌, ◌+◌, ◌==◌, [], IfOk, Some, find, flat_map, map, option_map};
+ghost use Rattle.std.specs.Prelude.{◌≡◌, ◌==◌, [], IfOk, Some, find, flat_map, map, option_map};
 
 use crate::beginnings::{Beginning, boxed};
 use crate::components::references_in;
@@ -29,7 +29,7 @@ use component_state::{Choice, Component, component_of};
 use prop_map::{Copies, List, OutOfMemory, Properties, Str};
 use reference_match::{chosen, need_of};
 use scr_world::{Instance, Step, World};
-use std::alloc::{AllocError, Global};
+use std::alloc::Global;
 
 fn choice(
     alloc: Global,
@@ -193,13 +193,6 @@ pub fn instance_of(world: &World, number: u64) -> Option<&Instance>
     }
 }
 
-// The number after this one. Where none is left, that counts as want of memory.
-fn next(number: u64) -> Result<u64, OutOfMemory>
-    ensures { IfOk result (λ n. n ≡ number + 1) }
-{
-    number.checked_add(1).ok_or(AllocError)
-}
-
 fn begin_for(
     alloc: Global,
     own: &OwnRows,
@@ -207,9 +200,10 @@ fn begin_for(
     due: DueRef,
     instance: &Instance,
 ) -> Result<Beginning, OutOfMemory>
+    requires { HasNextNumbers world.now }
     ensures { IfOk result (λ b. step_of b ≡ begin_for world.now due instance.now) }
 {
-    let turn = next(world.turns_begun)?;
+    let turn = world.turns_begun + 1;
     let callback = callback_of(alloc, references_in(own, world, instance), due)?;
     Ok(Beginning {
         turn,
@@ -227,10 +221,11 @@ fn create_for(
     world: &World,
     key: Key,
 ) -> Result<Beginning, OutOfMemory>
+    requires { HasNextNumbers world.now }
     ensures { IfOk result (λ b. Some (step_of b) ≡ begin_of world.now (CreateDue key)) }
 {
-    let turn = next(world.turns_begun)?;
-    let instance = next(world.instances_numbered)?;
+    let turn = world.turns_begun + 1;
+    let instance = world.instances_numbered + 1;
     let chosen = choices(alloc, own, world, key.configuration)?;
     Ok(Beginning {
         turn,
@@ -249,6 +244,7 @@ fn begin_told(
     world: &World,
     due: DueRef,
 ) -> Result<Option<Beginning>, OutOfMemory>
+    requires { HasNextNumbers world.now }
     ensures { IfOk result (λ o. option_map step_of o
         ≡ option_map (begin_for world.now due) (find (λ (i : Instance). i.number == instance_in due) (all_instances world.now))) }
 {
@@ -264,6 +260,7 @@ fn begin_of(
     world: &World,
     due: DueRef,
 ) -> Result<Option<Beginning>, OutOfMemory>
+    requires { HasNextNumbers world.now }
     ensures { IfOk result (λ o. option_map step_of o ≡ begin_of world.now due) }
 {
     if let DueRef::Create { key } = due {
@@ -279,7 +276,8 @@ fn next_beginning(
     world: &World,
     due: Option<DueRef>,
 ) -> Result<Option<Beginning>, OutOfMemory>
-    requires { due ≡ first_due_in world.now }
+    requires due { due ≡ first_due_in world.now }
+    requires next { HasNextNumbers world.now }
     ensures { IfOk result (λ o. option_map step_of o ≡ next_step world.now) }
 {
     match due {
@@ -295,7 +293,8 @@ fn step_for(
     world: &World,
     due: Option<DueRef>,
 ) -> Result<Option<Box<Step>>, OutOfMemory>
-    requires { due ≡ first_due_in world.now }
+    requires due { due ≡ first_due_in world.now }
+    requires next { HasNextNumbers world.now }
     ensures { IfOk result (λ o. option_map (λ step. step.value) o ≡ next_begin world.now) }
 {
     match next_beginning(alloc, own, world, due)? {
@@ -307,12 +306,13 @@ fn step_for(
 /// The step that begins the first due callback, if one is due.
 ///
 /// # Errors
-/// Only want of memory. That a turn or an instance has no number of 64 bits left counts as such.
+/// Only want of memory.
 pub fn next_begin(
     alloc: Global,
     own: &OwnRows,
     world: &World,
 ) -> Result<Option<Box<Step>>, OutOfMemory>
+    requires { HasNextNumbers world.now }
     ensures { IfOk result (λ o. option_map (λ step. step.value) o ≡ next_begin world.now) }
 {
     let due = first_due_in(alloc, own, world, Making::none())?;
@@ -323,7 +323,7 @@ pub fn next_begin(
 /// known then, in the same world, is put in its place.
 ///
 /// # Errors
-/// Only want of memory. That a turn or an instance has no number of 64 bits left counts as such.
+/// Only want of memory.
 pub fn next_begin_from(
     alloc: Global,
     own: &OwnRows,
@@ -331,6 +331,7 @@ pub fn next_begin_from(
     making: &mut Making,
 ) -> Result<Option<Box<Step>>, OutOfMemory>
     requires numbered { AreNumbered world.now }
+    requires next { HasNextNumbers world.now }
     requires far { IsThatFar world.now making.old }
     ensures next { IfOk result (λ o. option_map (λ step. step.value) o ≡ next_begin world.now) }
     ensures far { IsThatFar world.now making.new }

@@ -87,6 +87,7 @@ module _ (journal : JournalRows Step) (s : State) (keeps : Keeps journal s) (ste
   grows : MayGrow journal step
   grows = record {
     legal = keeps.legal;
+    small = keeps.small;
     reserved = keeps.reserved ∙ ap reserved keeps.world;
     may = subst (λ (w : World). MayCome w step) keeps.world may;
     room = ap (λ (w : World). has_room journal.limit w (needed_by step)) (sym keeps.world) ∙ room;
@@ -155,6 +156,7 @@ module _ (journal : JournalRows Step) (s : State) (keeps : Keeps journal s) (ste
         reserved = ap (λ (j : JournalRows Step). j.reserved) done.journal ∙ ap reserved (sym world);
         legal = subst (λ (h : History). IsLegal new.limit h) (sym history_then)
             (subst (λ (l : ℕ). IsLegal l (entry_of step done.pass (world_at journal.entries) ∷ history_of journal.entries)) (sym limit_then) (it_follows, keeps.legal));
+        small = subst (λ (l : ℕ). l ≤ 4194304) (sym limit_then) keeps.small;
       }
 
     pub grown : Grown journal.limit journal.entries step new.entries

@@ -11,11 +11,12 @@ use Rattle.journal_core.specs.declared.entry.Opened.{Opened}
 use Rattle.prop_map.specs.Words.{has}
 use Rattle.bundle_life.specs.Lives.{stop_completed}
 use Rattle.scr_consequences.specs.Ends.{draining_in}
-use Rattle.scr_consequences.specs.Gets.{AreStanding, tokens_left, uses_left}
+use Rattle.scr_consequences.specs.Gets.{AreStanding, HaveStood, tokens_left, uses_left}
 use Rattle.scr_laws.specs.Following.{entry_of}
 use Rattle.scr_growth.specs.declared.listener_change.ListenerChange.{ListenerChange}
 use Rattle.scr_growth.specs.declared.listener_change.ListenerChange.TheVariants.{Nothing, Listen, Unlisten, Remove}
 use Rattle.scr_growth.specs.declared.passing.Finished.{Finished}
+use Rattle.scr_growth.specs.declared.settling.Ending.{Ending}
 use Rattle.scr_growth.specs.declared.settling.Lists.{Lists}
 use Rattle.scr_growth.specs.declared.settling.Rest.{Rest}
 use Rattle.scr_growth.specs.declared.told.Told.{Told}
@@ -102,9 +103,10 @@ pub record AreCached (s : State) (undo : Draft) : Type 0 where
   pub descriptions : unwrap_or undo.descriptions s.descriptions ≡ descriptions_of s.world.documents
   pub levels : unwrap_or undo.levels s.levels ≡ levels_of (unwrap_or undo.descriptions s.descriptions)
 
--- a step that may come and has room
+-- a step that may come and has room, in a journal as long as a platform's may be
 pub record MayGrow (journal : JournalRows Step) (step : Step) : Type 0 where
   pub legal : IsLegal journal.limit (history_of journal.entries)
+  pub small : journal.limit ≤ 4194304
   pub reserved : journal.reserved ≡ reserved (world_at journal.entries)
   pub may : MayCome (world_at journal.entries) step
   pub room : has_room journal.limit (world_at journal.entries) (needed_by step) ≡ true
@@ -137,6 +139,13 @@ pub record IsSettling (journal : JournalRows Step) (step : Step) (s : State) (un
   pub cached : AreCached s undo
   pub before : IsBefore (world_at journal.entries) s.world undo open_then
   pub draining : draining_ones ≡ draining_in (world_at journal.entries)
+
+-- and this is what its entry leaves
+pub record IsEnding (journal : JournalRows Step) (step : Step) (s : State) (undo : Draft) (open_then : List OpenPeriod) (lists : Lists) (e : Ending) : Type 0 where
+  pub draining_ones : List ℕ
+  pub settling : IsSettling journal step s undo open_then lists draining_ones
+  pub rest : (was : World) → IsBefore was s.world undo open_then → HaveStood step was s.world → draining_ones ≡ draining_in was → IsRest was s.world e.rest
+  pub stopped : e.stopped ≡ lists.stopped
 
 abbrev pub no_lists : Lists
 no_lists = record { closed = []; opened = []; stopped = [] }

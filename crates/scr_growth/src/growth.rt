@@ -23,8 +23,8 @@ use std::mem;
 /// Appends the entry of a step whose draft this is, and answers which gates are shut with it, by instance.
 ///
 /// # Errors
-/// Only want of memory. That a table has no number left, as for a service, counts as such. The journal and the state are as
-/// they were.
+/// Only want of memory. That a table has no number left, as for a service that opens, counts as such. The journal and the state
+/// are as they were.
 pub fn grow(
     alloc: Global,
     journal: &mut Journal<Step>,

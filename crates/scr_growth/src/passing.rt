@@ -3,7 +3,7 @@ ghost use Rattle.component_state.specs.Inside.Ready.{IsReady};
 ghost use Rattle.component_state.specs.Passes.{HasPassed};
 ghost use Rattle.scr_growth.specs.Growths.{AreCached, HasFinished, HasSettled, IsAmid, IsSettling, with_open};
 ghost use Rattle.scr_world.specs.Consequences.{stage_in};
-ghost use Rattle.std.specs.Prelude.{◌≡◌, IfOk, OnErr};
+ghost use Rattle.std.specs.Prelude.{◌≡◌, ◌+◌, ◌^◌, ◌<◌, IfOk, OnErr};
 
 use crate::generic::let_go;
 use crate::settling::{Lists, settle};
@@ -88,6 +88,7 @@ fn pass_of(
 ) -> Result<Passed, OutOfMemory>
     requires cached { AreCached state.now undo.now }
     requires ready { IsReady (stage_in state.now.world failing.now) }
+    requires next { state.now.world.registry.numbered + 1 < 2 ^ 64 }
     ensures { IfOk result (λ p. HasPassed (stage_in state.now.world failing.now) p) }
 {
     pass_in(

@@ -4,7 +4,7 @@ ghost use Rattle.prop_map.specs.Words.{one_if};
 ghost use Rattle.scr_consequences.specs.Ends.{draining_in};
 ghost use Rattle.scr_consequences.specs.Gets.{HaveStood, tokens_left, uses_left};
 ghost use Rattle.scr_growth.specs.Growths.{AreCached, HasBefore, HasEntered, HasFewInstances, HasSettled, IsBefore};
-ghost use Rattle.scr_growth.specs.Growths.{IsRest, IsSettling, reserved_with_tokens, services_among, settled_world, with_listeners_told};
+ghost use Rattle.scr_growth.specs.Growths.{IsEnding, IsRest, IsSettling, reserved_with_tokens, services_among, settled_world, with_listeners_told};
 ghost use Rattle.bundle_life.specs.Lives.{is_stopping, state_is};
 ghost use Rattle.scr_world.specs.Room.{reserved_for};
 ghost use Rattle.scr_world.specs.declared.world.World.{World};
@@ -23,7 +23,7 @@ use scr_consequences::{
     StandingGets, complete_stops, gets_left, left_between, note_bundles, note_listeners,
     note_stops, shut_since, unregistered_held_between,
 };
-use scr_state::{Draft, State};
+use scr_state::{Draft, State, next_length};
 use scr_world::{Instance, Step, Token, World};
 use service_registry::ServiceRow;
 use std::alloc::Global;
@@ -48,7 +48,7 @@ pub(crate) struct Rest {
 
 // What an entry leaves, and the bundles that stop with it.
 #[derive(Drop)]
-struct Ending {
+pub(crate) struct Ending {
     rest: Rest,
     stopped: List<u64>,
 }
@@ -72,13 +72,8 @@ pub(crate) fn settle(
     ensures journal { OnErr result (journal.new ≡ journal.old) }
     ensures state { OnErr result (state.new ≡ state.old) }
 {
-    // These let the proof know what holds of every journal, and of the registry.
-    note_listeners();
-    note_bundles();
-    note_stops();
-    let _rows = state.world.registry.rows();
-    let entries = journal.entries().len() as u64 + 1;
-    let ending = match ending_of(
+    let entries = next_length(journal);
+    match ending_of(
         alloc,
         &state.world,
         undo,
@@ -88,13 +83,36 @@ pub(crate) fn settle(
         draining,
         entries,
     ) {
-        Ok(ending) => ending,
+        Ok(ending) => settle_ending(alloc, journal, state, undo, periods, step, lists, ending),
         Err(error) => {
             let_go(step);
             let_go(lists);
-            return Err(error);
+            Err(error)
         }
-    };
+    }
+}
+
+// The same, where this is what the entry leaves.
+fn settle_ending(
+    alloc: Global,
+    journal: &mut Journal<Step>,
+    state: &mut State,
+    undo: &Draft,
+    periods: &List<OpenPeriod>,
+    step: Box<Step>,
+    lists: Lists,
+    ending: Ending,
+) -> Result<List<GateKey>, OutOfMemory>
+    requires { IsEnding journal.old step.value state.old undo.now periods.now lists ending }
+    ensures settled { IfOk result (λ shut. HasSettled journal.old step.value lists state.old journal.new state.new shut) }
+    ensures journal { OnErr result (journal.new ≡ journal.old) }
+    ensures state { OnErr result (state.new ≡ state.old) }
+{
+    // These let the proof know what holds of every journal, and of the registry.
+    note_listeners();
+    note_bundles();
+    note_stops();
+    let _rows = state.world.registry.rows();
     let given = services_among(lists.opened.as_slice());
     match state.world.registry.give(given) {
         Ok(_) => {}

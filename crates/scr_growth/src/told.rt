@@ -1,7 +1,7 @@
 //! What is told of a step before it stands in the world.
 ghost use Rattle.scr_growth.specs.Growths.{IsTold};
 ghost use Rattle.scr_state.specs.Keeps.{IsDraft};
-ghost use Rattle.std.specs.Prelude.{IfOk};
+ghost use Rattle.std.specs.Prelude.{◌+◌, ◌^◌, ◌<◌, IfOk};
 
 use crate::undone::rows_with;
 use prop_map::{List, OutOfMemory};
@@ -25,14 +25,15 @@ pub(crate) struct Told {
 /// What is told of a step whose draft this is.
 ///
 /// # Errors
-/// Only want of memory. That a service has no number of 64 bits left counts as such.
+/// Only want of memory.
 pub(crate) fn told_before(
     alloc: Global,
     state: &State,
     step: &Step,
     draft: &Draft,
 ) -> Result<Told, OutOfMemory>
-    requires { IsDraft state.now step.now draft.now }
+    requires draft { IsDraft state.now step.now draft.now }
+    requires next { state.now.world.registry.numbered + 1 < 2 ^ 64 }
     ensures { IfOk result (λ told. IsTold step.now state.now.world told) }
 {
     let world = &state.world;

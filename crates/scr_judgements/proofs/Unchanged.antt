@@ -1,5 +1,5 @@
 -- What is open where a command changed the properties of no component configuration.
-use Rattle.std.proofs.Common.{◌≡◌, ◌+◌, ◌∙◌, ℕ, List, [], ◌∷◌, ◌++◌, ap, cond, refl, subst, sym, Bool, true, false, ◌||◌, Option, Some, None}
+use Rattle.std.proofs.Common.{◌≡◌, ◌+◌, ◌^◌, ◌<◌, ◌∙◌, ℕ, List, [], ◌∷◌, ◌++◌, ap, cond, refl, subst, sym, Bool, true, false, ◌||◌, Option, Some, None}
 use Rattle.std.specs.Prelude.{◌==◌, find, map}
 use Rattle.std.specs.List.{Contains, list_any}
 use Rattle.std.specs.Option.{option_map_or}
@@ -16,6 +16,7 @@ use Rattle.scr_laws.proofs.Calm.{of_number, one_of_number, open_lives}
 use Rattle.scr_laws.proofs.Described.{legal_in_order}
 use Rattle.scr_laws.proofs.Legal.{legal_scratch}
 use Rattle.scr_laws.proofs.Listed.{found_is, in_mapped, kept_in, map_same}
+use Rattle.scr_laws.proofs.NextNumbers.{few_components}
 use Rattle.scr_laws.proofs.StillLaw.{legal_calm}
 use Rattle.scr_laws.specs.Opens.{IsInOrder}
 use Rattle.scr_state.specs.Keeps.{IsKept}
@@ -131,5 +132,10 @@ kept_legal s kept = record {
   limit = kept.journal.limit;
   past = history_of kept.journal.entries;
   legal = kept.keeps.legal;
+  small = kept.keeps.small;
   is = kept.keeps.world;
 }
+
+-- it has given few numbers to component configurations
+pub few_of_legal : (w : World) → IsOfLegal w → w.components_numbered < 2 ^ 63
+few_of_legal w legal = subst (λ (v : World). v.components_numbered < 2 ^ 63) (sym legal.is) (few_components legal.limit legal.past legal.legal legal.small)

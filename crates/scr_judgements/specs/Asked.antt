@@ -1,5 +1,5 @@
 -- What a command makes of the component configurations and of what hangs on them. OSGi Compendium 8, chapter 112, "Component Configuration"; numbers and failures are our own.
-use Rattle.std.specs.Prelude.{◌≡◌, ℕ, ◌+◌, ◌==◌, ◌&&◌, filter, length, nat_lt, not, Bool, true, false, Option, Some, None}
+use Rattle.std.specs.Prelude.{◌≡◌, ◌≤◌, ℕ, ◌+◌, ◌==◌, ◌&&◌, filter, length, nat_lt, not, Bool, true, false, Option, Some, None}
 use Rattle.bundle_life.specs.declared.bundle.BundleState.TheVariants.{Installed, Stopping, Active}
 use Rattle.scr_judgements.specs.declared.after.StateGiven.{StateGiven}
 use Rattle.scr_judgements.specs.declared.asked.Asked.{Asked}
@@ -13,11 +13,12 @@ use Rattle.scr_world.specs.declared.step.Step.{Step}
 use Rattle.scr_world.specs.declared.step.Step.TheVariants.{Command as Commanded}
 use Rattle.scr_world.specs.declared.world.World.{World}
 
--- a world is that of a legal history
+-- a world is that of a legal history, as long as a platform's may be
 pub record IsOfLegal (w : World) : Type 0 where
   pub limit : ℕ
   pub past : History
   pub legal : IsLegal limit past
+  pub small : limit ≤ 4194304
   pub is : w ≡ world_of past
 
 -- these are the component configurations after a step, and what hangs on them

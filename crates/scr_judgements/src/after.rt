@@ -34,7 +34,7 @@ pub(crate) struct StateGiven {
 /// are those after it, and `satisfied` has those that were satisfied before it, in any order.
 ///
 /// # Errors
-/// Only want of memory. That no number is left counts as such.
+/// Only want of memory.
 #[tactic(auto, using(crate::proofs::Given::given_asks))]
 pub(crate) fn asked_after(
     alloc: Global,

@@ -6,7 +6,7 @@ ghost use Rattle.scr_judgements.specs.Lasting.{AsksAsBefore};
 ghost use Rattle.scr_laws.specs.Askeds.{IsAsked};
 ghost use Rattle.scr_world.specs.Stepping.{component_configurations_by, components_added_by, components_by, counted_components};
 ghost use Rattle.scr_world.specs.Worlds.{satisfied_in};
-ghost use Rattle.std.specs.Prelude.{◌≡◌, ◌+◌, ◌-◌, ◌≤◌, ℕ, IfOk, map, true};
+ghost use Rattle.std.specs.Prelude.{◌≡◌, ◌+◌, ◌-◌, ◌^◌, ◌<◌, ◌≤◌, ℕ, IfOk, map, true};
 
 use crate::counted::{copied, counted_components};
 use crate::open_and_failed::{failed_by_command, periods_asked};
@@ -16,7 +16,7 @@ use component_state::{
 use config_admin::Configuration;
 use prop_map::{List, OutOfMemory};
 use scr_world::{Step, World};
-use std::alloc::{AllocError, Global};
+use std::alloc::Global;
 
 /// What a command makes of the component configurations and of what hangs on them.
 #[derive(Drop)]
@@ -35,7 +35,7 @@ pub struct Asked {
 /// ask for after it, and `satisfied` has those that were satisfied before it, in any order.
 ///
 /// # Errors
-/// Only want of memory. That no number is left counts as such.
+/// Only want of memory.
 pub(crate) fn asked_for_bundles<'w>(
     alloc: Global,
     world: &World,
@@ -86,11 +86,13 @@ fn numbered_after(
     components: &[Component],
 ) -> Result<u64, OutOfMemory>
     requires command { is_command step.now ≡ true }
+    requires legal { IsOfLegal world.now }
     requires components { components.now ≡ components_by step.now world.now }
     ensures { IfOk result (λ numbered. numbered ≡ world.now.components_numbered + components_added_by step.now world.now) }
 {
     let counted = counted_components(alloc, world)?;
-    numbered_by_command(world, step, counted.as_slice(), components)
+    let numbered = numbered_by_command(world, step, counted.as_slice(), components);
+    Ok(numbered)
 }
 
 #[tactic(auto, using(crate::proofs::Commands::command_adds, crate::proofs::Commands::command_keeps))]
@@ -99,22 +101,24 @@ fn numbered_by_command(
     step: &Step,
     counted: &[&Component],
     components: &[Component],
-) -> Result<u64, OutOfMemory>
+) -> u64
     requires command { is_command step.now ≡ true }
+    requires legal { IsOfLegal world.now }
     requires counted { map (λ c. c.now) counted.now ≡ counted_components world.now }
     requires components { components.now ≡ components_by step.now world.now }
-    ensures { IfOk result (λ numbered. numbered ≡ world.now.components_numbered + components_added_by step.now world.now) }
+    ensures { result ≡ world.now.components_numbered + components_added_by step.now world.now }
 {
     numbered_on(world.components_numbered, counted.len(), components.len())
 }
 
 // So many more as there are more after than before.
-fn numbered_on(numbered: u64, before: usize, after: usize) -> Result<u64, OutOfMemory>
-    requires { before ≤ after }
-    ensures { IfOk result (λ n. n ≡ numbered + (after - before)) }
+fn numbered_on(numbered: u64, before: usize, after: usize) -> u64
+    requires more { before ≤ after }
+    requires room { numbered + after < 2 ^ 64 }
+    ensures { result ≡ numbered + (after - before) }
 {
     let added = after - before;
-    numbered.checked_add(added as u64).ok_or(AllocError)
+    numbered + added as u64
 }
 
 // What hangs on the component configurations after a command.

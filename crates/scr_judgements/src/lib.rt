@@ -24,7 +24,7 @@ pub use drafting::{TablesAfter, command_draft};
 pub use full::are_too_many;
 pub use judgement::Judgement;
 pub use lasting::{draft_as_before, draft_with};
-pub use numbering::{next_bundle, next_length};
+pub use numbering::next_bundle;
 pub use open_and_failed::{failed_by_command, periods_with_command};
 pub use room::has_room_for_command;
 pub use tables_after::asked_with;

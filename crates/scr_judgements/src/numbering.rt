@@ -1,17 +1,10 @@
 //! The number that the next bundle has (OSGi Core 8, chapter 4, "Bundle Identifiers").
 ghost use Rattle.scr_state.specs.Keeps.{Keeps};
-ghost use Rattle.std.specs.Prelude.{◌≡◌, ◌+◌, length};
+ghost use Rattle.std.specs.Prelude.{◌≡◌, ◌+◌};
 
 use journal_core::Journal;
-use scr_state::State;
+use scr_state::{State, next_length};
 use scr_world::Step;
-
-/// How many entries a journal has with the next one. It takes no memory.
-pub fn next_length(journal: &Journal<Step>) -> u64
-    ensures { result ≡ length journal.now.entries + 1 }
-{
-    journal.entries().len() as u64 + 1
-}
 
 /// The number of the bundle that is installed next. There is one of 64 bits, since no more were given than there are entries. It
 /// takes no memory.

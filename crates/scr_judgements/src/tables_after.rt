@@ -17,7 +17,7 @@ use std::alloc::Global;
 /// 8, chapter 112, "Component Configuration").
 ///
 /// # Errors
-/// Only want of memory. That no number is left counts as such.
+/// Only want of memory.
 #[tactic(auto, using(crate::proofs::Unchanged::kept_legal, crate::proofs::Tables::by_commands, crate::proofs::Tables::documents_by_step, crate::proofs::Tables::configurations_by_step))]
 pub fn asked_with(
     alloc: Global,

@@ -1,7 +1,11 @@
--- No more numbers are given than there are entries.
-use Rattle.std.proofs.Common.{◌≡◌, ◌≤◌, ◌+◌, ◌-◌, ℕ, [], ◌∷◌, Bool, true, false, cond, arith, refl}
+-- No more numbers are given than there are entries, and of component configurations and services no more than so many by each.
+use Rattle.std.proofs.Common.{◌≡◌, ◌≤◌, ◌+◌, ◌-◌, ◌*◌, ℕ, [], ◌∷◌, Bool, true, false, cond, arith, refl}
 use Rattle.bundle_life.specs.Lives.{BundleTable}
 use Rattle.callback_orders.specs.Grammar.{is_create}
+use Rattle.scr_laws.proofs.CreatedLaws.{entries_of}
+use Rattle.scr_laws.proofs.FewByEntry.{components_more, services_more}
+use Rattle.scr_laws.proofs.FewOpenings.{few_openings}
+use Rattle.scr_laws.proofs.Reserved.{room_in}
 use Rattle.scr_laws.specs.Numbers.{HasFewNumbers}
 use Rattle.scr_world.specs.Legal.{IsLegal, MayCome}
 use Rattle.scr_world.specs.Lists.{changes_between, with_lists_of, world_after_entry, world_of}
@@ -62,7 +66,28 @@ few_others (entry ∷ past) =
     let makes = makes_begins entry.step in
     (omega (arith, before.0, bundle), omega (arith, before.1, listener), omega (arith, before.2, makes))
 
+-- and there are no more entries than its limit says
+pub few_entries : (limit : ℕ) (journal : History) → IsLegal limit journal → (world_of journal).entries ≤ limit
+few_entries limit journal legal = let room = room_in limit journal legal in let counted = entries_of journal in omega (arith, room, counted)
+
+few_components : (limit : ℕ) (journal : History) → IsLegal limit journal → (world_of journal).components_numbered ≤ 512 * (world_of journal).entries
+unfolding world_of world_after_entry world_after_step
+few_components limit [] legal = omega arith
+few_components limit (entry ∷ past) legal = let fewer = few_components limit past legal.1 in let more = components_more limit entry past legal in omega (arith, fewer, more)
+
+few_services : (limit : ℕ) (journal : History) → IsLegal limit journal → (world_of journal).registry.numbered ≤ 513 * (world_of journal).entries
+unfolding world_of world_after_entry world_after_step
+few_services limit [] legal = omega arith
+few_services limit (entry ∷ past) legal = let fewer = few_services limit past legal.1 in let more = services_more limit entry past legal in omega (arith, fewer, more)
+
 pub few_numbers : (limit : ℕ) (journal : History) → IsLegal limit journal → HasFewNumbers (world_of journal)
 few_numbers limit journal legal =
-    let others = few_others journal in
-    record { bundles = others.0; listeners = others.1; turns = few_turns limit journal legal; instances = others.2 }
+    let others = few_others journal in record {
+      bundles = others.0;
+      listeners = others.1;
+      turns = few_turns limit journal legal;
+      instances = others.2;
+      components = few_components limit journal legal;
+      services = few_services limit journal legal;
+      generations = few_openings journal;
+    }

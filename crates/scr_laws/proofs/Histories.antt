@@ -24,7 +24,7 @@ use Rattle.scr_laws.proofs.Asking.{asking_asks, asking_stays, forgetting_stays}
 use Rattle.scr_laws.proofs.Resting.{asked_rests, stopped_was_stopping}
 use Rattle.scr_laws.proofs.Tables.{rested_apart, tables_apart}
 
-remembers_living : (is : List Instance) (c : Component) → c.exists ≡ true → is_counted is c ≡ true
+pub remembers_living : (is : List Instance) (c : Component) → c.exists ≡ true → is_counted is c ≡ true
 remembers_living is c e = ap (λ b. b || list_any (λ (i : Instance). i.origin.configuration == c.number) is) e
 
 -- asking anew changes nothing but that those are forgotten that ceased without an instance

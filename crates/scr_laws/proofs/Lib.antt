@@ -31,7 +31,10 @@ pub mod Counting
 pub mod CreatedLaws
 pub mod GateKeyLaws
 pub mod InstanceLemmas
+pub mod FewByEntry
 pub mod FewNumbers
+pub mod FewOpenings
+pub mod NextNumbers
 pub mod Numbering
 pub mod SlotLaws
 pub mod AnswerLaws

@@ -1,7 +1,7 @@
 -- The numbers that a journal gives to bundles, services, listeners, turns and instances: each once, none left out.
 -- OSGi Core 8, chapter 4, "Bundle Identifiers", and chapter 5, "Service Properties" (`service.id`); that none is left
 -- out is our own.
-use Rattle.std.specs.Prelude.{◌≡◌, ◌≤◌, ℕ, ◌-◌, ◌==◌, List, [], ◌∷◌, ◌++◌, map, not, filter, length, if◌then◌else◌}
+use Rattle.std.specs.Prelude.{◌≡◌, ◌≤◌, ℕ, ◌-◌, ◌*◌, ◌==◌, List, [], ◌∷◌, ◌++◌, map, not, filter, length, slice_index, if◌then◌else◌}
 use Rattle.std.specs.List.{range_with_len}
 use Rattle.callback_orders.specs.Grammar.{is_create}
 use Rattle.journal_core.specs.declared.entry.Entry.{Entry}
@@ -72,9 +72,13 @@ abbrev pub made_by : Step → List ℕ
 made_by (Begin turn instance configuration consumer callback chosen) = if is_create callback then instance ∷ [] else []
 made_by _ = []
 
--- no more numbers than there are entries were given to bundles, to listeners, to turns and to instances; the first entry begins no turn
+-- no more numbers than there are entries were given to bundles, to listeners, to turns and to instances; the first entry begins no turn, and opens no gate;
+-- an entry gives at most 512 numbers to component configurations and 513 to services, and opens a gate once
 pub record HasFewNumbers (w : World) : Type 0 where
   pub bundles : w.bundles.numbered ≤ w.entries
   pub listeners : w.listeners.numbered ≤ w.entries
   pub turns : w.turns_begun ≤ w.entries - 1
   pub instances : w.instances_numbered ≤ w.turns_begun
+  pub components : w.components_numbered ≤ 512 * w.entries
+  pub services : w.registry.numbered ≤ 513 * w.entries
+  pub generations : (slot : ℕ) → slice_index w.generations slot ≤ w.entries - 1

@@ -20,7 +20,8 @@ pub fn note_numbers()
 {}
 
 /// For contracts alone: a legal journal gives no more numbers to bundles, to listeners, to turns and to instances than it has
-/// entries.
+/// entries, to component configurations at most 512 times as many, to services 513 times, and it opens no gate more often than it
+/// has entries behind the first one.
 pub fn note_few_numbers()
     ensures { (limit : ℕ) → (journal : History) → IsLegal limit journal → HasFewNumbers (world_of journal) }
 {}

@@ -1,5 +1,5 @@
 -- What a state has to do with its journal, and a draft with its step. Our own.
-use Rattle.std.specs.Prelude.{◌≡◌, ℕ}
+use Rattle.std.specs.Prelude.{◌≡◌, ◌≤◌, ℕ}
 use Rattle.std.specs.Option.{unwrap_or}
 use Rattle.journal_core.specs.Rooms.{JournalRows}
 use Rattle.prop_map.specs.Words.{has}
@@ -17,7 +17,7 @@ use Rattle.scr_world.specs.Worlds.{satisfied_in}
 use Rattle.scr_world.specs.declared.step.Step.{Step}
 use Rattle.scr_world.specs.declared.world.World.{World}
 
--- the state is what the journal says, the journal is legal within its limit, and has reserved what has begun
+-- the state is what the journal says, the journal is legal within its limit, which is at most 4,194,304 entries, and has reserved what has begun
 pub record Keeps (journal : JournalRows Step) (s : State) : Type 0 where
   pub world : s.world ≡ world_of (history_of journal.entries)
   pub descriptions : s.descriptions ≡ descriptions_of s.world.documents
@@ -25,6 +25,7 @@ pub record Keeps (journal : JournalRows Step) (s : State) : Type 0 where
   pub satisfied : (number : ℕ) → has s.satisfied number ≡ has (satisfied_in s.world) number
   pub reserved : journal.reserved ≡ reserved s.world
   pub legal : IsLegal journal.limit (history_of journal.entries)
+  pub small : journal.limit ≤ 4194304
 
 -- a state is that of some journal
 pub record IsKept (s : State) : Type 0 where

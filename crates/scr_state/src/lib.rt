@@ -2,6 +2,7 @@
 #![tactic(auto)]
 
 mod draft;
+mod lengths;
 mod room;
 mod row_change;
 mod state;
@@ -9,6 +10,7 @@ mod swap;
 mod swap_rows;
 
 pub use draft::Draft;
+pub use lengths::next_length;
 pub use room::Room;
 pub use row_change::RowChange;
 pub use state::State;

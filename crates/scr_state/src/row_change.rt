@@ -1,10 +1,10 @@
 //! What a step makes of the rows of a table.
 ghost use Rattle.scr_state.specs.Rows.{HasRoomAmong, with_change};
-ghost use Rattle.std.specs.Prelude.{◌≡◌, ◌<◌, ◌++◌, ◌∷◌, [], IfOk, length, remove};
+ghost use Rattle.std.specs.Prelude.{◌≡◌, ◌+◌, ◌^◌, ◌<◌, ◌++◌, ◌∷◌, [], IfOk, length, remove};
 
 use crate::Room;
 use prop_map::OutOfMemory;
-use std::alloc::{AllocError, Global};
+use std::alloc::Global;
 
 /// What a step makes of the rows of a table, of which one at most changes.
 #[derive(Drop)]
@@ -43,12 +43,12 @@ impl<T: Drop> RowChange<T> {
     /// Only want of memory.
     #[tactic(auto, using(crate::proofs::Undoing::insert_end))]
     pub fn behind(alloc: Global, rows: &[T], row: T) -> Result<RowChange<T>, OutOfMemory>
+        requires { length rows.now + 1 < 2 ^ 64 }
         ensures rows { IfOk result (λ change. with_change change rows.now ≡ rows.now ++ row ∷ []) }
         ensures room { IfOk result (λ change. HasRoomAmong change rows.now) }
     {
         let place = rows.len();
-        let count = place.checked_add(1).ok_or(AllocError)?;
-        let room = Room::of(alloc, count)?;
+        let room = Room::of(alloc, place + 1)?;
         Ok(RowChange::Inserted { place, row, room })
     }
 

@@ -278,6 +278,7 @@ module _ (journal : JournalRows Step) (s : State) (keeps : Keeps journal s) (tur
           legal = subst (λ (h : History). IsLegal new.limit h) (sym history_then)
               (subst (λ (n : ℕ). IsLegal n (bare (End turn outcome) ∷ history_of journal.entries)) (sym (ap (λ (j : JournalRows Step). j.limit) new_is))
               (it_follows journal.limit (history_of journal.entries) keeps.legal turn outcome still_so may_so room_so, keeps.legal));
+          small = subst (λ (l : ℕ). l ≤ 4194304) (sym (ap (λ (j : JournalRows Step). j.limit) new_is)) keeps.small;
         }
 
         pub kept : (now : World) → now ≡ left_world l lost m → Keeps new (record s { world = now })

@@ -407,6 +407,7 @@ module _ (journal : JournalRows Step) (s : State) (keeps : Keeps journal s) (ste
       legal = subst (λ (h : History). IsLegal new.limit h) (sym history_then)
           (subst (λ (l : ℕ). IsLegal l (bare step ∷ history_of journal.entries)) (sym (ap (λ (j : JournalRows Step). j.limit) new_is))
           (it_follows journal.limit (history_of journal.entries) keeps.legal step shuts may_come has_space, keeps.legal));
+      small = subst (λ (l : ℕ). l ≤ 4194304) (sym (ap (λ (j : JournalRows Step). j.limit) new_is)) keeps.small;
     }
 
     pub kept : (n : ℕ) → n ≡ s.world.entries + 1 → Keeps new (record s { world = record m { entries = n } })

@@ -12,7 +12,7 @@ use crate::leavings::{Leaving, leaving_of, lost_by, take_over};
 use callback_orders::Outcome;
 use journal_core::{Entry, GateKey, Journal};
 use prop_map::{List, OutOfMemory};
-use scr_state::{Draft, State, swap_in};
+use scr_state::{Draft, State, next_length, swap_in};
 use scr_world::{Step, World};
 use std::alloc::Global;
 
@@ -20,8 +20,7 @@ use std::alloc::Global;
 /// the end is one of those without consequences, as `is_still_end` tells.
 ///
 /// # Errors
-/// Only want of memory. That the generation of a gate has no number of 64 bits left counts as such. The journal and the state are
-/// as they were.
+/// Only want of memory. The journal and the state are as they were.
 pub fn grow_still_end(
     alloc: Global,
     journal: &mut Journal<Step>,
@@ -69,7 +68,7 @@ fn grow_end(
     ensures as_before { OnErr result (journal.new ≡ journal.old) }
     ensures state { OnErr result (state.new ≡ state.old) }
 {
-    let entries = journal.entries().len() as u64 + 1;
+    let entries = next_length(journal);
     let leaving = leaving_of(alloc, &state.world, turn, outcome, entries)?;
     swap_in(alloc, &mut state.world, undo);
     match enter(alloc, journal, &state.world, turn, outcome, &leaving) {

@@ -15,7 +15,7 @@ use crate::generic::{append, append_reserved, let_go};
 use callback_orders::Callback;
 use journal_core::{Entry, Journal};
 use prop_map::{List, OutOfMemory};
-use scr_state::{Draft, State, swap_in};
+use scr_state::{Draft, State, next_length, swap_in};
 use scr_world::Step;
 use std::alloc::Global;
 
@@ -43,7 +43,7 @@ pub fn grow_still(
     ensures as_before { OnErr result (journal.new ≡ journal.old) }
     ensures state { OnErr result (state.new ≡ state.old) }
 {
-    let entries = journal.entries().len() as u64 + 1;
+    let entries = next_length(journal);
     let mut undo = draft;
     let grown = grow_to(alloc, journal, state, step, &mut undo, entries);
     let_go(undo);

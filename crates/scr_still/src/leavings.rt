@@ -1,5 +1,6 @@
 //! What an end without consequences leaves: the gate that is shut with it, and the service that isn't held any more (OSGi
 //! Compendium 8, chapter 112, "Unbinding"; gates are our own).
+ghost use Rattle.scr_consequences.specs.Ends.{HaveNextGenerations};
 ghost use Rattle.scr_laws.specs.Reserving.{activates_by};
 ghost use Rattle.scr_still.specs.StillEnds.{IsLeaving, IsLost, gives_drain_back, is_shut_by, key_opened, left_world, service_unbound};
 ghost use Rattle.scr_still.specs.StillEnds.{shut_by_end, unbound_by, without};
@@ -33,13 +34,14 @@ pub(crate) struct Leaving {
     pub(crate) drain: bool,
 }
 
-fn key_opened(generations: &[u64], instance: &Instance) -> Result<GateKey, OutOfMemory>
-    ensures { IfOk result (λ key. key ≡ key_opened generations.now instance.now) }
+fn key_opened(generations: &[u64], instance: &Instance) -> GateKey
+    requires { HaveNextGenerations generations.now }
+    ensures { result ≡ key_opened generations.now instance.now }
 {
-    Ok(GateKey {
+    GateKey {
         slot: instance.slot,
-        generation: next_generation(generations, instance)?,
-    })
+        generation: next_generation(generations, instance),
+    }
 }
 
 fn is_shut_by(world: &World, turn: u64, outcome: Outcome, instance: &Instance) -> bool
@@ -56,12 +58,13 @@ fn shut_among(
     turn: u64,
     outcome: Outcome,
 ) -> Result<List<GateKey>, OutOfMemory>
+    requires { HaveNextGenerations generations.now }
     ensures { IfOk result (λ keys. keys ≡ map (key_opened generations.now) (filter (is_shut_by turn outcome world.now) instances.now)) }
 {
     let mut keys = Vec::new(alloc);
     for instance in instances {
         if is_shut_by(world, turn, outcome, instance) {
-            keys.push(key_opened(generations, instance)?)?;
+            keys.push(key_opened(generations, instance))?;
         }
     }
     Ok(List::of(keys))
@@ -74,6 +77,7 @@ fn shut_by_end(
     turn: u64,
     outcome: Outcome,
 ) -> Result<List<GateKey>, OutOfMemory>
+    requires { HaveNextGenerations world.now.generations }
     ensures { IfOk result (λ keys. keys ≡ shut_by_end turn outcome world.now) }
 {
     shut_among(
@@ -182,7 +186,7 @@ fn leave_out(alloc: Global, rows: &mut List<ServiceRow>, lost: Option<u64>)
 /// What is told of an end before it stands in the world, with which there are so many entries.
 ///
 /// # Errors
-/// Only want of memory. That the generation of a gate has no number of 64 bits left counts as such.
+/// Only want of memory.
 pub(crate) fn leaving_of(
     alloc: Global,
     world: &World,
@@ -190,7 +194,8 @@ pub(crate) fn leaving_of(
     outcome: Outcome,
     entries: u64,
 ) -> Result<Leaving, OutOfMemory>
-    requires { entries ≡ world.now.entries + 1 }
+    requires entries { entries ≡ world.now.entries + 1 }
+    requires next { HaveNextGenerations world.now.generations }
     ensures { IfOk result (λ l. IsLeaving turn outcome world.now l) }
 {
     Ok(Leaving {

@@ -14,8 +14,10 @@ use Rattle.component_state.specs.Components.{exists}
 use Rattle.component_state.specs.Marks.{exists_unchanged, failed_after}
 use Rattle.prop_map.specs.Words.{has}
 use Rattle.scr_laws.proofs.FewNumbers.{few_numbers}
+use Rattle.scr_laws.proofs.NextNumbers.{next_generations}
 use Rattle.scr_laws.proofs.TurnCallbacks.{are_told_apart}
 use Rattle.scr_laws.proofs.Sounding.{legal_sound}
+use Rattle.scr_laws.proofs.SlotLimits.{instances_within}
 use Rattle.scr_laws.proofs.TokenOrder.{tokens_spread}
 use Rattle.scr_state.specs.Drafts.{HasRoom, with_draft}
 use Rattle.scr_state.specs.Keeps.{IsDraft, IsKept, with_bundles_by}
@@ -56,8 +58,8 @@ failed_in (Got bundle service) w satisfied is same = failed_alike w.entries sati
 failed_in (Released place) w satisfied is same = failed_alike w.entries satisfied (satisfied_in w) w.components [] w.failed same
 
 -- a state of a legal journal
-known_of : (limit : ℕ) (past : History) → IsLegal limit past → AreKnown (world_of past)
-known_of limit past legal =
+known_of : (limit : ℕ) (past : History) → IsLegal limit past → limit ≤ 4194304 → AreKnown (world_of past)
+known_of limit past legal small =
     let w = world_of past in
     let apart = are_told_apart limit past legal in
     let sound = legal_sound limit past legal in record {
@@ -67,10 +69,12 @@ known_of limit past legal =
       places = (tokens_spread past).apart;
       counted = token_counted past;
       few = few_numbers limit past legal;
+      next = next_generations limit past legal small;
+      instances = instances_within limit past legal;
     }
 
 pub known : (s : State) → IsKept s → AreKnown s.world
-known s kept = subst (λ (w : World). AreKnown w) (sym kept.keeps.world) (known_of kept.journal.limit (history_of kept.journal.entries) kept.keeps.legal)
+known s kept = subst (λ (w : World). AreKnown w) (sym kept.keeps.world) (known_of kept.journal.limit (history_of kept.journal.entries) kept.keeps.legal kept.keeps.small)
 
 world_drafted : (step : Step) (w : World) (c : TurnChanges) → is_turn_step step ≡ true → IsTurnChange step w c → with_draft (draft_with c w) w ≡ world_after_step step w
 unfolding with_draft draft_with world_after_step

@@ -1,10 +1,11 @@
 -- What the steps of turns change. Our own.
-use Rattle.std.specs.Prelude.{◌≡◌, ◌<◌, ℕ, ◌+◌, ◌++◌, ◌∷◌, [], List, None, map, true}
+use Rattle.std.specs.Prelude.{◌≡◌, ◌<◌, ◌≤◌, ℕ, ◌+◌, ◌++◌, ◌∷◌, [], List, None, length, map, true}
 use Rattle.std.specs.List.{Contains}
 use Rattle.std.specs.Option.{unwrap_or}
 use Rattle.callback_orders.specs.declared.callback.Callback.{Callback}
 use Rattle.callback_orders.specs.Sequences.{begun}
 use Rattle.component_state.specs.Inside.Ready.{are_apart}
+use Rattle.scr_consequences.specs.Ends.{HaveNextGenerations}
 use Rattle.scr_laws.specs.Numbers.{HasFewNumbers}
 use Rattle.scr_state.specs.Rows.{HasRoomAmong, with_change}
 use Rattle.scr_state.specs.declared.draft.Draft.{Draft}
@@ -31,7 +32,8 @@ told_in w turn callback i = with_effect_of_begin (before_turn w) callback (recor
 abbrev pub HaveOwnNumbers : List Instance → Type 0
 HaveOwnNumbers is = are_apart (map (λ (i : Instance). i.number) is) ≡ true
 
--- each instance was told last by a turn of its own too, and lives on; each get by token has a place of its own, and is counted; few numbers were given
+-- each instance was told last by a turn of its own too, and lives on; each get by token has a place of its own, and is counted; few numbers were given,
+-- each gate has one left, and there are as few instances as a platform has at most
 pub record AreKnown (w : World) : Type 0 where
   pub numbers : HaveOwnNumbers w.instances
   pub turns : are_apart (map (λ (i : Instance). i.turn) w.instances) ≡ true
@@ -39,6 +41,8 @@ pub record AreKnown (w : World) : Type 0 where
   pub places : are_apart (map (λ (t : Token). t.place) w.tokens) ≡ true
   pub counted : (t : Token) → Contains w.tokens t → 0 < holder_count ByToken t.bundle t.service w.uses
   pub few : HasFewNumbers w
+  pub next : HaveNextGenerations w.generations
+  pub instances : length w.instances ≤ 66048
 
 -- what a step of a turn makes of the failures, of the instances, of the numbers given out and of the gets, each with room for a row that comes or goes
 pub record AreFailureChanges (step : Step) (w : World) (c : FailureChanges) : Type 0 where

@@ -7,19 +7,22 @@ ghost use Rattle.component_state.specs.declared.open_period.OpenPeriod.{OpenPeri
 ghost use Rattle.scr_world.specs.Instances.{created_at};
 ghost use Rattle.scr_world.specs.Stepping.{before_turn};
 ghost use Rattle.std.specs.Option.{option_copied};
-ghost use Rattle.std.specs.Prelude.{◌≡◌, ◌==◌, ◌∷◌, [], IfOk, find};
+ghost use Rattle.std.specs.Prelude.{◌≡◌, ◌==◌, ◌≤◌, ◌∷◌, [], IfOk, find, length};
 
 use crate::begins::properties_of;
-use crate::slots::first_free_slot;
+use crate::slots::next_slot;
 use callback_orders::Callback;
 use component_state::{Choice, OpenPeriod, Origin};
 use instance_callbacks::InstanceCallbacks;
 use prop_map::{Copies, List, OutOfMemory, Properties, Shared};
 use scr_world::{Instance, World};
-use std::alloc::{AllocError, Global};
+use std::alloc::Global;
 use told_revisions::ToldRevisions;
 
-/// The instance that the beginning of a Create makes. That its slot is no number of 32 bits counts as want of memory.
+/// The instance that the beginning of a Create makes.
+///
+/// # Errors
+/// Only want of memory.
 pub(crate) fn created(
     alloc: Global,
     world: &World,
@@ -29,13 +32,14 @@ pub(crate) fn created(
     consumer: u64,
     chosen: &List<Choice>,
 ) -> Result<Instance, OutOfMemory>
+    requires { length world.now.instances ≤ 66048 }
     ensures { IfOk result (λ i. i ≡ created_at (before_turn world.now) turn instance configuration consumer chosen.now) }
 {
     Ok(Instance {
         number: instance,
         consumer,
         service: service_in(world.open_periods.as_slice(), configuration),
-        slot: u32::try_from(first_free_slot(world.instances.as_slice())).map_err(|_| AllocError)?,
+        slot: next_slot(world.instances.as_slice()),
         generation: 0,
         drained: false,
         turn,

@@ -19,7 +19,7 @@ use std::alloc::Global;
 /// What a step of a turn makes of a state: of a turn that begins or ends, a drain, a get by token or its release.
 ///
 /// # Errors
-/// Only want of memory. That a generation of a gate, a slot or a count of uses is too high counts as such.
+/// Only want of memory. That a count of uses is too high counts as such.
 pub fn turn_draft(alloc: Global, state: &State, step: &Step) -> Result<Draft, OutOfMemory>
     requires turn { is_turn_step step.now ≡ true }
     requires kept { IsKept state.now }

@@ -7,7 +7,7 @@ ghost use Rattle.scr_world.specs.TurnSteps.{is_turn_step};
 ghost use Rattle.scr_world.specs.declared.instance.Instance.{Instance};
 ghost use Rattle.std.specs.List.{position};
 ghost use Rattle.std.specs.Option.{unwrap_or};
-ghost use Rattle.std.specs.Prelude.{◌≡◌, ◌==◌, ◌++◌, ◌∷◌, [], IfOk, filter, map, true};
+ghost use Rattle.std.specs.Prelude.{◌≡◌, ◌==◌, ◌≤◌, ◌++◌, ◌∷◌, [], IfOk, filter, length, map, true};
 
 use crate::begins::told_in;
 use crate::both::both;
@@ -99,6 +99,7 @@ fn added(
     consumer: u64,
     chosen: &List<Choice>,
 ) -> Result<RowChange<Instance>, OutOfMemory>
+    requires { length world.now.instances ≤ 66048 }
     ensures rows { IfOk result (λ r. with_change r world.now.instances ≡ world.now.instances ++ created_at (before_turn world.now) turn instance configuration consumer chosen.now ∷ []) }
     ensures room { IfOk result (λ r. HasRoomAmong r world.now.instances) }
 {
@@ -223,6 +224,7 @@ fn whiteboard_after(
     world: &World,
     step: &Step,
 ) -> Result<Option<Instance>, OutOfMemory>
+    requires known { AreKnown world.now }
     ensures { IfOk result (λ r. unwrap_or r world.now.whiteboard ≡ whiteboard_by step.now world.now) }
 {
     let whiteboard = &world.whiteboard;

@@ -26,7 +26,7 @@ pub(crate) struct NumberChanges {
 /// What a step of a turn makes of the numbers that are given out, and of the counts of the gates.
 ///
 /// # Errors
-/// Only want of memory. That the generation of a gate has no number of 64 bits left counts as such.
+/// Only want of memory.
 pub(crate) fn number_changes(
     alloc: Global,
     world: &World,
@@ -72,6 +72,7 @@ fn generations_after(
     world: &World,
     step: &Step,
 ) -> Result<RowChange<u64>, OutOfMemory>
+    requires { AreKnown world.now }
     ensures rows { IfOk result (λ r. with_change r world.now.generations ≡ generations_by step.now world.now) }
     ensures room { IfOk result (λ r. HasRoomAmong r world.now.generations) }
 {
@@ -83,7 +84,7 @@ fn generations_after(
         }
         Step::End { turn, outcome } => {
             let reopened = reopening(instances, *turn, *outcome);
-            reopened_for(generations, reopened)
+            Ok(reopened_for(generations, reopened))
         }
         _ => Ok(RowChange::Same),
     }

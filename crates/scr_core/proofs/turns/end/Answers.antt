@@ -1,8 +1,10 @@
 use Rattle.std.proofs.Common.{◌∙◌, List, ap, arith, subst, sym}
+use Rattle.scr_consequences.specs.Ends.{HaveNextGenerations}
 use Rattle.scr_core.proofs.FarJournals.{far_ended}
 use Rattle.scr_core.proofs.Rooms.{room_for_none}
 use Rattle.scr_dues.specs.declared.making.Making.{Making}
 use Rattle.scr_dues.specs.Makings.{IsThatFar}
+use Rattle.scr_laws.proofs.NextNumbers.{next_generations}
 use Rattle.scr_readers.proofs.CountedTurns.{counted_legal}
 use Rattle.scr_readers.specs.Turns.{AreCounted}
 use Rattle.scr_world.specs.Calls.{Grown}
@@ -10,7 +12,13 @@ use Rattle.scr_world.specs.Room.{has_room, needed_by}
 use Rattle.scr_world.specs.Steps.{history_of}
 use Rattle.scr_world.specs.declared.lines.TurnLine.{TurnLine}
 use Rattle.scr_world.specs.declared.step.Step.{Step}
+use Rattle.scr_world.specs.declared.world.World.{World}
 use Rattle.scr_core.proofs.turns.end.Goals as goal
+
+pub reopened_by-reopened-requires : goal.reopened_by-reopened-requires
+reopened_by-reopened-requires c =
+    let keeps = c.requires.keeps.state in
+    subst (λ (w : World). HaveNextGenerations w.generations) (sym keeps.world) (next_generations c.args.journal.now.limit (history_of c.args.journal.now.entries) keeps.legal keeps.small)
 
 pub grow_by_end-requires-clause-room : goal.grow_by_end-requires-clause-room
 grow_by_end-requires-clause-room c =

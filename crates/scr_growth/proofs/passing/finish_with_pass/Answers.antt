@@ -1,9 +1,11 @@
-use Rattle.std.proofs.Common.{◌≡◌, ◌∙◌, ◌++◌, ◌∷◌, [], ap, refl, ℕ, List}
+use Rattle.std.proofs.Common.{◌≡◌, ◌+◌, ◌^◌, ◌<◌, ◌∙◌, ◌++◌, ◌∷◌, [], ap, refl, subst, sym, ℕ, List}
 use Rattle.scr_growth.proofs.Growing.{passed_then, ready_then, stopped_is_in}
+use Rattle.scr_laws.proofs.NextNumbers.{next_service_then}
 use Rattle.scr_world.specs.Calls.{world_at}
 use Rattle.scr_world.specs.Consequences.{stopped_by, stopped_in}
 use Rattle.scr_world.specs.Lists.{world_after_entry}
 use Rattle.scr_world.specs.Room.{reserved}
+use Rattle.scr_world.specs.Steps.{history_of}
 use Rattle.scr_world.specs.declared.world.World.{World}
 use Rattle.scr_growth.proofs.passing.finish_with_pass.Goals as goal
 
@@ -11,6 +13,8 @@ pub pass_of-requires : goal.pass_of-requires
 pass_of-requires c = record {
   cached = c.requires.cached;
   ready = ready_then c.args.journal.now c.args.step.value c.args.state.now c.args.undo.now c.args.told.now c.requires;
+  next = subst (λ (w : World). w.registry.numbered + 1 < 2 ^ 64) (sym c.requires.world)
+      (next_service_then c.args.journal.now.limit (history_of c.args.journal.now.entries) c.requires.grows.legal c.requires.grows.small c.args.step.value);
 }
 
 pub settle_with-requires : goal.settle_with-requires

@@ -9,4 +9,5 @@ pass_in-requires c = record {
   descriptions = c.descriptions_after.ensures ∙ c.requires.cached.descriptions;
   levels = c.levels_after.ensures ∙ c.requires.cached.levels ∙ ap levels_of (sym c.descriptions_after.ensures);
   ready = subst (λ (ns : List ℕ). IsReady (stage_in c.args.state.now.world ns)) (sym c.as_slice.ensures) c.requires.ready;
+  next = c.requires.next;
 }

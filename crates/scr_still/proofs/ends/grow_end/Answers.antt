@@ -1,15 +1,21 @@
-use Rattle.std.proofs.Common.{List, ap, arith, length}
-use Rattle.journal_core.specs.declared.entry.Entry.{Entry}
+use Rattle.std.proofs.Common.{arith, subst, sym}
+use Rattle.scr_consequences.specs.Ends.{HaveNextGenerations}
+use Rattle.scr_laws.proofs.NextNumbers.{next_generations}
 use Rattle.scr_still.proofs.StillGrowth.{counted_in}
-use Rattle.scr_world.specs.declared.step.Step.{Step}
+use Rattle.scr_world.specs.Steps.{history_of}
+use Rattle.scr_world.specs.declared.world.World.{World}
 use Rattle.scr_still.proofs.StillEndGrowth.{grown, has_its_room, kept, shut}
 use Rattle.scr_still.proofs.ends.grow_end.Goals as goal
 
-pub leaving_of-requires : goal.leaving_of-requires
-leaving_of-requires c =
+pub leaving_of-requires-clause-entries : goal.leaving_of-requires-clause-entries
+leaving_of-requires-clause-entries c =
     let counted = counted_in c.args.journal.now c.args.state.now c.requires.keeps in
-    let all = ap (λ (es : List (Entry Step)). length es) c.entries.ensures in
-    omega (arith, counted, all)
+    omega (arith, counted, c.next_length-entries.ensures)
+
+pub leaving_of-requires-clause-next : goal.leaving_of-requires-clause-next
+leaving_of-requires-clause-next c =
+    let keeps = c.requires.keeps in
+    subst (λ (w : World). HaveNextGenerations w.generations) (sym keeps.world) (next_generations c.args.journal.now.limit (history_of c.args.journal.now.entries) keeps.legal keeps.small)
 
 pub enter-requires : goal.enter-requires
 enter-requires c =

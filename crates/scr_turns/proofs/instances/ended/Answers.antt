@@ -2,17 +2,21 @@ use Rattle.std.proofs.Common.{◌∙◌, ap, get_or, subst, sym, ℕ, List}
 use Rattle.std.proofs.Math.ListN.{set}
 use Rattle.std.specs.Prelude.{remove}
 use Rattle.std.specs.List.{position}
+use Rattle.scr_consequences.specs.Ends.{HaveNextGenerations}
 use Rattle.scr_state.specs.Rows.{HasRoomAmong, with_change}
 use Rattle.scr_world.specs.Instances.{has_turn, lives_on, with_outcome}
 use Rattle.scr_world.specs.declared.instance.Instance.{Instance}
 use Rattle.scr_turns.proofs.InstanceRows.{ended_last, ended_none, ended_one, outstanding_there}
 use Rattle.scr_turns.proofs.instances.ended.Goals as goal
 
-pub with_outcome-requires : goal.with_outcome-requires
-with_outcome-requires c =
+pub with_outcome-requires-clause-outstanding : goal.with_outcome-requires-clause-outstanding
+with_outcome-requires-clause-outstanding c =
     outstanding_there c.args.world.now c.requires c.args.turn c.args.outcome c.in-Some.place c.index-instances-place.result
     (ap (position (has_turn c.args.turn)) (sym c.as_slice-instances.ensures) ∙ sym c.in-Some.ensures)
     (c.index-instances-place.is ∙ ap (λ (is : List Instance). get_or is c.in-Some.place c.index-instances-place.result) c.as_slice-instances.ensures)
+
+pub with_outcome-requires-clause-next : goal.with_outcome-requires-clause-next
+with_outcome-requires-clause-next c = subst (λ (gs : List ℕ). HaveNextGenerations gs) (sym c.as_slice-generations.ensures) c.requires.next
 
 pub returns-in-None-clause-rows : goal.returns-in-None-clause-rows
 returns-in-None-clause-rows c =

@@ -14,10 +14,10 @@ pub invariant_of-result : goal.invariant_of-result
 invariant_of-result c = (
   record {
     its_limit = ap (λ (j : JournalRows Step). j.limit) c.new-journal.ensures;
-    state = subst (λ (j : JournalRows Step). Keeps j c.in_ok-state.state) (sym c.new-journal.ensures) (c.in_ok-state.ensures c.args.limits.journal);
+    state = subst (λ (j : JournalRows Step). Keeps j c.in_ok-state.state) (sym c.new-journal.ensures) (c.in_ok-state.ensures c.args.limits.journal c.requires.within.journal);
     told = c.new-lines.ensures.items ∙ sym (ap (λ (j : JournalRows Step). turn_lines (history_of j.entries)) c.new-journal.ensures);
   },
   c.requires.within,
   subst (λ (m : Making). IsThatFar c.in_ok-state.state.world m) (sym c.none-making.ensures) (nothing_far c.in_ok-state.state.world),
-  first_kept c.args.limits.journal c.in_ok-state.state c.new-wirings.result (c.in_ok-state.ensures c.args.limits.journal) c.new-wirings.ensures,
+  first_kept c.args.limits.journal c.in_ok-state.state c.new-wirings.result (c.in_ok-state.ensures c.args.limits.journal c.requires.within.journal) c.new-wirings.ensures,
 )
