@@ -1,6 +1,6 @@
 -- A command that was judged.
 use Rattle.std.proofs.Common.{◌≡◌, ℕ, ◌∙◌, List, [], ap, refl, sym, subst, Bool, Option, None, Some, Result, Ok, Err, true, false}
-use Rattle.std.specs.Prelude.{◌&&◌, ◌==◌, map, not, is_none}
+use Rattle.std.specs.Prelude.{◌&&◌, ◌==◌, IsOk, is_ok, map, not, is_none}
 use Rattle.std.specs.List.{Contains, list_any}
 use Rattle.std.proofs.lemmas.Bool.{and_from, and_parts, eq-eqb}
 use Rattle.component_state.proofs.Apart.{any_from}
@@ -18,7 +18,7 @@ use Rattle.scr_world.specs.Calls.{Commands, Grown, GrownIf, world_at}
 use Rattle.scr_world.specs.Consequences.{begins_draining, gate_of, is_draining, shut_between}
 use Rattle.scr_world.specs.Legal.{MayCome}
 use Rattle.scr_world.specs.Refusals.{refusal}
-use Rattle.scr_world.specs.Replies.{MayLackMemory, Replies, changes, has_effect}
+use Rattle.scr_world.specs.Replies.{MayLackMemory, Replies, changes, has_effect, reply}
 use Rattle.scr_world.specs.Room.{has_room, needed_by}
 use Rattle.scr_world.specs.declared.command.Command.{Command}
 use Rattle.scr_world.specs.declared.instance.Instance.{Instance}
@@ -87,6 +87,22 @@ module _ (j : JournalRows Step) (s : State) (keeps : Keeps j s) (command : Comma
   unchanged_as reply keys none (same, told) =
       (replied (Ok reply) told, none ∙ sym (none_shut (world_at j.entries)), subst (λ b. GrownIf b j.limit j.entries (Commanded command) j.entries) (sym (sym changes_at ∙ same)) refl)
 
+  -- what isn't refused has its answer
+  answered_as : (judgement : Judgement) → Judges j.limit s command (Ok judgement) → (r : Reply) × Replies j.limit s.world command (Ok r)
+  unfolding Judges
+  answered_as (Unchanged r) it = (r, it.1)
+  answered_as (Changes r draft) it = (r, it.1.0)
+
+  free_as : (judgement : Judgement) → Judges j.limit s command (Ok judgement) → IsOk (reply j.limit (world_at j.entries) command)
+  free_as judgement it =
+      let (r, told) = answered_as judgement it in
+      ap is_ok (replied (Ok r) told)
+
+  lacks_as : (judgement : Judgement) → Judges j.limit s command (Ok judgement) → Commands j.limit j.entries command (Err OutOfMemory) j.entries
+  lacks_as judgement it =
+      let (r, told) = answered_as judgement it in
+      (rw (replied (Ok r) told) tt, refl)
+
   changed : (reply : Reply) (draft : Draft) → Judges j.limit s command (Ok (Changes reply draft)) → changes j.limit s.world command ≡ true
   unfolding Judges
   changed reply draft it = it.0
@@ -129,6 +145,13 @@ module _ (j : JournalRows Step) (s : State) (keeps : Keeps j s) (step : Step) (c
 
   pub step_unchanged : (reply : Reply) (keys : List GateKey) → keys ≡ [] → JudgesStep j.limit s step (Ok (Unchanged reply)) → Commands j.limit j.entries command (Ok (record { reply = reply; shut = keys })) j.entries
   step_unchanged reply keys none it = unchanged_as j s keeps command reply keys none (step_judged j.limit s step command (Ok (Unchanged reply)) is it)
+
+  -- where it is judged and not refused, nothing refuses it, and want of memory may come
+  pub step_free : (judgement : Judgement) → JudgesStep j.limit s step (Ok judgement) → IsOk (reply j.limit (world_at j.entries) command)
+  step_free judgement it = free_as j s keeps command judgement (step_judged j.limit s step command (Ok judgement) is it)
+
+  pub step_lacks_too : (judgement : Judgement) → JudgesStep j.limit s step (Ok judgement) → Commands j.limit j.entries command (Err OutOfMemory) j.entries
+  step_lacks_too judgement it = lacks_as j s keeps command judgement (step_judged j.limit s step command (Ok judgement) is it)
 
   module _ (reply : Reply) (draft : Draft) (it : JudgesStep j.limit s step (Ok (Changes reply draft))) where
     judged : Judges j.limit s command (Ok (Changes reply draft))

@@ -1,6 +1,7 @@
 -- A get by token, and why it is refused.
-use Rattle.std.proofs.Common.{◌≡◌, ℕ, ◌∙◌, List, [], ◌∷◌, ap, refl, sym, subst, Bool, true, false, Option, None, Some, Err, cond}
+use Rattle.std.proofs.Common.{◌≡◌, ◌≢◌, ℕ, ◌∙◌, List, [], ◌∷◌, ap, refl, sym, subst, Bool, true, false, Option, None, Some, Err, cond}
 use Rattle.std.specs.Prelude.{find, is_none, not, option_and_then, ◌==◌}
+use Rattle.std.specs.Option.{unwrap_or}
 use Rattle.bundle_life.specs.declared.bundle.BundleLife.{BundleLife}
 use Rattle.bundle_life.specs.Lives.{bundle_of, is_active, state_number}
 use Rattle.callback_orders.specs.declared.callback.Outcome.{Outcome}
@@ -12,7 +13,7 @@ use Rattle.scr_state.specs.declared.state.State.{State}
 use Rattle.scr_world.specs.Calls.{Gets, world_at}
 use Rattle.scr_world.specs.Legal.{MayCome}
 use Rattle.scr_world.specs.Refusals.{activation_failed, failure_fault, no_bundle, no_service, not_active, refusal, refuse_if}
-use Rattle.scr_world.specs.Room.{has_room}
+use Rattle.scr_world.specs.Room.{has_room, needed_by}
 use Rattle.scr_world.specs.declared.command.Command.TheVariants.{Get}
 use Rattle.scr_world.specs.declared.marks.Failure.{Failure}
 use Rattle.scr_world.specs.declared.reply.CoreFault.{CoreFault}
@@ -88,11 +89,19 @@ module _ (j : JournalRows Step) (s : State) (keeps : Keeps j s) (bundle service 
   refused_by (ActivationFailed a) plain is = (is, refl)
   refused_by (ActivationNoMemory a) plain is = (is, refl)
 
+  told_by : (fault : CoreFault) → is_room fault ≡ false → Some fault ≢ Some OutOfMemory
+  told_by fault plain same =
+      let none : is_room OutOfMemory ≡ true = refl in
+      cc
+
   refusal_at : refusal s.world (Get bundle service) ≡ refusal (world_at j.entries) (Get bundle service)
   refusal_at = ap (λ (w : World). refusal w (Get bundle service)) keeps.world
 
   pub get_refused : (fault : CoreFault) → Some fault ≡ refusal s.world (Get bundle service) → Gets j.limit j.entries bundle service (Err fault) j.entries
   get_refused fault is = refused_by fault (subst NoRoom (sym is) (no_room_fault s.world bundle service)) (sym (is ∙ refusal_at))
+
+  pub get_told : (fault : CoreFault) → Some fault ≡ refusal s.world (Get bundle service) → Some fault ≢ Some OutOfMemory
+  get_told fault is = told_by fault (subst NoRoom (sym is) (no_room_fault s.world bundle service))
 
   pub get_full : None ≡ refusal s.world (Get bundle service) → has_room j.limit s.world 2 ≡ false → Gets j.limit j.entries bundle service (Err JournalFull) j.entries
   get_full free full = (sym (free ∙ refusal_at), subst (λ (w : World). has_room j.limit w 2 ≡ false) keeps.world full, refl)
@@ -100,5 +109,15 @@ module _ (j : JournalRows Step) (s : State) (keeps : Keeps j s) (bundle service 
   pub get_lacks : None ≡ refusal s.world (Get bundle service) → has_room j.limit s.world 2 ≡ true → Gets j.limit j.entries bundle service (Err OutOfMemory) j.entries
   get_lacks free room = (sym (free ∙ refusal_at), subst (λ (w : World). has_room j.limit w 2 ≡ true) keeps.world room, refl)
 
-  pub get_may : None ≡ refusal s.world (Get bundle service) → (step : Step) → step ≡ Got bundle service → MayCome s.world step
-  get_may free step is = subst (λ (x : Step). MayCome s.world x) (sym is) (sym free)
+  -- where no refusal is told, want of memory may come
+  pub get_unrefused : (told : Option CoreFault) → told ≡ None → Gets j.limit j.entries bundle service (Err (unwrap_or told OutOfMemory)) j.entries → Gets j.limit j.entries bundle service (Err OutOfMemory) j.entries
+  get_unrefused told none it = subst (λ (o : Option CoreFault). Gets j.limit j.entries bundle service (Err (unwrap_or o OutOfMemory)) j.entries) none it
+
+  -- where want of memory may come, so may the get
+  pub get_may : Gets j.limit j.entries bundle service (Err OutOfMemory) j.entries → (step : Step) → step ≡ Got bundle service → MayCome s.world step
+  get_may free step is = subst (λ (x : Step). MayCome s.world x) (sym is) (refusal_at ∙ free.0)
+
+  pub get_room : Gets j.limit j.entries bundle service (Err OutOfMemory) j.entries → (step : Step) → step ≡ Got bundle service → has_room j.limit s.world (needed_by step) ≡ true
+  get_room free step is =
+      ap (λ (x : Step). has_room j.limit s.world (needed_by x)) is
+      ∙ subst (λ (w : World). has_room j.limit w 2 ≡ true) (sym keeps.world) free.1

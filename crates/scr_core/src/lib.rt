@@ -14,6 +14,7 @@ mod generic;
 mod listings;
 mod platform_core;
 mod readers;
+mod refusals;
 mod room;
 mod sending;
 mod steps;

@@ -1,7 +1,9 @@
 //! Gets by token (OSGi Core 8, chapter 5, "Getting Services"; tokens are our own).
 ghost use Rattle.scr_state.specs.Keeps.{Keeps};
 ghost use Rattle.scr_world.specs.Calls.{EndsUse, Gets};
-ghost use Rattle.std.specs.Prelude.{◌≡◌, IfOk, OnErr};
+ghost use Rattle.scr_world.specs.declared.reply.CoreFault.TheVariants.{OutOfMemory as NoMemory};
+ghost use Rattle.std.specs.Option.{unwrap_or};
+ghost use Rattle.std.specs.Prelude.{◌≡◌, ◌≢◌, Err, IfOk, OnErr, Some};
 
 use crate::generic::let_go;
 use crate::room::has_room;
@@ -16,6 +18,26 @@ use scr_turns::turn_draft;
 use scr_world::{CoreFault, Step, Token, has_token};
 use std::alloc::Global;
 
+/// Why a get by token is refused, last for want of room for it and its release. It takes no memory.
+pub(crate) fn refusal_of_use(
+    journal: &Journal<Step>,
+    state: &State,
+    bundle: u64,
+    service: u64,
+) -> Option<CoreFault>
+    requires keeps { Keeps journal.now state.now }
+    ensures answer { Gets journal.now.limit journal.now.entries bundle service (Err (unwrap_or result NoMemory)) journal.now.entries }
+    ensures told { result ≢ Some NoMemory }
+{
+    if let Some(fault) = refusal_of_get(state, bundle, service) {
+        return Some(fault);
+    }
+    if !has_room(journal, 2) {
+        return Some(CoreFault::JournalFull);
+    }
+    None
+}
+
 /// Gets a service for a bundle by a token.
 pub(crate) fn get(
     alloc: Global,
@@ -29,11 +51,8 @@ pub(crate) fn get(
     ensures limit { journal.new.limit ≡ journal.old.limit }
     ensures answer { Gets journal.old.limit journal.old.entries bundle service result journal.new.entries }
 {
-    if let Some(fault) = refusal_of_get(state, bundle, service) {
+    if let Some(fault) = refusal_of_use(journal, state, bundle, service) {
         return Err(fault);
-    }
-    if !has_room(journal, 2) {
-        return Err(CoreFault::JournalFull);
     }
     let place = journal.length();
     let step = boxed(alloc, Step::Got { bundle, service })?;
