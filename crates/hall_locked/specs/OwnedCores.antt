@@ -1,6 +1,6 @@
 -- A core with the owner of each entry, as contracts see it, and what its calls do. Our own; callbacks are OSGi
 -- Compendium 8, chapter 112, component life cycle.
-use Rattle.std.specs.Prelude.{◌≡◌, ◌⊎◌, Err, ℕ, ◌==◌, List, ◌++◌, length, map, count_by}
+use Rattle.std.specs.Prelude.{◌≡◌, ℕ, ◌==◌, List, ◌++◌, length, map, count_by}
 use Rattle.std.specs.List.{Contains}
 use Rattle.journal_core.specs.declared.entry.Entry.{Entry}
 use Rattle.journal_core.specs.declared.entry.GateKey.{GateKey}
@@ -10,16 +10,13 @@ use Rattle.hall_goings.specs.Went.{owned_by}
 use Rattle.hall_locked.specs.Owned.{as_kept, owned, turn_numbers}
 use Rattle.hall_locked.specs.declared.part.Part.{Part}
 use Rattle.platform_hall.specs.Desks.{tokens_of}
-use Rattle.platform_hall.specs.Platforms.{CoreTakes, has_object, world}
+use Rattle.platform_hall.specs.Platforms.{has_object, world}
 use Rattle.scr_core.specs.Cores.{CoreView}
 use Rattle.scr_world.specs.Calls.{Drains}
 use Rattle.scr_world.specs.Consequences.{reopened_by, shut_between}
 use Rattle.scr_world.specs.Legal.{is_under_way}
 use Rattle.scr_world.specs.TurnSteps.{class_in}
-use Rattle.scr_world.specs.declared.command.Command.{Command}
 use Rattle.scr_world.specs.declared.instance.Instance.{Instance}
-use Rattle.scr_world.specs.declared.reply.CoreFault.{CoreFault}
-use Rattle.scr_world.specs.declared.reply.CoreFault.TheVariants.{OutOfMemory}
 use Rattle.scr_world.specs.declared.step.Step.{Step}
 use Rattle.scr_world.specs.declared.turn.Ended.{Ended}
 use Rattle.scr_world.specs.declared.world.World.{World}
@@ -82,9 +79,3 @@ PostsKey before key after = (after.limits ≡ before.limits) × Drains before.li
 -- what the end of a turn does to gates: these are shut then, and before them this one is reopened, if one is
 abbrev pub TellsGates : CoreView → ℕ → Outcome → Ended → CoreView → Type 0
 TellsGates before turn outcome ended after = (ended.shut ≡ shut_between (world before) (world after)) × (ended.reopened ≡ reopened_by turn outcome (world before))
-
--- ---- a command
-
--- the core refuses a command so, or memory is wanting for the owner of its entry before the core is asked, and nothing changes
-abbrev pub IsRefusedUnder : CoreView → Command → CoreFault → CoreView → Type 0
-IsRefusedUnder before command fault after = CoreTakes before command (Err fault) after ⊎ ((fault ≡ OutOfMemory) × (after ≡ before))

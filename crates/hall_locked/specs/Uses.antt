@@ -1,14 +1,12 @@
 -- Gets by token under the lock of a hall: what the log says of those that are kept for passes, and how one is got and given
--- back. Our own; gets are OSGi Core 8, chapter 5, "Getting Services".
-use Rattle.std.specs.Prelude.{◌≡◌, ◌⊎◌, ℕ, ◌==◌, List, ◌∷◌, ◌++◌, Bool, false, length, Result, Ok, Err}
+-- back; what a get answers is passed on. Our own; gets are OSGi Core 8, chapter 5, "Getting Services".
+use Rattle.std.specs.Prelude.{◌≡◌, ℕ, ◌==◌, List, ◌∷◌, ◌++◌, Bool, false, length}
 use Rattle.std.specs.List.{Contains, list_any}
 use Rattle.journal_core.specs.declared.entry.Entry.{Entry}
-use Rattle.platform_hall.specs.Calls.{GetsUse}
+pub use Rattle.platform_hall.specs.Calls.{GetsUse}
 use Rattle.scr_core.specs.Cores.{CoreView}
 use Rattle.scr_world.specs.Calls.{EndsUse}
 use Rattle.scr_world.specs.declared.marks.Token.{Token}
-use Rattle.scr_world.specs.declared.reply.CoreFault.{CoreFault}
-use Rattle.scr_world.specs.declared.reply.CoreFault.TheVariants.{OutOfMemory}
 use Rattle.scr_world.specs.declared.step.Step.{Step}
 use Rattle.scr_world.specs.declared.step.Step.TheVariants.{Got, Released}
 
@@ -45,15 +43,6 @@ abbrev pub AreKeptGets : List (ℕ × Entry Step) → List (ℕ × ℕ) → Type
 AreKeptGets log uses = (got : ℕ × ℕ) → Contains uses got → IsKeptGet log got
 
 -- ---- what calls do with gets
-
--- the core refuses a get so, or memory is wanting for what is kept of it before the core is asked, and nothing changes
-abbrev pub IsGetRefusedUnder : CoreView → ℕ → ℕ → CoreFault → CoreView → Type 0
-IsGetRefusedUnder before bundle service fault after = GetsUse before bundle service (Err fault) after ⊎ ((fault ≡ OutOfMemory) × (after ≡ before))
-
--- what a get answers and does under the lock
-abbrev pub GetsUnder : CoreView → ℕ → ℕ → Result Token CoreFault → CoreView → Type 0
-GetsUnder before bundle service (Ok note) after = GetsUse before bundle service (Ok note) after
-GetsUnder before bundle service (Err fault) after = IsGetRefusedUnder before bundle service fault after
 
 -- a get is given back, and stood still or not: it is released where it stood
 abbrev pub GivesBack : CoreView → Token → Bool → CoreView → Type 0

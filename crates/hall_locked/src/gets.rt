@@ -2,12 +2,13 @@
 ghost use Rattle.hall_locked.specs.Locks.{AppendsFor};
 ghost use Rattle.hall_locked.specs.Owned.{without_use};
 ghost use Rattle.hall_locked.specs.OwnedCores.{AppendsOwned};
-ghost use Rattle.hall_locked.specs.Uses.{GetsUnder, GivesBack};
+ghost use Rattle.hall_locked.specs.Uses.{GetsUse, GivesBack};
 ghost use Rattle.std.specs.Prelude.{◌≡◌, ◌++◌, ◌∷◌, [], IfErr, IfOk, OnErr, OnOk};
 
 use crate::locked::Locked;
 use crate::owned_core::OwnedCore;
 use crate::owners::note_owner;
+use crate::refusals::starved_get;
 use prop_map::OutOfMemory;
 use scr_core::{CoreFault, UseNote};
 use std::alloc::{AllocError, Global};
@@ -20,8 +21,8 @@ fn let_use_go(uses: &mut Vec<(u64, u64)>, place: u64)
 }
 
 impl<O: Drop> OwnedCore<O> {
-    // Gets a service for a bundle by a token, and answers as the core does, or that memory is wanting for the owner of its
-    // entry, which hides any other refusal. The entry is this owner's. Where it is refused all is as it was.
+    // Gets a service for a bundle by a token, and answers as the core does: want of memory for the owner of its entry hides no
+    // refusal. The entry is this owner's. Where it is refused all is as it was.
     pub(crate) fn get(
         &mut self,
         alloc: Global,
@@ -29,7 +30,7 @@ impl<O: Drop> OwnedCore<O> {
         bundle: u64,
         service: u64,
     ) -> Result<UseNote, CoreFault>
-        ensures answer { GetsUnder self.old.core bundle service result self.new.core }
+        ensures answer { GetsUse self.old.core bundle service result self.new.core }
         ensures appended { AppendsOwned owner self.old self.new }
         ensures turns { self.new.turns ≡ self.old.turns }
         ensures parts { self.new.parts ≡ self.old.parts }
@@ -37,7 +38,7 @@ impl<O: Drop> OwnedCore<O> {
         ensures limits { self.new.core.limits ≡ self.old.core.limits }
     {
         if self.owners.reserve(1).is_err() {
-            return Err(CoreFault::OutOfMemory);
+            return Err(starved_get(&self.core, bundle, service));
         }
         self.core.note_legal();
         match self.core.get_use(alloc, bundle, service) {
@@ -84,8 +85,7 @@ impl<O: Drop> Locked<O> {
     /// for it until it is given back; the turns, the parts and the gates are as they were.
     ///
     /// # Errors
-    /// Those of [`scr_core::Core::get_use`], and want of memory for what is kept, which hides any other. A refused get
-    /// leaves all as it was.
+    /// Those of [`scr_core::Core::get_use`]. Want of memory for what is kept hides no other. A refused get leaves all as it was.
     pub fn get(
         &mut self,
         alloc: Global,
@@ -93,7 +93,7 @@ impl<O: Drop> Locked<O> {
         bundle: u64,
         service: u64,
     ) -> Result<UseNote, CoreFault>
-        ensures answer { GetsUnder self.old.core bundle service result self.new.core }
+        ensures answer { GetsUse self.old.core bundle service result self.new.core }
         ensures appended { AppendsFor owner self.old self.new }
         ensures turns { self.new.turns ≡ self.old.turns }
         ensures parts { self.new.parts ≡ self.old.parts }
@@ -103,7 +103,7 @@ impl<O: Drop> Locked<O> {
         ensures limits { self.new.core.limits ≡ self.old.core.limits }
     {
         if self.uses.reserve(1).is_err() {
-            return Err(CoreFault::OutOfMemory);
+            return Err(starved_get(self.own.look(), bundle, service));
         }
         self.own.note_kept();
         let _keeper = &self.keeper;

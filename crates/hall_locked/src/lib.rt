@@ -14,6 +14,7 @@ mod owned_core;
 mod owners;
 mod part;
 mod parts;
+mod refusals;
 mod room;
 mod sending;
 mod turns;

@@ -2,7 +2,6 @@
 ghost use Rattle.front_lock.specs.Keepings.{kept_under};
 ghost use Rattle.hall_locked.specs.Locks.{AppendsFor, IsLocked, KnowsGates, PostsOne, turns_kept};
 ghost use Rattle.hall_locked.specs.Owned.{without_turn};
-ghost use Rattle.hall_locked.specs.OwnedCores.{IsRefusedUnder};
 ghost use Rattle.hall_locked.specs.Parts.{ArePartsLeft, has_begun, parts_begun, with_begun};
 ghost use Rattle.platform_hall.specs.Platforms.{BeginsTurn, CoreTakes, Ends, has_drain, running, world};
 ghost use Rattle.scr_core.specs.Cores.{AreWithinGreatest};
@@ -154,15 +153,15 @@ impl<O: Drop> Locked<O> {
     /// changes nothing owes none.
     ///
     /// # Errors
-    /// Those of [`scr_core::Core::command`], and want of memory for the owner of its entry, which hides any other. A refused
-    /// command leaves all as it was.
+    /// Those of [`scr_core::Core::command`]. Want of memory for the owner of its entry hides none but those that the core's own
+    /// hides. A refused command leaves all as it was.
     pub fn command(
         &mut self,
         alloc: Global,
         owner: u64,
         command: Command,
     ) -> Result<(Accepted, Option<Owed>), CoreFault>
-        ensures answer { MatchResult result (λ r. CoreTakes self.old.core command (Ok r.0) self.new.core) (λ fault. IsRefusedUnder self.old.core command fault self.new.core) }
+        ensures answer { MatchResult result (λ r. CoreTakes self.old.core command (Ok r.0) self.new.core) (λ fault. CoreTakes self.old.core command (Err fault) self.new.core) }
         ensures appended { AppendsFor owner self.old self.new }
         ensures turns { self.new.turns ≡ self.old.turns }
         ensures parts { self.new.parts ≡ self.old.parts }

@@ -1,7 +1,7 @@
 //! A core, and beside it what its entries and its turns are told with: who made them, and what is kept for instances.
 ghost use Rattle.front_lock.specs.Keepings.{kept_under};
 ghost use Rattle.hall_locked.specs.Owned.{without_turn};
-ghost use Rattle.hall_locked.specs.OwnedCores.{AppendsOwned, IsOwned, IsRefusedUnder, PostsKey, TellsGates, log_owned, turns_owned};
+ghost use Rattle.hall_locked.specs.OwnedCores.{AppendsOwned, IsOwned, PostsKey, TellsGates, log_owned, turns_owned};
 ghost use Rattle.hall_locked.specs.Parts.{ArePartsLeft, has_begun, parts_begun, with_begun};
 ghost use Rattle.platform_hall.specs.Platforms.{BeginsTurn, CoreTakes, Ends, running, world};
 ghost use Rattle.scr_core.specs.Cores.{AreWithinGreatest};
@@ -12,12 +12,13 @@ ghost use Rattle.scr_world.specs.declared.reply.CoreFault.TheVariants.{OutOfMemo
 ghost use Rattle.std.specs.Arc.{arc_value};
 ghost use Rattle.std.specs.List.{find, list_any};
 ghost use Rattle.std.specs.Option.{option_copied};
-ghost use Rattle.std.specs.Prelude.{◌≡◌, ◌==◌, ℕ, [], Ok, Err, IfErr, IfOk, MatchResult, OnErr, OnOk, false, is_some, length, true};
+ghost use Rattle.std.specs.Prelude.{◌≡◌, ◌==◌, ℕ, [], IfErr, IfOk, OnErr, OnOk, false, is_some, length, true};
 ghost use Rattle.turn_runner.specs.Outcomes.{IsRunOf};
 
 use crate::owners::note_owner;
 use crate::part::Part;
 use crate::parts::{keep, part_of, tell_site};
+use crate::refusals::starved_command;
 use crate::room::{let_go, room_in};
 use crate::turns::{put_again, take_out};
 use call_gate::Drain;
@@ -105,15 +106,15 @@ impl<O: Drop> OwnedCore<O> {
         part_of(self.parts.as_slice(), instance)
     }
 
-    // Takes a command for this owner, and answers as the core does, or that memory is wanting for the owner of its entry, which
-    // hides any other refusal. A refused command leaves all as it was.
+    // Takes a command for this owner, and answers as the core does. Where memory is wanting for the owner of its entry, that hides
+    // no refusal but those that the core's own want of memory hides. A refused command leaves all as it was.
     pub(crate) fn command(
         &mut self,
         alloc: Global,
         owner: u64,
         command: Command,
     ) -> Result<Accepted, CoreFault>
-        ensures answer { MatchResult result (λ accepted. CoreTakes self.old.core command (Ok accepted) self.new.core) (λ fault. IsRefusedUnder self.old.core command fault self.new.core) }
+        ensures answer { CoreTakes self.old.core command result self.new.core }
         ensures appended { AppendsOwned owner self.old self.new }
         ensures turns { self.new.turns ≡ self.old.turns }
         ensures parts { self.new.parts ≡ self.old.parts }
@@ -121,8 +122,7 @@ impl<O: Drop> OwnedCore<O> {
         ensures limits { self.new.core.limits ≡ self.old.core.limits }
     {
         if self.owners.reserve(1).is_err() {
-            let_go(command);
-            return Err(CoreFault::OutOfMemory);
+            return Err(starved_command(alloc, &self.core, command));
         }
         self.core.note_legal();
         match self.core.command(alloc, command) {

@@ -9,7 +9,6 @@ use Rattle.front_lock.specs.Passes.{names_of}
 use Rattle.hall_goings.specs.Went.{up_to}
 use Rattle.hall_locked.specs.Locks.{AppendsFor, IsLocked, LockedView, PostsAt, PostsOne, first_key, log_of}
 use Rattle.hall_locked.specs.Owned.{entries_in}
-use Rattle.hall_locked.specs.OwnedCores.{IsRefusedUnder}
 use Rattle.hall_locked.specs.declared.owed.Owed.{Owed}
 use Rattle.journal_core.specs.declared.entry.Entry.{Entry}
 use Rattle.journal_core.specs.declared.entry.GateKey.{GateKey}
@@ -20,7 +19,7 @@ use Rattle.platform_sessions.proofs.Stretches.{core_is, journal_is, journal_was,
 use Rattle.hall_locked.specs.Cores.{CoreView}
 use Rattle.scr_world.specs.Calls.{Commands, GrownIf, world_at}
 use Rattle.scr_world.specs.Refusals.{refusal, refuse_if}
-use Rattle.scr_world.specs.Replies.{Replies, answer, changes, has_effect, reply}
+use Rattle.scr_world.specs.Replies.{MayLackMemory, Replies, answer, changes, has_effect, reply}
 use Rattle.scr_world.specs.Room.{has_room}
 use Rattle.scr_world.specs.declared.command.Command.{Command}
 use Rattle.scr_world.specs.declared.command.Limits.{Limits}
@@ -67,10 +66,10 @@ carried P l m xs ys limits same h = subst (λ zs. P m.journal zs) same (subst (�
 abbrev pub Answered : {O : Type 0} → LockedView O → LockedView O → Command → Result (Accepted × Option Owed) CoreFault → Type 0
 Answered before after command (Ok a) =
     CoreTakes before.core command (Ok a.0) after.core × (is_some a.1 ≡ (nat_lt (length before.core.journal) (length after.core.journal) && has_drain after.core))
-Answered before after command (Err fault) = IsRefusedUnder before.core command fault after.core
+Answered before after command (Err fault) = CoreTakes before.core command (Err fault) after.core
 
 pub answered : {O : Type 0} (before after : LockedView O) (command : Command) (answer : Result (Accepted × Option Owed) CoreFault)
-    → MatchResult answer (λ r. CoreTakes before.core command (Ok r.0) after.core) (λ fault. IsRefusedUnder before.core command fault after.core)
+    → MatchResult answer (λ r. CoreTakes before.core command (Ok r.0) after.core) (λ fault. CoreTakes before.core command (Err fault) after.core)
     → IfOk answer (λ r. is_some r.1 ≡ (nat_lt (length before.core.journal) (length after.core.journal) && has_drain after.core))
     → Answered before after command answer
 answered before after command (Ok a) takes owed = (takes, owed)
@@ -130,8 +129,12 @@ module _ {O : Type 0} (p q : View) (before after : LockedView O) (kept : List (�
     by_refusal fault first told said stays = is_unchanged (Err fault) told (refused_still limit (world_at old) command first said) stays
 
     -- memory was wanting, and the journal is as it was
-    starved : after.core.journal ≡ old → Refused limits p q command OutOfMemory
-    starved stays = looked p q before after kept apart goes same (none_more p q before after kept apart goes same a stays)
+    starved : MayLackMemory limit (world_at old) command → after.core.journal ≡ old → Refused limits p q command OutOfMemory
+    starved may stays =
+        let seen : old ≡ entries_in q.seen = sym (journal_is p q before after kept apart goes same now ∙ stays) in (
+          looked p q before after kept apart goes same (none_more p q before after kept apart goes same a stays),
+          carried (λ l xs. MayLackMemory l (world_at xs) command) before.core.limits limits old (entries_in q.seen) its seen may,
+        )
 
     refused_so : (fault : CoreFault) → Commands limit old command (Err fault) after.core.journal → Refused limits p q command fault
     refused_so (NoBundle b) t = by_refusal (NoBundle b) (NoBundle b) t.0 t.0 t.1
@@ -155,16 +158,12 @@ module _ {O : Type 0} (p q : View) (before after : LockedView O) (kept : List (�
     refused_so (ActivationFailed i) t = by_refusal (ActivationFailed i) (ActivationFailed i) t.0 t.0 t.1
     refused_so (ActivationNoMemory i) t = by_refusal (ActivationNoMemory i) (ActivationNoMemory i) t.0 t.0 t.1
     refused_so JournalFull t = by_refusal JournalFull JournalFull t.0 t.0 t.1
-    refused_so OutOfMemory t = starved t.1
-
-    refused_under : (fault : CoreFault) → IsRefusedUnder before.core command fault after.core → Refused limits p q command fault
-    refused_under fault (inl takes) = refused_so fault takes.1
-    refused_under fault (inr (is, stays)) = subst (λ (f : CoreFault). Refused limits p q command f) (sym is) (starved (ap (λ (c : CoreView). c.journal) stays))
+    refused_so OutOfMemory t = starved t.0 t.1
 
     -- what the core answered, for the pass
     pub took : (answer : Result (Accepted × Option Owed) CoreFault) → Answered before after command answer → TookCommand limits p q command answer (length q.seen)
     took (Ok (accepted, owed)) told = is_taken accepted owed told.1 told.0
-    took (Err fault) told = refused_under fault told
+    took (Err fault) told = refused_so fault told.1
 
   -- ---- a drain
 

@@ -12,7 +12,7 @@ use Rattle.front_lock.proofs.Keepings.{keeps_added}
 use Rattle.hall_goings.specs.Went.{Went}
 use Rattle.hall_locked.specs.Locks.{AppendsFor, IsLocked, LockedView, log_of, things_kept, turns_kept, uses_kept}
 use Rattle.hall_locked.specs.Owned.{as_kept, as_use, use_thing, without_use}
-use Rattle.hall_locked.specs.Uses.{GetsUnder, GivesBack, IsGetRefusedUnder, IsKeptGet}
+use Rattle.hall_locked.specs.Uses.{GetsUse, GivesBack, IsKeptGet}
 use Rattle.hall_locked.specs.Platforms.{world}
 use Rattle.hall_locked.proofs.Logs.{owned_length}
 use Rattle.hall_locked.proofs.Uses.{kept_within, one_getter}
@@ -118,7 +118,7 @@ module _ {O : Type 0} (p q : View) (before after : LockedView O) (kept : List (�
   -- ---- a get
 
   module _ (bundle service : ℕ) (its_kept : kept ≡ kept_by (names_of p) (things_kept after)) (had : kept_by (names_of p) (things_kept before) ≡ p.kept) (turned : after.turns ≡ before.turns) where
-    module _ (note : Token) (gets : GetsUnder before.core bundle service (Ok note) after.core) (used : after.uses ≡ before.uses ++ (p.number, note.place) ∷ []) where
+    module _ (note : Token) (gets : GetsUse before.core bundle service (Ok note) after.core) (used : after.uses ≡ before.uses ++ (p.number, note.place) ∷ []) where
       place_now : note.place ≡ length (log_of before)
       place_now = ap (λ (t : Token). t.place) gets.1.0 ∙ sym locked.owners ∙ sym (owned_length before.owners before.core.journal locked.owners)
 
@@ -199,13 +199,13 @@ module _ {O : Type 0} (p q : View) (before after : LockedView O) (kept : List (�
           got_step : note.bundle ≡ bundle → note.service ≡ service → Got note.bundle note.service ≡ Got bundle service
           got_step b s = ap (λ n. Got n note.service) b ∙ ap (λ n. Got bundle n) s
 
-    pub gets_so : (answer : Result Token CoreFault) → GetsUnder before.core bundle service answer after.core → IfOk answer (λ note. after.uses ≡ before.uses ++ (p.number, note.place) ∷ []) → OnErr answer (after ≡ before)
+    pub gets_so : (answer : Result Token CoreFault) → GetsUse before.core bundle service answer after.core → IfOk answer (λ note. after.uses ≡ before.uses ++ (p.number, note.place) ∷ []) → OnErr answer (after ≡ before)
         → Gets limits p q bundle service answer
     gets_so (Ok note) gets used stays = got_one note gets used
     gets_so (Err fault) refused used stays = (
       looked p q before after kept apart goes same (ap (λ (l : LockedView O). log_of l) stays),
-      subst (λ (c : CoreView). IsGetRefusedUnder c bundle service fault c) (sym (sees p q before after kept apart goes same locked now a limits its stay))
-          (subst (λ (c : CoreView). IsGetRefusedUnder c bundle service fault after.core) (sym (ap (λ (l : LockedView O). l.core) stays)) refused),
+      subst (λ (c : CoreView). GetsUse c bundle service (Err fault) c) (sym (sees p q before after kept apart goes same locked now a limits its stay))
+          (subst (λ (c : CoreView). GetsUse c bundle service (Err fault) after.core) (sym (ap (λ (l : LockedView O). l.core) stays)) refused),
     )
 
   -- ---- a release

@@ -5,7 +5,7 @@ use Rattle.hall_locked.specs.declared.owed.Owed.{Owed}
 use Rattle.journal_core.specs.declared.entry.Entry.{Entry}
 use Rattle.hall_locked.specs.Platforms.{has_drain, world}
 use Rattle.platform_sessions.specs.Halls.{Own, View, core_seen, core_up_to}
-use Rattle.scr_world.specs.Replies.{Replies, changes}
+use Rattle.scr_world.specs.Replies.{MayLackMemory, Replies, changes}
 use Rattle.scr_world.specs.declared.command.Command.{Command}
 use Rattle.scr_world.specs.declared.command.Limits.{Limits}
 use Rattle.scr_world.specs.declared.reply.Accepted.{Accepted}
@@ -66,10 +66,9 @@ pub record Unchanged (limits : Limits) (before after : View) (command : Command)
   pub still : changes limits.journal (world (core_seen limits after)) command ≡ false
   pub told : Replies limits.journal (world (core_seen limits after)) command answer
 
--- what a refusal leaves: want of memory may come at any time, and the pass has looked at most; any other refusal is by all that the pass
--- has seen then
+-- what a refusal leaves, by all that the pass has seen then: it has looked at most. Want of memory hides no refusal but those that take memory
 abbrev pub Refused : Limits → View → View → Command → CoreFault → Type 0
-Refused limits before after command OutOfMemory = Went before after []
+Refused limits before after command OutOfMemory = Went before after [] × MayLackMemory limits.journal (world (core_seen limits after)) command
 Refused limits before after command fault = Unchanged limits before after command (length after.seen) (Err fault)
 
 -- what a command answers and does: behind one that was appended each drain that was awaited is posted

@@ -4,7 +4,7 @@ use Rattle.std.specs.List.{Contains}
 use Rattle.hall_goings.specs.Went.{Went}
 use Rattle.hall_locked.specs.Owned.{use_thing}
 use Rattle.hall_locked.specs.Platforms.{world}
-use Rattle.hall_locked.specs.Uses.{IsGetRefusedUnder, IsKeptGet}
+use Rattle.hall_locked.specs.Uses.{GetsUse, IsKeptGet}
 use Rattle.journal_core.specs.declared.entry.Entry.{Entry}
 use Rattle.platform_sessions.specs.Halls.{View, core_seen, core_up_to}
 use Rattle.platform_sessions.specs.Works.{things_but}
@@ -52,10 +52,10 @@ pub record HasGot (limits : Limits) (before after : View) (bundle service : ℕ)
   pub has : HasUse note after
   pub others : things_but (use_thing note.place) after.kept ≡ before.kept
 
--- what a get answers and does. A refusal is by all that the pass has seen then, and want of memory may hide it; the pass has looked at most
+-- what a get answers and does. A refusal is by all that the pass has seen then, and want of memory hides none; the pass has looked at most
 abbrev pub Gets : Limits → View → View → ℕ → ℕ → Result Token CoreFault → Type 0
 Gets limits before after bundle service (Ok note) = HasGot limits before after bundle service note
-Gets limits before after bundle service (Err fault) = Went before after [] × IsGetRefusedUnder (core_seen limits after) bundle service fault (core_seen limits after)
+Gets limits before after bundle service (Err fault) = Went before after [] × GetsUse (core_seen limits after) bundle service (Err fault) (core_seen limits after)
 
 -- ---- a release
 

@@ -24,8 +24,8 @@ impl<K: Kinds + Drop> Hall<K> {
     /// release it.
     ///
     /// # Errors
-    /// Those of [`Core::get_use`](hall_locked::Core::get_use), by all that the pass has seen then, and want of memory for
-    /// what is kept, which hides any other. Nothing is appended.
+    /// Those of [`Core::get_use`](hall_locked::Core::get_use), by all that the pass has seen then. Want of memory for what is
+    /// kept hides no other. Nothing is appended.
     pub fn get<R: Wait>(
         &self,
         rt: &R,

@@ -52,7 +52,7 @@ settle_comes s before after told (item, (count, works, is), tells) =
     at_front before after works.0.own went item told tells (omega (arith, at, more)) (omega (arith, at))
 
 refused_goes : (limits : Limits) (before after : View) (command : Command) (fault : CoreFault) → Refused limits before after command fault → Went before after []
-refused_goes limits before after command OutOfMemory went = went
+refused_goes limits before after command OutOfMemory (went, may) = went
 refused_goes limits before after command (NoBundle bundle) still = still.went
 refused_goes limits before after command (NoComponent name) still = still.went
 refused_goes limits before after command (WrongState state) still = still.went

@@ -57,7 +57,7 @@ fills_goes s (Ok AskJournal) before after fills = absurd fills
 
 starves_goes : (s : Setting) (asked : Asked) (before after : View) → Starves s asked before after → Goes before after
 starves_goes s (Err fault) before after starves = ([], starves)
-starves_goes s (Ok (Commanded command)) before after starves = ([], starves)
+starves_goes s (Ok (Commanded command)) before after starves = ([], starves.0)
 starves_goes s (Ok Settle) before after starves = (starves.0.2.own, starves.0.2.ran.went)
 starves_goes s (Ok Silent) before after starves = ([], starves)
 starves_goes s (Ok AskQuit) before after starves = ([], starves)
