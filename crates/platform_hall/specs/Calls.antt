@@ -81,20 +81,20 @@ module _ (refuses : List ℕ → List Property → Told → Bool) where
   StopsBehind before bundle service after =
       (note : Token) × (turns : ℕ) × (settled : CoreView) × SettlesBehind before bundle service note (Ok turns) settled × ((after ≡ settled) ⊎ Releases settled note after)
 
-  -- what getting and settling answers and does
+  -- what getting and settling answers and does. Want of memory hides no refusal of the get
   abbrev pub GetsSettled : CoreView → ℕ → ℕ → Result Token CallFault → CoreView → Type 0
   GetsSettled before bundle service (Ok note) after = (turns : ℕ) × SettlesBehind before bundle service note (Ok turns) after
   GetsSettled before bundle service (Err (Core fault)) after = GetsUse before bundle service (Err fault) after × (fault ≢ CoreNoMemory)
   GetsSettled before bundle service (Err (Settle fault)) after = StopsSettling before bundle service fault after × (fault ≢ SettleNoMemory)
-  GetsSettled before bundle service (Err OutOfMemory) after = (after ≡ before) ⊎ StopsSettling before bundle service SettleNoMemory after
+  GetsSettled before bundle service (Err OutOfMemory) after = GetsUse before bundle service (Err CoreNoMemory) after ⊎ StopsSettling before bundle service SettleNoMemory after
   GetsSettled before bundle service (Err _) after = ⊥
 
   -- what a call by a get answers and does: the text alone, where it is answered. A refusal of the get leaves all as it was; want of memory may come at the
-  -- get, in the settling, and behind it
+  -- get, of which it hides no refusal, in the settling, and behind it
   abbrev pub CallsOnOne : Meaning → CoreView → ℕ → ℕ → List ℕ → Result (List ℕ) CallFault → CoreView → Type 0
   CallsOnOne next before bundle service request (Ok text) after = (called : Called) × (called.text ≡ text) × CallsByGet next before bundle service request (Ok called) after
   CallsOnOne next before bundle service request (Err (Core fault)) after = GetsUse before bundle service (Err fault) after × (fault ≢ CoreNoMemory)
   CallsOnOne next before bundle service request (Err (Settle fault)) after = StopsSettling before bundle service fault after × (fault ≢ SettleNoMemory)
   CallsOnOne next before bundle service request (Err OutOfMemory) after =
-      (after ≡ before) ⊎ (StopsSettling before bundle service SettleNoMemory after ⊎ StopsBehind before bundle service after)
+      GetsUse before bundle service (Err CoreNoMemory) after ⊎ (StopsSettling before bundle service SettleNoMemory after ⊎ StopsBehind before bundle service after)
   CallsOnOne next before bundle service request (Err fault) after = CallsByGet next before bundle service request (Err fault) after

@@ -60,8 +60,8 @@ impl<K: Kinds + Drop> Platform<K> {
     /// that ran stand, and the get isn't released. `Gone` exactly where the get stands no more behind the settling,
     /// `NoObject` where the service has no object, `Pending` where its instance isn't active, `Refused` where the
     /// component code refuses, and `CallTooLong` where a nested call would be one too many: the get is released then.
-    /// `OutOfMemory` may come at each of these steps; behind the settling it leaves the get, or releases it and posts
-    /// some of the drains.
+    /// `OutOfMemory` may come at each of these steps; at the get it hides no refusal, and behind the settling it leaves the
+    /// get, or releases it and posts some of the drains.
     pub fn call(
         &mut self,
         alloc: Global,

@@ -86,7 +86,7 @@ module _ (refuses : List ℕ → List Property → Told → Bool) (next : Meanin
     grew_calls (Err (CallTooLong front nested)) calls = grew_by_get (Err (CallTooLong front nested)) calls
     grew_calls (Err (Core fault)) (gets, other) = grew_not before after (ungot_whole before after bundle service fault gets)
     grew_calls (Err (Settle fault)) ((note, ready), other) = grew_ready note (Err fault) after ready
-    grew_calls (Err OutOfMemory) (inl same) = grew_not before after same
+    grew_calls (Err OutOfMemory) (inl gets) = grew_not before after (ungot_whole before after bundle service CoreNoMemory gets)
     grew_calls (Err OutOfMemory) (inr (inl (note, ready))) = grew_ready note (Err SettleNoMemory) after ready
     grew_calls (Err OutOfMemory) (inr (inr (note, turns, settled, ready, inl same))) =
         grew_trans before settled after [] [] (grew_ready note (Ok turns) settled ready) (grew_not settled after same)
