@@ -1,7 +1,7 @@
 -- What the calls of the gates answer, by the word that their step found. Our own.
 use Rattle.std.specs.Prelude.{◌≡◌, ◌≢◌, ℕ, ◌+◌, ◌-◌, ◌*◌, ◌/◌, ◌%◌, ◌<◌, slice_index, slice_set, ◌⊎◌, List, ◌∷◌, Bool, Option, Some, None, IsTrue, ◌↔◌}
 use Rattle.atomic_table.specs.Seated.{TableId}
-use Rattle.call_gate.specs.Gates.{lasts_left, generation_in, stage_in, callers_in, LeavesLast, HasKey, with_caller, with_levels, with_look}
+use Rattle.call_gate.specs.Gates.{lasts_left, generation_in, stage_in, callers_in, LeavesLast, HasKey, with_caller, with_levels, with_vain}
 use Rattle.call_gate.specs.Holders.{HeldKey, held}
 use Rattle.call_gate.specs.declared.rule.GateView.{GateView}
 use Rattle.journal_core.specs.declared.entry.GateKey.{GateKey}
@@ -79,11 +79,11 @@ abbrev pub EntersAs : TableId → GateKey → GateView → GateView → Entered 
 EntersAs gate key v w (Inside i) = (i ≡ held gate key) × InsideAt key v w
 EntersAs gate key v w (Gone generation shut last) = GoneAt gate key generation shut last v w
 
--- the key is claimed exactly where its word is shut, unclaimed and empty
+-- the key is claimed exactly where its word is shut, unclaimed and empty; where it isn't, and is of the key's shut level, a caller is there
 abbrev pub ClaimsAs : HeldKey → GateView → GateView → Option HeldKey → Type 0
 ClaimsAs last v w (Some drain) =
     (drain ≡ last) × (w.saw ≡ left_word last.key.generation) × KnownShut last.key v.levels × (w ≡ with_levels v last.key.slot (claimed_in last.key v.levels) w.saw)
-ClaimsAs last v w None = (w.saw ≢ left_word last.key.generation) × (w ≡ with_look v last.key.slot w.saw)
+ClaimsAs last v w None = (w.saw ≢ left_word last.key.generation) × (w ≡ with_vain v last.key.slot (left_word last.key.generation) w.saw)
 
 -- the shutting leaves nobody inside
 abbrev pub ShutIs : TableId → GateKey → ℕ → Option HeldKey → Type 0

@@ -57,13 +57,15 @@ impl CallGate {
     }
 
     /// Enters a gate by one step on its word, and is inside exactly where that word was open under the key's generation.
-    /// Else the caller steps out again, and is told what the word was. The seat needs a free place. It counts each answer
-    /// that a gate is gone, and each key that it is told as last.
+    /// Else the caller steps out again, and is told what the word was. That is no older than what the seat had heard of the
+    /// slot: so a gate that it heard of as open under this key, and that is gone, was shut since. The seat needs a free
+    /// place. It counts each answer that a gate is gone, and each key that it is told as last.
     pub fn enter(&self, seat: &mut GateSeat, key: GateKey) -> Entered
         requires own { (seat.old.gate ≡ self.now) × (key.slot < slots_in self.now) }
         requires room { length seat.old.knows.inside < seat.old.knows.places }
         ensures same { seat.new.gate ≡ seat.old.gate }
         ensures answer { EntersAs self.now key seat.old.knows seat.new.knows result }
+        ensures since { slice_index seat.old.knows.heard key.slot ≤ level_in seat.new.knows.met }
         ensures gone { seat.new.knows.gone ≡ seat.old.knows.gone + gone_in result }
         ensures told { seat.new.knows.lasts ≡ seat.old.knows.lasts + told_in result }
     {
@@ -144,12 +146,14 @@ impl CallGate {
     }
 
     /// Shuts a gate that is open under the key, by one step from the keeper's seat. Tells the key as last exactly where
-    /// that step leaves the gate empty; so always where the keeper's seat has all of the places and nobody inside.
+    /// that step leaves the gate empty; so always where the keeper's seat has all of the places and nobody inside. Else the
+    /// keeper's seat has the key among those that it found a caller of.
     pub fn shut(&self, seat: &mut GateSeat, key: GateKey) -> Option<Last>
         requires own { (seat.old.gate ≡ self.now) × (key.slot < slots_in self.now) }
         requires open { (seat.old.knows.keeps ≡ true) × KnownOpen key seat.old.knows.levels }
         ensures seat { seat.new ≡ record seat.old { knows = with_shut seat.old.knows key.slot (shut_in key seat.old.knows.levels) seat.new.knows.saw } }
         ensures last { ShutIs self.now key seat.new.knows.saw result }
+        ensures found { level_in seat.new.knows.saw ≡ 4 * key.generation }
         ensures told { seat.new.knows.lasts ≡ seat.old.knows.lasts + told result }
         ensures alone { IsAlone seat.old.knows → is_some result ≡ true }
     {
@@ -169,14 +173,16 @@ impl CallGate {
 
     /// Claims the drain of a key that was told as last, by one try from the keeper's seat, which then knows the slot as
     /// closed. None exactly where the word isn't shut, unclaimed, empty and of the key's generation: it was claimed
-    /// before, or a caller is there, whose own step out tells the key again. So a key that is known as shut is always claimed
-    /// where the keeper's seat has all of the places and nobody inside.
+    /// before, or a caller is there, whose own step out tells the key again, and then the keeper's seat has the key among
+    /// those that it found a caller of. So a key that is known as shut is always claimed where the keeper's seat has all of
+    /// the places and nobody inside.
     pub fn claim(&self, seat: &mut GateSeat, last: Last) -> Option<Drain>
         requires own { (seat.old.gate ≡ self.now) × (last.gate ≡ self.now) }
         requires keeper { seat.old.knows.keeps ≡ true }
         ensures same { seat.new.gate ≡ seat.old.gate }
         ensures answer { ClaimsAs last seat.old.knows seat.new.knows result }
         ensures slot { last.key.slot < slots_in self.now }
+        ensures found { level_in seat.new.knows.saw ≡ slice_index seat.old.knows.levels last.key.slot }
         ensures alone { IsAlone seat.old.knows → KnownShut last.key seat.old.knows.levels → is_some result ≡ true }
     {
         let Last { key, of } = last;
@@ -270,6 +276,20 @@ impl CallGate {
         }
     }
 
+    /// Tells a seat what the keeper knows of each slot. It changes no gate, and shows that no key that the seat has a caller
+    /// inside of is known to the keeper as claimed.
+    pub fn hear(&self, keeper: &mut GateSeat, seat: &mut GateSeat)
+        requires own { (keeper.old.gate ≡ self.now) × (seat.old.gate ≡ self.now) }
+        requires keeper { keeper.old.knows.keeps ≡ true }
+        ensures kept { keeper.new ≡ keeper.old }
+        ensures heard { seat.new ≡ record seat.old { knows = record seat.old.knows { heard = keeper.old.knows.levels; saw = seat.new.knows.saw; at = seat.new.knows.at } } }
+        ensures unclaimed { NoneClaimed seat.old.knows.inside keeper.old.knows.levels }
+    {
+        let note = self.table.shared.split_seat::<Deal>(&mut keeper.seat);
+        self.table.shared.join_seat::<Hear>(&mut seat.seat, note);
+        self.table.shared.load::<Look>(&mut seat.seat, 0);
+    }
+
     /// Shows that a key with a caller inside is not known to the keeper as claimed, wherever the caller's seat is. It
     /// changes no gate: the caller's seat hears what the keeper knows.
     pub fn not_claimed(&self, keeper: &mut GateSeat, seat: &mut GateSeat, inside: &Inside)
@@ -280,9 +300,8 @@ impl CallGate {
         ensures heard { seat.new ≡ record seat.old { knows = record seat.old.knows { heard = keeper.old.knows.levels; saw = seat.new.knows.saw; at = seat.new.knows.at } } }
         ensures unclaimed { ¬ KnownClaimed inside.now.key keeper.old.knows.levels }
     {
-        let note = self.table.shared.split_seat::<Deal>(&mut keeper.seat);
-        self.table.shared.join_seat::<Hear>(&mut seat.seat, note);
-        self.table.shared.load::<Look>(&mut seat.seat, 0);
+        let _inside = inside;
+        self.hear(keeper, seat);
     }
 
     // A seat of these gates that knows nothing else.
