@@ -35,7 +35,7 @@ next_shelved keys i d first now after within so_far last all =
 -- ---- no gate is shut for it
 
 -- a level that is set twice
-set_over : (ls : List ℕ) (at a b slot : ℕ) → get_or (set (set ls at a) at b) slot 0 ≡ get_or (set ls at b) slot 0
+pub set_over : (ls : List ℕ) (at a b slot : ℕ) → get_or (set (set ls at a) at b) slot 0 ≡ get_or (set ls at b) slot 0
 set_over [] at a b slot = refl
 set_over (l ∷ ls) zero a b slot = refl
 set_over (l ∷ ls) (suc at) a b zero = refl

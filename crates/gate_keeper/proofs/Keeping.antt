@@ -70,6 +70,16 @@ module _ (seat : SeatView) (shelf : List HeldKey) (room : ℕ) (keeper : IsKeepe
           closed = ap (λ ls. get_or ls drain.key.slot 0) levels ∙ level_set seat.knows.levels slot drain.key.slot v (sym at) near ∙ is;
         }
 
+  -- the seat moved, and knows the same levels
+  pub stayed : (new : SeatView) → new.gate ≡ seat.gate → new.knows.keeps ≡ seat.knows.keeps → new.knows.inside ≡ seat.knows.inside → new.knows.levels ≡ seat.knows.levels → IsKeeper new shelf room
+  stayed new gate keeps inside levels = record {
+    keeps = keeps ∙ keeper.keeps;
+    nobody = inside ∙ keeper.nobody;
+    wide = ap length levels ∙ keeper.wide ∙ ap (λ (z : TableId). z.words) (sym gate);
+    drains = subst (λ z. AreShelved z new.knows.levels shelf) (sym gate) (subst (λ ls. AreShelved seat.gate ls shelf) (sym levels) keeper.drains);
+    places = subst (λ (z : TableId). z.words ≤ room) (sym gate) keeper.places;
+  }
+
   -- a drain comes back
   pub came_back : (drain : HeldKey) → CanComeBack (keeper_of seat shelf) drain → IsKeeper seat (drain ∷ shelf) room
   came_back drain can = record {

@@ -8,7 +8,7 @@ use Rattle.atomic_table.specs.Seated.{TableId}
 use Rattle.call_gate.specs.Calls.{KnownShut, shut_in, slots_in}
 use Rattle.call_gate.specs.Holders.{HeldKey}
 use Rattle.journal_core.specs.declared.entry.GateKey.{GateKey}
-use Rattle.gate_keeper.specs.Keepers.{AreOpen, CanReopen, Claims, IsKept, IsOpen, IsOrderly, KeeperView, Shuts, ShutsAll, Takes, is_shelved, level_kept, reopened, shelved, with_level, with_more, with_shut_all}
+use Rattle.gate_keeper.specs.Keepers.{AreOpen, CanReopen, Claims, IsKept, IsOpen, IsOrderly, KeeperView, Shuts, ShutsAll, Takes, is_shelved, level_kept, met, reopened, shelved, with_level, with_more, with_shut_all}
 use Rattle.gate_keeper.proofs.Shelves.{level_other, level_set, level_there, or_false, shelved_more}
 
 -- ---- one level
@@ -28,7 +28,7 @@ plain level k slot kept within away = kept slot within ∙ ap (λ b. level_kept 
 pub kept_alike : (f g : ℕ → ℕ) (k : KeeperView) → ((slot : ℕ) → f slot ≡ g slot) → IsKept f k → IsKept g k
 kept_alike f g k same kept slot within = kept slot within ∙ ap (level_kept (is_shelved k.shelf slot)) (same slot)
 
-pub first_kept : (gate : TableId) (places : ℕ) (level : ℕ → ℕ) → ((slot : ℕ) → slot < slots_in gate → level slot ≡ 3) → IsKept level (record { gate = gate; levels = replicate (slots_in gate + 1) 3; places = places; shelf = [] })
+pub first_kept : (gate : TableId) (places : ℕ) (level : ℕ → ℕ) → ((slot : ℕ) → slot < slots_in gate → level slot ≡ 3) → IsKept level (record { gate = gate; levels = replicate (slots_in gate + 1) 3; places = places; shelf = []; visited = [] })
 first_kept gate places level closed slot within = get_or-replicate (slots_in gate + 1) slot 3 0 (omega (arith, within)) ∙ sym (closed slot within)
 
 -- ---- a slot that opens
@@ -146,21 +146,28 @@ module _ (k : KeeperView) (key : GateKey) (orderly : IsOrderly k) (shut : KnownS
           ∙ orderly.closed slot (was_on slot on other)
 
 pub told_kept : (level : ℕ → ℕ) (key : GateKey) (before after : KeeperView) → IsOrderly before → IsKept level before → Claims key before after → IsKept level after
-told_kept level key before after orderly kept (inl same) = subst (IsKept level) (sym same) kept
-told_kept level key before after orderly kept (inr (shut, is)) = subst (IsKept level) (sym is) (shelved_kept before key orderly shut level kept)
-
-told_orderly : (key : GateKey) (before after : KeeperView) → key.slot < slots_in before.gate → IsOrderly before → Claims key before after → IsOrderly after
-told_orderly key before after near orderly (inl same) = subst IsOrderly (sym same) orderly
-told_orderly key before after near orderly (inr (shut, is)) = subst IsOrderly (sym is) (shelved_orderly before key orderly shut near)
+told_kept level key before after orderly kept (inl same) = subst (IsKept level) (sym same.1) kept
+told_kept level key before after orderly kept (inr (inl is)) = subst (IsKept level) (sym is.1) (shelved_kept before key orderly is.0 level kept)
+told_kept level key before after orderly kept (inr (inr is)) = subst (IsKept level) (sym is.1) kept
 
 -- ---- a gate that is shut, and its drain that is claimed
 
+-- an open gate that was shut is known as shut
+pub shut_known : (k : KeeperView) (key : GateKey) → IsOrderly k → IsOpen k key → KnownShut key (only_shut key k).levels
+shut_known k key orderly on = level_set k.levels key.slot key.slot (4 * key.generation + 1) refl (there_word k key.slot orderly on.0)
+
 pub shut_kept : (level : ℕ → ℕ) (key : GateKey) (before after : KeeperView) → IsOrderly before → IsKept level before → IsOpen before key → Shuts key before after → IsKept (with_more level key.slot 1) after
-shut_kept level key before after orderly kept on shuts =
-    told_kept (with_more level key.slot 1) key (only_shut key before) after (only_shut_orderly before key orderly on) (only_shut_kept level before key orderly kept on) shuts
+shut_kept level key before after orderly kept on (inl is) =
+    subst (IsKept (with_more level key.slot 1)) (sym is)
+    (shelved_kept (only_shut key before) key (only_shut_orderly before key orderly on) (shut_known before key orderly on) (with_more level key.slot 1) (only_shut_kept level before key orderly kept on))
+shut_kept level key before after orderly kept on (inr is) = subst (IsKept (with_more level key.slot 1)) (sym is) (only_shut_kept level before key orderly kept on)
+
+met_orderly : (key : GateKey) (k : KeeperView) → IsOrderly k → IsOrderly (met key k)
+met_orderly key k orderly = record { wide = orderly.wide; closed = orderly.closed; within = orderly.within }
 
 pub shut_orderly : (key : GateKey) (before after : KeeperView) → IsOrderly before → IsOpen before key → Shuts key before after → IsOrderly after
-shut_orderly key before after orderly on shuts = told_orderly key (only_shut key before) after on.0 (only_shut_orderly before key orderly on) shuts
+shut_orderly key before after orderly on (inl is) = subst IsOrderly (sym is) (shelved_orderly (only_shut key before) key (only_shut_orderly before key orderly on) (shut_known before key orderly on) on.0)
+shut_orderly key before after orderly on (inr is) = subst IsOrderly (sym is) (met_orderly key (only_shut key before) (only_shut_orderly before key orderly on))
 
 -- what a shutting leaves of the gates and of the other levels
 pub record Leaves (key : GateKey) (before after : KeeperView) : Type 0 where
@@ -168,14 +175,14 @@ pub record Leaves (key : GateKey) (before after : KeeperView) : Type 0 where
   pub others : (slot : ℕ) → (key.slot == slot) ≡ false → get_or after.levels slot 0 ≡ get_or before.levels slot 0
 
 leaves_by : (key : GateKey) (before after : KeeperView) → Shuts key before after → Leaves key before after
-leaves_by key before after (inl same) = record {
-  gate = ap (λ (k : KeeperView). k.gate) same;
-  others = λ slot other. ap (λ (k : KeeperView). get_or k.levels slot 0) same ∙ level_other before.levels key.slot slot (4 * key.generation + 1) other;
-}
-leaves_by key before after (inr (shut, is)) = record {
+leaves_by key before after (inl is) = record {
   gate = ap (λ (k : KeeperView). k.gate) is;
   others = λ slot other. ap (λ (k : KeeperView). get_or k.levels slot 0) is ∙ level_other (set before.levels key.slot (4 * key.generation + 1)) key.slot slot (4 * key.generation + 3) other
       ∙ level_other before.levels key.slot slot (4 * key.generation + 1) other;
+}
+leaves_by key before after (inr is) = record {
+  gate = ap (λ (k : KeeperView). k.gate) is;
+  others = λ slot other. ap (λ (k : KeeperView). get_or k.levels slot 0) is ∙ level_other before.levels key.slot slot (4 * key.generation + 1) other;
 }
 
 -- those that are still to be shut are open

@@ -3,3 +3,4 @@ pub mod Levels
 mod Keeping
 pub mod Known
 pub mod Alone
+pub mod Meetings

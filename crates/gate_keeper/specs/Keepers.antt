@@ -1,5 +1,5 @@
 -- The keeper of gates, as contracts see it, and what its calls do. Our own.
-use Rattle.std.specs.Prelude.{◌≡◌, ◌≢◌, ℕ, ◌+◌, ◌*◌, ◌%◌, ◌<◌, ◌≤◌, ◌⊎◌, ◌==◌, List, [], ◌∷◌, ◌++◌, Bool, true, false, if◌then◌else◌, length, map, slice_index, Option, Some, None}
+use Rattle.std.specs.Prelude.{◌≡◌, ◌≢◌, ℕ, ◌+◌, ◌*◌, ◌/◌, ◌%◌, ◌<◌, ◌≤◌, ◌⊎◌, ◌==◌, ◌&&◌, List, [], ◌∷◌, ◌++◌, Bool, true, false, if◌then◌else◌, length, map, slice_index, Option, Some, None}
 use Rattle.std.specs.List.{list_any}
 use Rattle.atomic_table.specs.Seated.{TableId}
 use Rattle.call_gate.specs.Calls.{KnownClaimed, KnownClosed, KnownOpen, KnownShut, claimed_in, opened_in, shut_in, slots_in}
@@ -7,13 +7,15 @@ use Rattle.call_gate.specs.Gates.{SeatView}
 use Rattle.call_gate.specs.Holders.{HeldKey, held}
 use Rattle.journal_core.specs.declared.entry.GateKey.{GateKey}
 
--- the gates, the level that the keeper knows of each slot, the places of its seat, and the keys whose drains are on the shelf, in the order in
--- which they came there
+-- the gates, the level that the keeper knows of each slot, the places of its seat, the keys whose drains are on the shelf, in the order in
+-- which they came there, and the keys that were visited: the slot and the generation of each that the keeper found a caller of as it shut
+-- its gate or tried to claim its drain
 pub record KeeperView : Type 0 where
   pub gate : TableId
   pub levels : List ℕ
   pub places : ℕ
   pub shelf : List GateKey
+  pub visited : List (ℕ × ℕ)
 
 -- the keys of what is held
 abbrev pub keys_held : List HeldKey → List GateKey
@@ -22,6 +24,13 @@ keys_held held = map (λ (h : HeldKey). h.key) held
 -- the drain of a slot is on the shelf
 abbrev pub is_shelved : List GateKey → ℕ → Bool
 is_shelved shelf slot = list_any (λ (key : GateKey). key.slot == slot) shelf
+
+-- the key of this slot and this generation was visited
+abbrev pub is_visited : List (ℕ × ℕ) → ℕ → ℕ → Bool
+is_visited visited slot generation = list_any (λ (k : ℕ × ℕ). (k.0 == slot) && (k.1 == generation)) visited
+
+abbrev pub IsVisited : KeeperView → GateKey → Type 0
+IsVisited k key = is_visited k.visited key.slot key.generation ≡ true
 
 -- ---- the one equation
 
@@ -38,6 +47,14 @@ pub record IsOrderly (k : KeeperView) : Type 0 where
   pub wide : length k.levels ≡ k.gate.words
   pub closed : (slot : ℕ) → is_shelved k.shelf slot ≡ true → KnownClosed slot k.levels
   pub within : (slot : ℕ) → is_shelved k.shelf slot ≡ true → slot < slots_in k.gate
+
+-- each gate that is shut under such levels is under a key that was visited
+abbrev pub AreMet : List ℕ → List (ℕ × ℕ) → Type 0
+AreMet levels visited = (slot : ℕ) → slice_index levels slot % 4 ≡ 1 → is_visited visited slot (slice_index levels slot / 4) ≡ true
+
+-- a gate that the keeper knows as shut was visited: so the drain of one that was not is on the shelf, or was taken from there
+abbrev pub ShutAreVisited : KeeperView → Type 0
+ShutAreVisited k = AreMet k.levels k.visited
 
 -- ---- levels as they should be, and a change of them
 
@@ -94,9 +111,17 @@ reopened key k = record k { levels = opened_in key k.levels }
 abbrev pub shelved : GateKey → KeeperView → KeeperView
 shelved key k = record k { levels = claimed_in key k.levels; shelf = k.shelf ++ key ∷ [] }
 
--- the drain of a shut gate was claimed, and is on the shelf; or it couldn't be claimed, and all is as it was
+-- the keeper found a caller of this key
+abbrev pub met : GateKey → KeeperView → KeeperView
+met key k = record k { visited = (key.slot, key.generation) ∷ k.visited }
+
+-- a caller is at the shut gate, so its drain isn't claimed yet
+abbrev pub Meets : GateKey → KeeperView → KeeperView → Type 0
+Meets key before after = KnownShut key before.levels × (after ≡ met key before)
+
+-- the gate isn't shut under this key any more, and all is as it was; or its drain was claimed, and is on the shelf; or a caller is there
 abbrev pub Claims : GateKey → KeeperView → KeeperView → Type 0
-Claims key before after = (after ≡ before) ⊎ (KnownShut key before.levels × (after ≡ shelved key before))
+Claims key before after = (¬ KnownShut key before.levels × (after ≡ before)) ⊎ ((KnownShut key before.levels × (after ≡ shelved key before)) ⊎ Meets key before after)
 
 -- a drain of these gates, whose slot is closed under its key, and isn't on the shelf
 pub record CanComeBack (k : KeeperView) (drain : HeldKey) : Type 0 where
@@ -105,9 +130,17 @@ pub record CanComeBack (k : KeeperView) (drain : HeldKey) : Type 0 where
   pub closed : slice_index k.levels drain.key.slot ≡ 4 * drain.key.generation + 3
   pub away : is_shelved k.shelf drain.key.slot ≡ false
 
--- an open gate was shut, and its drain is on the shelf where nobody was inside
+-- an open gate is shut, and its drain is on the shelf at once
+abbrev pub shut_and_shelved : GateKey → KeeperView → KeeperView
+shut_and_shelved key k = shelved key (record k { levels = shut_in key k.levels })
+
+-- an open gate is shut, and a caller is there
+abbrev pub met_shut : GateKey → KeeperView → KeeperView
+met_shut key k = met key (record k { levels = shut_in key k.levels })
+
+-- an open gate was shut: nobody was inside, and its drain is on the shelf, or a caller was there
 abbrev pub Shuts : GateKey → KeeperView → KeeperView → Type 0
-Shuts key before after = Claims key (record before { levels = shut_in key before.levels }) after
+Shuts key before after = (after ≡ shut_and_shelved key before) ⊎ (after ≡ met_shut key before)
 
 -- these gates were shut, one after the other
 abbrev pub ShutsAll : List GateKey → KeeperView → KeeperView → Type 0
@@ -120,10 +153,7 @@ ShutsAll (key ∷ keys) before after = (between : KeeperView) × Shuts key befor
 abbrev pub HasAll : KeeperView → Type 0
 HasAll k = k.places ≡ 16777215
 
--- a gate is shut, and its drain is on the shelf at once
-abbrev pub shut_and_shelved : GateKey → KeeperView → KeeperView
-shut_and_shelved key k = shelved key (record k { levels = shut_in key k.levels })
-
+-- these gates are shut, one after the other, and the drain of each is on the shelf at once
 abbrev pub all_shelved : List GateKey → KeeperView → KeeperView
 all_shelved [] k = k
 all_shelved (key ∷ keys) k = all_shelved keys (shut_and_shelved key k)
@@ -174,4 +204,4 @@ pub record IsKeeper (seat : SeatView) (shelf : List HeldKey) (room : ℕ) : Type
   pub places : seat.gate.words ≤ room
 
 abbrev pub keeper_of : SeatView → List HeldKey → KeeperView
-keeper_of seat shelf = record { gate = seat.gate; levels = seat.knows.levels; places = seat.knows.places; shelf = keys_held shelf }
+keeper_of seat shelf = record { gate = seat.gate; levels = seat.knows.levels; places = seat.knows.places; shelf = keys_held shelf; visited = seat.knows.visited }

@@ -1,8 +1,8 @@
 //! The keeper.
-ghost use Rattle.call_gate.specs.Calls.{KnownShut, slots_in};
+ghost use Rattle.call_gate.specs.Calls.{KnownShut, NoneClaimed, slots_in};
 ghost use Rattle.call_gate.specs.Starts.{seat_view};
-ghost use Rattle.gate_keeper.specs.Keepers.{CanComeBack, CanReopen, Claims, HasAll, IsOpen, IsOrderly, Shuts, TakesFirst, is_some_key, reopened, shelved, shut_and_shelved};
-ghost use Rattle.std.specs.Prelude.{◌≡◌, ◌+◌, ◌-◌, ◌<◌, ◌≤◌, [], ◌∷◌, IfOk, replicate};
+ghost use Rattle.gate_keeper.specs.Keepers.{CanComeBack, CanReopen, Claims, HasAll, IsKeeper, IsOpen, IsOrderly, ShutAreVisited, Shuts, TakesFirst, is_some_key, keeper_of, reopened, shelved, shut_and_shelved};
+ghost use Rattle.std.specs.Prelude.{◌≡◌, ◌+◌, ◌-◌, ◌<◌, ◌≤◌, [], ◌∷◌, IfOk, replicate, vec_capacity};
 
 use call_gate::{CallGate, Drain, GateSeat, Last};
 use journal_core::GateKey;
@@ -10,11 +10,12 @@ use prop_map::OutOfMemory;
 use std::alloc::Global;
 use std::marker::Model;
 
-/// The keeper of gates. Contracts see which gates, the level that it knows of each slot, the places of its seat, and the
-/// keys whose drains are on its shelf, in the order in which they came there.
+/// The keeper of gates. Contracts see which gates, the level that it knows of each slot, the places of its seat, the
+/// keys whose drains are on its shelf, in the order in which they came there, and the keys that were visited: those of
+/// which it found a caller as it shut their gates or tried to claim their drains.
 ///
 /// Nobody is inside a gate from its own seat. Each drain on the shelf is of a slot that it knows as closed under the
-/// drain's key, and no two are of one slot.
+/// drain's key, and no two are of one slot. Each gate that it knows as shut was visited: whoever leaves it last is told so.
 #[derive(Drop)]
 pub struct Keeper {
     seat: GateSeat,
@@ -22,14 +23,14 @@ pub struct Keeper {
 }
 
 impl Model for Keeper {
-    ghost use Rattle.gate_keeper.specs.Keepers.{IsKeeper, KeeperView, keeper_of};
+    ghost use Rattle.gate_keeper.specs.Keepers.{IsKeeper, KeeperView, ShutAreVisited, keeper_of};
     ghost use Rattle.std.specs.Prelude.{vec_capacity};
 
     ghost Value = { KeeperView };
 
     ghost view = { λ k. keeper_of k.seat k.shelf.items };
 
-    ghost invariant = { λ k. IsKeeper k.seat k.shelf.items (vec_capacity k.shelf) };
+    ghost invariant = { λ k. IsKeeper k.seat k.shelf.items (vec_capacity k.shelf) × ShutAreVisited (keeper_of k.seat k.shelf.items) };
 }
 
 impl Keeper {
@@ -40,7 +41,7 @@ impl Keeper {
     /// Only want of memory.
     pub fn new(alloc: Global, slots: u32) -> Result<(CallGate, Keeper), OutOfMemory>
         requires { slots ≤ 70000 }
-        ensures { IfOk result (λ r. (slots_in r.0 ≡ slots) × (r.1 ≡ record { gate = r.0; levels = replicate (slots + 1) 3; places = 16777215; shelf = [] })) }
+        ensures { IfOk result (λ r. (slots_in r.0 ≡ slots) × (r.1 ≡ record { gate = r.0; levels = replicate (slots + 1) 3; places = 16777215; shelf = []; visited = [] })) }
     {
         let (gate, seat) = CallGate::new(alloc, slots, 0)?;
         let shelf = Vec::with_capacity(alloc, slots as usize + 1)?;
@@ -75,8 +76,8 @@ impl Keeper {
     }
 
     /// Shuts a gate that is open under this key. Where nobody is inside then its drain is claimed at once, and is the last
-    /// on the shelf; else whoever leaves it last is told so. Where the keeper has all of the places nobody is. It takes no
-    /// memory.
+    /// on the shelf; else the key was visited, and whoever leaves it last is told so. Where the keeper has all of the places
+    /// nobody is. It takes no memory.
     pub fn shut(&mut self, gate: &CallGate, key: GateKey)
         requires own { self.old.gate ≡ gate.now }
         requires open { IsOpen self.old key }
@@ -84,28 +85,43 @@ impl Keeper {
         ensures alone { HasAll self.old → self.new ≡ shut_and_shelved key self.old }
     {
         match gate.shut(&mut self.seat, key) {
-            Some(last) => self.told(gate, last),
+            Some(last) => claim_onto(gate, &mut self.seat, &mut self.shelf, last),
             None => {}
         }
     }
 
-    /// Takes the key of a gate that was left last: its drain is claimed, and is the last on the shelf. Where it can't be
-    /// claimed, since it was claimed before or somebody is inside, all stays as it was. Where the keeper has all of the
-    /// places, a gate that it knows as shut is always claimed. It takes no memory.
+    /// Takes the key of a gate that was left last: its drain is claimed, and is the last on the shelf. Where it was claimed
+    /// before, all stays as it was; where somebody came since, the key was visited, and they are told it again. Where the
+    /// keeper has all of the places, a gate that it knows as shut is always claimed. It takes no memory.
     pub fn told(&mut self, gate: &CallGate, last: Last)
         requires own { (self.old.gate ≡ gate.now) × (last.gate ≡ gate.now) }
         ensures claims { Claims last.key self.old self.new }
         ensures alone { HasAll self.old → KnownShut last.key self.old.levels → self.new ≡ shelved last.key self.old }
     {
-        match gate.claim(&mut self.seat, last) {
-            Some(drain) => self.shelf.push_reserved(drain),
-            None => {}
-        }
+        claim_onto(gate, &mut self.seat, &mut self.shelf, last);
+    }
+
+    /// Tells a seat what the keeper knows of each slot. It changes no gate, and shows that no key that the seat has a caller
+    /// inside of is known to the keeper as claimed.
+    pub fn tell(&mut self, gate: &CallGate, seat: &mut GateSeat)
+        requires own { (self.old.gate ≡ gate.now) × (seat.old.gate ≡ gate.now) }
+        ensures kept { self.new ≡ self.old }
+        ensures heard { seat.new ≡ record seat.old { knows = record seat.old.knows { heard = self.old.levels; saw = seat.new.knows.saw; at = seat.new.knows.at } } }
+        ensures unclaimed { NoneClaimed seat.old.knows.inside self.old.levels }
+    {
+        gate.hear(&mut self.seat, seat);
     }
 
     /// For contracts alone: what every keeper knows.
     pub fn note_orderly(&self)
         ensures { IsOrderly self.now }
+    {
+        let _ = &self.seat;
+    }
+
+    /// For contracts alone: each gate that a keeper knows as shut was visited.
+    pub fn note_met(&self)
+        ensures { ShutAreVisited self.now }
     {
         let _ = &self.seat;
     }
@@ -138,5 +154,19 @@ impl Keeper {
             Ok(()) => {}
             Err(_) => unreachable!(),
         }
+    }
+}
+
+// Claims the drain of a key that was left last, which is then the last on the shelf, if it can be claimed.
+fn claim_onto(gate: &CallGate, seat: &mut GateSeat, shelf: &mut Vec<Drain>, last: Last)
+    requires own { (seat.old.gate ≡ gate.now) × (last.gate ≡ gate.now) }
+    requires keeper { IsKeeper seat.old shelf.old.items (vec_capacity shelf.old) }
+    ensures keeper { IsKeeper seat.new shelf.new.items (vec_capacity shelf.new) }
+    ensures claims { Claims last.key (keeper_of seat.old shelf.old.items) (keeper_of seat.new shelf.new.items) }
+    ensures alone { HasAll (keeper_of seat.old shelf.old.items) → KnownShut last.key seat.old.knows.levels → keeper_of seat.new shelf.new.items ≡ shelved last.key (keeper_of seat.old shelf.old.items) }
+{
+    match gate.claim(seat, last) {
+        Some(drain) => shelf.push_reserved(drain),
+        None => {}
     }
 }

@@ -2,15 +2,15 @@
 ghost use Rattle.atomic_table.specs.Seated.{TableId};
 ghost use Rattle.call_gate.specs.Calls.{slots_in};
 ghost use Rattle.call_gate.specs.Holders.{HeldKey};
-ghost use Rattle.gate_keeper.specs.Keepers.{AreOpen, AreToShut, CanReopen, Claims, IsKept, IsOrderly, KeeperView, KnowsKey, NoneShut, ShutsAll, Takes, all_shelved, is_shelved, reopened, with_level, with_more, with_shut_all};
+ghost use Rattle.gate_keeper.specs.Keepers.{AreOpen, AreToShut, CanReopen, Claims, IsKept, IsOrderly, KeeperView, KnowsKey, NoneShut, ShutAreVisited, ShutsAll, Takes, all_shelved, is_shelved, is_visited, reopened, with_level, with_more, with_shut_all};
 ghost use Rattle.journal_core.specs.declared.entry.GateKey.{GateKey};
-ghost use Rattle.std.specs.Prelude.{◌≡◌, ◌+◌, ◌*◌, ◌%◌, ◌<◌, ℕ, List, [], replicate, true};
+ghost use Rattle.std.specs.Prelude.{◌≡◌, ◌+◌, ◌*◌, ◌/◌, ◌%◌, ◌<◌, ◌⊎◌, ℕ, List, [], replicate, true};
 
 /// For contracts alone: the keeper of gates that are made knows each slot as it should be, where that is closed under the
 /// generation 0.
 #[tactic(auto, using(crate::proofs::Levels::first_kept))]
 pub fn note_first()
-    ensures { (gate : TableId) → (places : ℕ) → (level : ℕ → ℕ) → ((slot : ℕ) → slot < slots_in gate → level slot ≡ 3) → IsKept level (record { gate = gate; levels = replicate (slots_in gate + 1) 3; places = places; shelf = [] }) }
+    ensures { (gate : TableId) → (places : ℕ) → (level : ℕ → ℕ) → ((slot : ℕ) → slot < slots_in gate → level slot ≡ 3) → IsKept level (record { gate = gate; levels = replicate (slots_in gate + 1) 3; places = places; shelf = []; visited = [] }) }
 {}
 
 /// For contracts alone: where a keeper knows each slot as it should be, it does so once it has opened one that should be
@@ -69,4 +69,17 @@ pub fn note_none_shut()
 #[tactic(auto, using(crate::proofs::Alone::shut_is_shelved))]
 pub fn note_shelved()
     ensures { (level : ℕ → ℕ) → (k : KeeperView) → IsOrderly k → IsKept level k → NoneShut k → (slot : ℕ) → slot < slots_in k.gate → level slot % 4 ≡ 1 → is_shelved k.shelf slot ≡ true }
+{}
+
+/// For contracts alone: where each gate that a keeper knows as shut was visited, and it knows each slot as it should be,
+/// each slot that should be shut was visited under its generation, or its drain is on the shelf.
+#[tactic(auto, using(crate::proofs::Meetings::shut_is_met))]
+pub fn note_shut_met()
+    ensures { (level : ℕ → ℕ) → (k : KeeperView) → IsOrderly k → IsKept level k → ShutAreVisited k → (slot : ℕ) → slot < slots_in k.gate → level slot % 4 ≡ 1 → (is_shelved k.shelf slot ≡ true) ⊎ (is_visited k.visited slot (level slot / 4) ≡ true) }
+{}
+
+/// For contracts alone: for a keeper that nobody visited no gate is shut.
+#[tactic(auto, using(crate::proofs::Meetings::none_met))]
+pub fn note_nobody()
+    ensures { (k : KeeperView) → ShutAreVisited k → k.visited ≡ [] → NoneShut k }
 {}

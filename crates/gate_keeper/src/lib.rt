@@ -4,6 +4,9 @@
 //! closed. Whoever keeps a table of what the level of each slot should be calls the keeper for each change of it. The
 //! keeper's own level of each slot is then as that table has it, or closed where the slot's drain is on the shelf. A
 //! drain gets there in the step after which nobody is inside a shut gate, and needs no memory for it.
+//!
+//! Who is inside a gate can't be known to its keeper, since callers come and go by steps of their own. What it knows is
+//! which keys were visited: where a key wasn't, its drain is on the shelf as soon as the gate is shut.
 #![tactic(auto)]
 
 mod keeper;
@@ -12,6 +15,6 @@ mod shutting;
 
 pub use keeper::Keeper;
 pub use laws::{
-    note_can_reopen, note_can_shut, note_first, note_known, note_none_shut, note_reopened,
-    note_shelved, note_shut, note_taken, note_told,
+    note_can_reopen, note_can_shut, note_first, note_known, note_nobody, note_none_shut,
+    note_reopened, note_shelved, note_shut, note_shut_met, note_taken, note_told,
 };

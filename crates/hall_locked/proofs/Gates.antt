@@ -56,11 +56,11 @@ closed_first : (slot : ℕ) → slot_level (world_at []) slot ≡ 3
 unfolding world_of
 closed_first slot = refl
 
-pub first_gates : (core : CoreView) → core.journal ≡ [] → (n : ℕ) (gate : TableId) (k : KeeperView) → n ≡ 70000 → slots_in gate ≡ n → k ≡ record { gate = gate; levels = replicate (n + 1) 3; places = 16777215; shelf = [] }
+pub first_gates : (core : CoreView) → core.journal ≡ [] → (n : ℕ) (gate : TableId) (k : KeeperView) → n ≡ 70000 → slots_in gate ≡ n → k ≡ record { gate = gate; levels = replicate (n + 1) 3; places = 16777215; shelf = []; visited = [] }
     → HasGates (world core) k
 first_gates core empty n gate k many slots is = subst (λ (x : KeeperView). HasGates (world core) x) (sym is) (record {
   slots = slots ∙ many;
-  levels = subst (λ m. IsKept (slot_level (world core)) (record { gate = gate; levels = replicate (m + 1) 3; places = 16777215; shelf = [] })) slots
+  levels = subst (λ m. IsKept (slot_level (world core)) (record { gate = gate; levels = replicate (m + 1) 3; places = 16777215; shelf = []; visited = [] })) slots
       (first_kept gate 16777215 (slot_level (world core)) (λ slot near. ap (λ (j : List (Entry Step)). slot_level (world_at j) slot) empty ∙ closed_first slot));
   places = refl;
   none_shut = first_none (n + 1);
