@@ -11,6 +11,8 @@ mod locks;
 #[cfg(test)]
 mod messages;
 #[cfg(test)]
+mod visits;
+#[cfg(test)]
 mod wiring_filters;
 #[cfg(test)]
 mod wiring_manifests;
