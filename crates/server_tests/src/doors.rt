@@ -1,18 +1,20 @@
 //! Doors in memory, served one connection after the other.
-ghost use Rattle.session_server.specs.Halls.{IsOf};
+ghost use Rattle.session_shell.specs.Halls.{IsOf};
 
 use crate::samples::{doors, new_hall};
 use fault_count::{MemorySink, MemorySource};
-use session_server::{Bell, DoorEnd, Doors, Finished, MemoryDoors, SessionEnd, serve_door};
+use session_doors::{Doors, Finished, MemoryDoors};
+use session_server::{DoorEnd, serve_door};
+use session_shell::SessionEnd;
 use std::alloc::Global;
 use std::sync::Wait;
 
 // Installs a bundle with a component.
-pub(crate) const INSTALLS: &str =
+const INSTALLS: &str =
     "install {\"location\":\"p\",\"components\":{\"p\":{\"name\":\"p\",\"implementationClass\":\"P\"}}}\nquit\nbundles\n";
 
 // How a session ends, how many items it notes, and what it writes.
-pub(crate) type Told = (SessionEnd, usize, &'static [u8]);
+type Told = (SessionEnd, usize, &'static [u8]);
 
 // Whether a session that has ended is told so.
 fn is_told(session: &Finished<MemorySource, MemorySink>, told: &Told) -> bool {
@@ -22,7 +24,7 @@ fn is_told(session: &Finished<MemorySource, MemorySink>, told: &Told) -> bool {
 }
 
 // Whether just these sessions ended, in order.
-pub(crate) fn are_told(sessions: &[Finished<MemorySource, MemorySink>], told: &[Told]) -> bool {
+fn are_told(sessions: &[Finished<MemorySource, MemorySink>], told: &[Told]) -> bool {
     if sessions.len() != told.len() {
         return false;
     }
@@ -42,15 +44,7 @@ fn served<R: Wait>(
     connections: u64,
 ) -> Option<DoorEnd> {
     match new_hall(alloc) {
-        Some((hall, mut pass)) => Some(serve_door(
-            rt,
-            alloc,
-            &hall,
-            &Bell::new(),
-            &mut pass,
-            doors,
-            connections,
-        )),
+        Some((hall, mut pass)) => Some(serve_door(rt, alloc, &hall, &mut pass, doors, connections)),
         None => None,
     }
 }

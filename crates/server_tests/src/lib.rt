@@ -7,7 +7,3 @@ mod doors;
 mod listeners;
 #[cfg(test)]
 mod samples;
-#[cfg(test)]
-mod servers;
-#[cfg(test)]
-mod signals;

@@ -1,9 +1,8 @@
 //! Doors of listeners: over memory, and at the loopback of the system.
 
 use crate::samples::{doors, new_hall};
-use session_server::{
-    Bell, DoorEnd, Doors, ListenStop, Listens, MemoryListens, TcpDoors, TcpListens, serve_door,
-};
+use session_doors::{Doors, ListenStop, Listens, MemoryListens, TcpDoors, TcpListens};
+use session_server::{DoorEnd, serve_door};
 use std::alloc::Global;
 use std::io;
 use std::io::{Read, Write};
@@ -60,7 +59,7 @@ fn asks(stream: &mut TcpStream) -> io::Result<()> {
 // Whether one connection is served on a new hall.
 fn is_served<R: Wait>(rt: &R, alloc: Global, doors: &mut TcpDoors) -> bool {
     match new_hall(alloc) {
-        Some((hall, mut pass)) => serve_door(rt, alloc, &hall, &Bell::new(), &mut pass, doors, 1)
+        Some((hall, mut pass)) => serve_door(rt, alloc, &hall, &mut pass, doors, 1)
             == DoorEnd::Served,
         None => false,
     }

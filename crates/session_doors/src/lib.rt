@@ -18,6 +18,5 @@ pub use finished::Finished;
 pub use listens::{ListenStop, Listens};
 pub use memory_doors::MemoryDoors;
 pub use memory_listens::MemoryListens;
-pub use session_shell::{Hall, HallPass, SessionEnd, SessionKind, SessionNotes, serve_session};
 pub use tcp_doors::TcpDoors;
 pub use tcp_listens::TcpListens;

@@ -4,12 +4,12 @@ use Rattle.std.proofs.lemmas.List.{append-nil, length-append}
 use Rattle.std.specs.declared.option.Option.{Option}
 use Rattle.hall_goings.specs.Went.{Went}
 use Rattle.hall_goings.proofs.Chains.{went_nowhere, went_on}
-use Rattle.session_doors.proofs.SessionGoings.{session_goes}
+use Rattle.platform_sessions.specs.Halls.{Own, View}
 use Rattle.session_doors.specs.Doors.{Adds, AddsAll, Stays, TakesAll}
-use Rattle.session_doors.specs.Halls.{Own, View}
-use Rattle.session_doors.specs.Items.{Setting}
 use Rattle.session_doors.specs.declared.finished.Finished.{Finished}
+use Rattle.session_shell.proofs.SessionGoings.{session_goes}
 use Rattle.session_server.specs.Holding.{Ends, Held, Holds, HoldsSoMany}
+use Rattle.session_shell.specs.Items.{Setting}
 
 -- ---- lists that are told
 

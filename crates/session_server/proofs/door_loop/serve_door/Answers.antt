@@ -1,8 +1,8 @@
 use Rattle.std.proofs.Common.{arith, rules}
-use Rattle.session_doors.proofs.Stretches.{keeps_on}
-use Rattle.session_doors.specs.Items.{Setting}
+use Rattle.platform_sessions.proofs.Stretches.{keeps_on}
 use Rattle.session_server.specs.Holding.{Ends}
 use Rattle.session_server.proofs.Holding.{held_goes, one_more_held}
+use Rattle.session_shell.specs.Items.{Setting}
 use Rattle.session_server.proofs.door_loop.serve_door.Goals as goal
 
 pub loop-preserved : goal.loop-preserved

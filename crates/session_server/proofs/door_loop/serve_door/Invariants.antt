@@ -1,5 +1,5 @@
 use Rattle.std.proofs.Common.{◌≡◌, ◌≤◌}
-use Rattle.session_doors.specs.Halls.{IsOf, KeepsPass}
+use Rattle.platform_sessions.specs.Halls.{IsOf, KeepsPass}
 use Rattle.session_server.specs.Holding.{HoldsSoMany}
 use Rattle.session_server.proofs.door_loop.serve_door.Given as goal
 
